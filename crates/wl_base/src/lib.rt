@@ -1,0 +1,27 @@
+//! The small types that every crate of the linker shares: lists and texts that contracts see as
+//! plain lists, spans of files, and why a link or its words are refused.
+#![tactic(auto)]
+
+mod fault;
+mod item;
+mod layout_error;
+mod memory;
+mod seq;
+mod seq_same;
+mod span;
+#[cfg(test)]
+mod tests;
+mod text;
+mod usage;
+
+pub use fault::{Fault, InputId, LibFault, Part, What};
+pub use item::Item;
+pub use layout_error::LayoutError;
+pub use memory::OutOfMemory;
+pub use seq::Seq;
+pub use span::{FileSpan, Span};
+pub use text::Text;
+pub use usage::Usage;
+
+/// The name of a symbol, a module, a field or a group, as bytes.
+pub type Name = Seq<u8>;
