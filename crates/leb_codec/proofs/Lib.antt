@@ -1,0 +1,5 @@
+pub mod Ends
+pub mod Values
+pub mod Laws
+pub mod Computed
+pub mod Written

@@ -1,0 +1,5 @@
+pub mod Spelling
+pub mod Reading
+pub mod Shortest
+pub mod Rows
+pub mod Writing
