@@ -86,6 +86,13 @@ impl<T> Seq<T> {
 }
 
 impl<T: Drop> Seq<T> {
+    /// Drops the items from the place `len` on; where there are no more than `len`, nothing changes.
+    pub fn truncate(&mut self, len: usize)
+        ensures { self.new ≡ take len self.old }
+    {
+        self.items.truncate(len);
+    }
+
     /// Puts an item at the end. Where memory is refused the list is as before, and the item is dropped.
     pub fn push(&mut self, item: T) -> Result<(), OutOfMemory>
         ensures ok { OnOk result (self.new ≡ self.old ++ item ∷ []) }

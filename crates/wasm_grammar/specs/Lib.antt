@@ -1,0 +1,10 @@
+pub mod Fault
+pub mod Grammar
+pub mod Reading
+pub mod Readers
+pub mod ReaderLaws
+pub mod Stays
+pub mod Bounds
+pub mod Writers
+pub mod WriterLaws
+pub mod Examples
