@@ -59,19 +59,38 @@ pub enum What {
 #[derive(Debug, PartialEq, Eq, Drop)]
 pub enum Fault {
     /// The files have 2^32 bytes or more together; `len` is their sum, or 2^64 - 1 where that is greater.
-    TooMuchInput { len: u64 },
+    TooMuchInput {
+        len: u64,
+    },
     /// The file at this place among the input words is no library that can be read.
-    Library { file: u32, fault: LibFault },
+    Library {
+        file: u32,
+        fault: LibFault,
+    },
     /// There are 2^20 objects and library members or more.
-    TooManyInputs { count: u64 },
+    TooManyInputs {
+        count: u64,
+    },
     /// An object has more than 2^30 bytes.
-    TooLong { input: InputId, len: u64 },
+    TooLong {
+        input: InputId,
+        len: u64,
+    },
     /// An object is broken.
-    Malformed { input: InputId, part: Part },
+    Malformed {
+        input: InputId,
+        part: Part,
+    },
     /// An object has an item that isn't linked.
-    Unsupported { input: InputId, item: Item },
+    Unsupported {
+        input: InputId,
+        item: Item,
+    },
     /// A library's index gives the name for a member that doesn't define it.
-    IndexLies { input: InputId, name: Name },
+    IndexLies {
+        input: InputId,
+        name: Name,
+    },
     /// There are more than 2^24 different names.
     TooManyNames,
     /// Two symbols of one name differ in kind, type or import.
@@ -93,7 +112,13 @@ pub enum Fault {
         kind: u8,
     },
     /// A name that is needed has no definition; input 0 is the command line.
-    Unresolved { name: Name, input: InputId },
+    Unresolved {
+        name: Name,
+        input: InputId,
+    },
     /// A number passes its limit.
-    Overflow { what: What, needed: i64 },
+    Overflow {
+        what: What,
+        needed: i64,
+    },
 }

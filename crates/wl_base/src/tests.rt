@@ -12,7 +12,15 @@ fn lists_grow_and_are_compared(rt: HostRuntime) -> Result<(), Fail> {
     assert_eq!(rt; list.get(1).copied().ok_or("nothing at 1")?, 2);
     assert_eq!(rt; list.pop().ok_or("nothing at the end")?, 3);
     assert_eq!(rt; list.as_slice(), [1, 2].as_slice());
-    assert_eq!(rt; Seq::from_vec(list.into_vec()).as_slice(), [1, 2].as_slice());
+    list.truncate(5);
+    assert_eq!(rt; list.len(), 2);
+    list.truncate(1);
+    assert_eq!(rt; list.as_slice(), [1].as_slice());
+    list.push(2)?;
+    assert_eq!(rt;
+        Seq::from_vec(list.into_vec()).as_slice(),
+        [1, 2].as_slice()
+    );
     Ok(())
 }
 
@@ -29,7 +37,13 @@ fn faults_are_compared_by_all_their_fields(rt: HostRuntime) -> Result<(), Fail> 
     let name = Seq::from_slice(rt.alloc(), b"f".as_slice())?;
     let other = Seq::from_slice(rt.alloc(), b"f".as_slice())?;
     let fault = Fault::Unresolved { name, input: 0 };
-    assert!(rt; fault == Fault::Unresolved { name: other, input: 0 });
+    assert!(rt;
+        fault
+            == Fault::Unresolved {
+                name: other,
+                input: 0
+            }
+    );
     assert!(rt; fault != Fault::TooManyNames);
     Ok(())
 }
