@@ -48,15 +48,18 @@ expect "the output may be the input" ends_with 0 given.o -o given.o --no-entry -
 expect "which then holds the module" cmp given.o "$top/tests/data/call.wasm"
 
 expect "a name without a definition is refused" ends_with 1 a.o -o c.wasm --no-entry --export=h
+expect "and told" has_words "^wasmld: input 0: unresolved h$"
 expect "a module is no object" ends_with 1 b.wasm -o c.wasm --no-entry --export=f
 head -c 78 a.o >short.o
 expect "a cut object is refused" ends_with 1 short.o -o c.wasm --no-entry --export=f
+expect "and told" has_words "^wasmld: input 1: malformed: frame$"
 head -c 1048577 /dev/zero >long.o
 expect "a long file is refused" ends_with 1 long.o -o c.wasm --no-entry --export=f
 expect "other words are refused" ends_with 2 a.o -o c.wasm --export=f --no-entry
 expect "no words are refused" ends_with 2
 expect "a word that isn't UTF-8 is refused" ends_with 2 $'a\xff.o' -o c.wasm --no-entry --export=f
 expect "an input that isn't there can't be read" ends_with 3 absent.o -o c.wasm --no-entry --export=f
+expect "and told" has_words "^wasmld: cannot read word 0$"
 mkdir inside
 expect "a folder can't be read" ends_with 3 inside -o c.wasm --no-entry --export=f
 expect "nothing was written by then" is_absent c.wasm

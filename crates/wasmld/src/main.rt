@@ -3,6 +3,7 @@
 
 mod command;
 mod file_shelf;
+mod line;
 mod manual;
 mod status;
 #[cfg(test)]
@@ -49,6 +50,10 @@ fn main(rt: HostRuntime) -> ExitCode {
     }
     let mut shelf = FileShelf::new(&rt);
     let status = link_command(rt.alloc(), words.as_slice(), &mut shelf);
+    if status.code() != 0 {
+        // A line that can't be written changes no status.
+        let _ = println!(rt; "wasmld: {status}");
+    }
     ExitCode::from(status.code())
 }
 

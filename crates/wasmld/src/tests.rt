@@ -127,6 +127,34 @@ fn what_is_no_such_object_is_refused(rt: HostRuntime) -> Result<(), Fail> {
 }
 
 #[test]
+fn each_status_has_its_line(rt: HostRuntime) -> Result<(), Fail> {
+    let alloc = rt.alloc();
+    let name = Seq::from_slice(alloc, b"a\\ \xffz".as_slice())?;
+    let lines = [
+        (Status::Linked, ""),
+        (Status::Usage(Usage::NotYet), "usage: NotYet"),
+        (Status::ReadFault(7), "cannot read word 7"),
+        (Status::WriteFault, "cannot write the output"),
+        (Status::NoMemory, "out of memory"),
+        (
+            Status::Refused(Fault::Unresolved { name, input: 0 }),
+            "input 0: unresolved a\\x5C\\x20\\xFFz",
+        ),
+        (
+            Status::Refused(Fault::Malformed {
+                input: 1,
+                part: Part::Cross(12),
+            }),
+            "input 1: malformed: rule 12",
+        ),
+    ];
+    for (status, line) in lines.iter() {
+        assert_eq!(rt; format!(in alloc; "{status}")?.as_str(), *line);
+    }
+    Ok(())
+}
+
+#[test]
 fn a_name_without_a_definition_is_unresolved(rt: HostRuntime) -> Result<(), Fail> {
     let alloc = rt.alloc();
     let name = Seq::from_slice(alloc, b"h".as_slice())?;
