@@ -7,8 +7,8 @@ use crate::{Image, Source};
 use std::alloc::Global;
 use wl_base::{OutOfMemory, Seq, Span};
 
-/// The bytes of the image, with the parts of files as they stand there. So far it asks for an image
-/// without data.
+/// The bytes of the image (Core 5.5.16), with the parts of files as they stand there. A part that has no length as
+/// a `u32`, which Core asks for, is answered as want of memory. So far it asks for an image without data.
 #[tactic(auto, unfolding(crate::specs::Bytes::bytes_of))]
 pub fn join_image(alloc: Global, image: &Image, files: &[Seq<u8>]) -> Result<Seq<u8>, OutOfMemory>
     requires { image.now.blocks ≡ [] }

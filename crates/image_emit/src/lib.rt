@@ -4,6 +4,8 @@
 mod joined;
 mod kinds;
 mod spell;
+#[cfg(test)]
+mod tests;
 mod tree;
 
 pub use joined::join_image;

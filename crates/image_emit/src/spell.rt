@@ -6,8 +6,9 @@ ghost use Rattle.image_emit.specs.Bytes.{vector, sized};
 use leb_codec::write_u32;
 use wl_base::{OutOfMemory, Seq};
 
-/// A value with one spelling.
+/// A value with one spelling in a module.
 pub trait Spell {
+    // Its bytes.
     ghost spelled: { Self → List ℕ };
 
     /// Writes the spelling at the end.
@@ -15,7 +16,7 @@ pub trait Spell {
         ensures { OnOk result (out.new ≡ out.old ++ spelled self.now) };
 }
 
-/// Writes a number in the shortest form.
+/// Writes a number in its shortest form (Core 5.2.2).
 pub fn put_number(n: u32, out: &mut Seq<u8>) -> Result<(), OutOfMemory>
     ensures { OnOk result (out.new ≡ out.old ++ shortest_u32 n) }
 {
@@ -24,7 +25,7 @@ pub fn put_number(n: u32, out: &mut Seq<u8>) -> Result<(), OutOfMemory>
     out.extend_from_slice(&bytes[..len])
 }
 
-/// Writes a length in the shortest form. One that is no u32 is not written.
+/// Writes a length in its shortest form. One that is no `u32` is answered as want of memory.
 pub fn put_length(len: usize, out: &mut Seq<u8>) -> Result<(), OutOfMemory>
     ensures { OnOk result (out.new ≡ out.old ++ shortest_u32 len) }
 {
@@ -34,7 +35,7 @@ pub fn put_length(len: usize, out: &mut Seq<u8>) -> Result<(), OutOfMemory>
     put_number(len, out)
 }
 
-/// Writes a length and the bytes.
+/// Writes the bytes behind their length (Core 5.1.3).
 pub fn put_sized(bytes: &[u8], out: &mut Seq<u8>) -> Result<(), OutOfMemory>
     ensures { OnOk result (out.new ≡ out.old ++ sized bytes.now) }
 {
@@ -42,7 +43,7 @@ pub fn put_sized(bytes: &[u8], out: &mut Seq<u8>) -> Result<(), OutOfMemory>
     out.extend_from_slice(bytes)
 }
 
-/// Writes a count and the items.
+/// Writes the items behind their count (Core 5.1.3).
 pub fn put_vector<T: Spell>(items: &[T], out: &mut Seq<u8>) -> Result<(), OutOfMemory>
     ensures { OnOk result (out.new ≡ out.old ++ vector T.spelled items.now) }
 {

@@ -1,11 +1,8 @@
 -- Reading the instructions of a body one after another, as a loop does.
-use Rattle.std.proofs.Common.{◌≡◌, ℕ, suc, ◌-◌, ◌+◌, ◌≤◌, ◌<◌, List, [], ◌∷◌, ◌++◌, length, Result, Ok, Err, refl, sym, ap, ◌∙◌, append_assoc, arith}
+use Rattle.std.proofs.Common.{◌≡◌, ℕ, suc, ◌-◌, ◌+◌, ◌≤◌, ◌<◌, List, [], ◌∷◌, ◌++◌, Result, Ok, Err, refl, sym, ap, ◌∙◌, append_assoc, arith}
 use Rattle.std.proofs.lemmas.List.{append-nil}
 use Rattle.wasm_grammar.specs.declared.fault.Stop.{Stop}
 use Rattle.wasm_grammar.specs.declared.fault.Stop.TheVariants.{Broken}
-use Rattle.wasm_grammar.specs.declared.fault.ReadFault.{ReadFault}
-use Rattle.wasm_grammar.specs.declared.fault.ReadFault.TheVariants.{Stopped, OutOfMemory}
-use Rattle.wasm_grammar.specs.Fault.{Fails}
 use Rattle.wasm_grammar.specs.Reading.{◌>>=◌, ended}
 use Rattle.link_core.specs.declared.first.object.FirstInstr.{FirstInstr}
 use Rattle.link_core.specs.declared.first.object.FirstInstr.TheVariants.{End, Constant, Call}

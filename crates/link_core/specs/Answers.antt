@@ -4,7 +4,7 @@ use Rattle.wl_base.specs.declared.fault.Fault.{Fault}
 use Rattle.link_core.specs.declared.error.LinkError.{LinkError}
 use Rattle.link_core.specs.declared.error.LinkError.TheVariants.{Refused, OutOfMemory}
 
--- the answer is the one that the definition gives, or want of memory
+-- The answer is the one that the definition gives: the same bytes, or the same fault. Want of memory alone is free.
 abbrev pub Answers : Result (List ℕ) LinkError → Result (List ℕ) Fault → Type 0
 Answers (Ok bytes) said = said ≡ Ok bytes
 Answers (Err (Refused fault)) said = said ≡ Err fault

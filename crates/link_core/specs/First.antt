@@ -1,20 +1,18 @@
 -- The one kind of object that is linked so far (Core 5.5.16, Linking.md): the header; in this order and at most once each a type
 -- section, a function section and a code section; the section `linking` of version 2 with at most a symbol table; and at most
--- one section `reloc.CODE`.
+-- one section `reloc.CODE`. Nothing else stands between or behind them.
 use Rattle.std.specs.Prelude.{ℕ, ◌-◌, ◌==◌, List, [], ◌∷◌, length, codes, if◌then◌else◌, Option, Some, None, Result, Ok, Err}
-use Rattle.wasm_types.specs.declared.function.FuncType.{FuncType}
 use Rattle.wasm_types.specs.Types.{func_type_at}
 use Rattle.wasm_grammar.specs.declared.fault.Stop.{Stop}
 use Rattle.wasm_grammar.specs.declared.fault.Stop.TheVariants.{Broken}
-use Rattle.wasm_grammar.specs.Reading.{Read, ◌>>=◌, tag_at, u32_at, vector_at, whole, sized_at, ended}
-use Rattle.link_core.specs.declared.first.object.FirstCode.{FirstCode}
+use Rattle.wasm_grammar.specs.Reading.{Read, ◌>>=◌, tag_at, u32_at, vector_at, sized_at}
 use Rattle.link_core.specs.declared.first.object.FirstSymbol.{FirstSymbol}
 use Rattle.link_core.specs.declared.first.object.FirstRelocs.{FirstRelocs}
 use Rattle.link_core.specs.declared.first.object.FirstObject.{FirstObject}
 use Rattle.link_core.specs.FirstEntries.{number_is, name_is, symbol_at, reloc_at}
 use Rattle.link_core.specs.FirstBodies.{code_at}
 
--- the eight bytes that each module begins with: the magic and version 1
+-- the eight bytes that each module begins with: the magic, which is 0 and "asm", and version 1 (Core 5.5.16)
 unfoldable pub header_at : ℕ → List ℕ → Result (List ℕ) Stop
 header_at end bytes = do
   a ← tag_at 0x00 end bytes
@@ -26,28 +24,32 @@ header_at end bytes = do
   g ← tag_at 0x00 end f
   tag_at 0x00 end g
 
+-- a section that stands there
 abbrev pub some_at : {A : Type 0} → Result (A × List ℕ) Stop → Result (Option A × List ℕ) Stop
 some_at (Ok x) = Ok (Some x.0, x.1)
 some_at (Err e) = Err e
 
--- the section of this id, where it stands here
+-- The section of this id, where it stands here: the id, a size, and a payload that is so long (Core 5.5.2). Where another byte
+-- or the end stands here, the section is left out.
 abbrev pub section_at : {A : Type 0} → ℕ → Read A → Read (Option A)
 section_at id payload end [] = Ok (None, [])
 section_at id payload end (byte ∷ rest) = if byte == id then some_at (sized_at payload end rest) else Ok (None, byte ∷ rest)
 
--- at most one symbol table (subsection 8)
+-- At most one subsection, the symbol table: its type 8, its size, and a vector of symbols (Linking.md, "Linking Metadata
+-- Section").
 abbrev pub symbols_at : Read (List FirstSymbol)
 symbols_at end [] = Ok ([], [])
 symbols_at end (byte ∷ rest) = if byte == 8 then sized_at (vector_at symbol_at) end rest else Err (Broken (end - length (byte ∷ rest)))
 
--- the payload of the custom section `linking`
+-- the payload of the custom section `linking`: its name, version 2 and the subsections (Linking.md, "Linking Metadata Section")
 unfoldable pub linking_at : Read (List FirstSymbol)
 linking_at end bytes = do
   version ← name_is (codes "linking") end bytes
   rest ← number_is 2 end version
   symbols_at end rest
 
--- the payload of the custom section `reloc.CODE`
+-- The payload of the custom section `reloc.CODE`: its name, the place among all sections of the one that it is for, and a
+-- vector of relocations (Linking.md, "Relocation Sections").
 unfoldable pub relocs_at : Read FirstRelocs
 relocs_at end bytes = do
   rest ← name_is (codes "reloc.CODE") end bytes
@@ -55,12 +57,13 @@ relocs_at end bytes = do
   entries ← vector_at reloc_at end target.1
   Ok (record { target = target.0; entries = entries.0 }, entries.1)
 
--- the custom section `linking`, which has to stand here
+-- the custom section `linking` (id 0), which has to stand here
 unfoldable pub linking_section_at : Read (List FirstSymbol)
 linking_section_at end bytes = do
   rest ← tag_at 0 end bytes
   sized_at linking_at end rest
 
+-- the object: each section in its place
 unfoldable pub first_at : Read FirstObject
 first_at end bytes = do
   rest ← header_at end bytes

@@ -1,7 +1,6 @@
 -- What is read of a symbol or a relocation is spelled so, and what is spelled so is read.
-use Rattle.std.proofs.Common.{◌≡◌, ℕ, ◌-◌, List, ◌++◌, length, Result, Ok, Err, refl, subst, Bool, true, false, eqb}
+use Rattle.std.proofs.Common.{◌≡◌, ℕ, ◌-◌, List, ◌++◌, length, Ok, refl, subst, Bool, true, false, eqb}
 use Rattle.std.proofs.lemmas.Bool.{eqb-true, eq-eqb}
-use Rattle.wasm_grammar.specs.declared.fault.Stop.{Stop}
 use Rattle.wasm_grammar.specs.Readers.{Takes, IsReader}
 use Rattle.wasm_grammar.specs.Grammar.{SpellsU32}
 use Rattle.wasm_grammar.specs.Reading.{◌>>=◌, tag_at, u32_at, name_at}

@@ -2,7 +2,7 @@
 use Rattle.std.specs.Prelude.{◌≡◌, ℕ, List, [], ◌∷◌, codes, Ok, Err, refl, true}
 use Rattle.std.specs.Str.{is_utf8}
 use Rattle.std.proofs.lemmas.Str.{IsUtf8-from_ascii, is_utf8-from_IsUtf8}
-use Rattle.std.proofs.Common.{arith, rules}
+use Rattle.std.proofs.Common.{rules}
 use Rattle.leb_codec.specs.Reading.{end_within, end_of, number_at}
 use Rattle.leb_codec.specs.Shortest.{u32, u32_padded}
 use Rattle.wasm_grammar.specs.Reading.{u32_at, s32_at, many_at, vector_at, front_at, bytes_at, name_at, part_at, whole, sized_at}
@@ -40,3 +40,8 @@ call_linked = rw (f_is_utf8, g_is_utf8) refl
 call_unresolved : link_of (first_plan (codes "b.wasm") (codes "h")) (call_object ∷ []) ≡ Err (Unresolved (codes "h") 0)
 unfolding link_of bytes_of u32 u32_padded end_within end_of number_at u32_at s32_at many_at vector_at front_at bytes_at name_at part_at whole sized_at val_type_at func_type_at number_is name_is symbol_at reloc_at instr_at calls_at body_at code_at header_at linking_at relocs_at linking_section_at first_at
 call_unresolved = rw (f_is_utf8, g_is_utf8) refl
+
+-- a file without the header is malformed
+empty_malformed : link_of (first_plan (codes "b.wasm") (codes "f")) ([] ∷ []) ≡ Err (Malformed 1 Frame)
+unfolding link_of whole header_at first_at
+empty_malformed = refl

@@ -6,6 +6,8 @@ mod first;
 mod output;
 mod patching;
 mod run;
+#[cfg(test)]
+mod tests;
 mod types;
 
 pub use error::LinkError;

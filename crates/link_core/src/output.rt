@@ -3,7 +3,7 @@ ghost use Rattle.std.specs.Prelude.{◌≡◌, ◌∷◌, [], IfOk, map, option_
 ghost use Rattle.link_core.specs.Image.{named, body_source, memory_export, image_of};
 
 use crate::first::{FirstBody, FirstObject, FirstSymbol, bodies_of, entries};
-use crate::types::{distinct_types, type_numbers};
+use crate::types::{copies_of, distinct_types, type_numbers};
 use image_emit::{Image, Source};
 use std::alloc::Global;
 use wasm_module::Export;
@@ -59,8 +59,9 @@ pub fn image_of(
 {
     let declared = entries(&object.types);
     let functions = entries(&object.functions);
-    let types = distinct_types(alloc, declared, functions)?;
-    let numbers = type_numbers(alloc, declared, types.as_slice(), functions)?;
+    let distinct = distinct_types(alloc, declared, functions)?;
+    let types = copies_of(alloc, distinct.as_slice())?;
+    let numbers = type_numbers(alloc, declared, &distinct, functions)?;
     let limits = Limits {
         min: 1,
         max: Some(1),

@@ -1,9 +1,8 @@
 -- The plan of the words, or why they have none. So far one form of words is read:
 -- INPUT -o OUTPUT --no-entry --export=NAME
-use Rattle.std.specs.Prelude.{◌≡◌, ℕ, Bool, true, false, not, ◌&&◌, ◌==◌, IsTrue, List, [], ◌∷◌, take, drop, codes, if◌then◌else◌, length, slice_index_or, nat_le, Option, Some, None, Result, Ok, Err, refl}
+use Rattle.std.specs.Prelude.{◌≡◌, ℕ, Bool, false, not, ◌&&◌, ◌==◌, IsTrue, List, [], ◌∷◌, take, drop, codes, if◌then◌else◌, length, slice_index_or, nat_le, Some, None, Result, Ok, Err, refl}
 use Rattle.std.specs.Str.{bytes_eq}
 use Rattle.link_words.specs.declared.plan.Plan.{Plan}
-use Rattle.link_words.specs.declared.plan.InputWord.{InputWord}
 use Rattle.link_words.specs.declared.plan.WordError.{WordError}
 use Rattle.link_words.specs.declared.plan.WordError.TheVariants as errors
 use Rattle.wl_base.specs.declared.usage.Usage.{Usage}

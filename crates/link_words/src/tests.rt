@@ -35,28 +35,48 @@ fn the_one_form_has_its_plan(rt: HostRuntime) -> Result<(), Fail> {
         plan.exports.get(0).ok_or("no export")?.as_slice(),
         b"f".as_slice()
     );
+    assert!(rt; plan.entry.is_none());
+    assert!(rt; !plan.gc);
     assert_eq!(rt; plan.stack_size, 65536);
+    assert_eq!(rt; plan.threads, 4);
     Ok(())
 }
 
 #[test]
 fn other_words_have_none(rt: HostRuntime) -> Result<(), Fail> {
     let alloc = rt.alloc();
-    let others: [&[&str]; 6] = [
+    let others: [&[&str]; 10] = [
         &[],
         &["a.o", "-o", "b", "--no-entry"],
         &["-a.o", "-o", "b", "--no-entry", "--export=f"],
         &["a.o", "-o", "b", "--no-entry", "--export=memory"],
         &["a.o", "-o", "b", "--no-entry", "--export=__f"],
         &["a.o", "-o", "b", "--entry=f", "--export=f"],
+        &["a.o", "-p", "b", "--no-entry", "--export=f"],
+        &["a.o", "-o", "b", "--no-entry", "--exports=f"],
+        &["a.o", "-o", "b", "--no-entry", "f"],
+        &["a.o", "b.o", "-o", "b", "--no-entry", "--export=f"],
     ];
     for other in others {
         let words = words_of(alloc, other)?;
-        assert!(rt; words.len() < 6);
+        assert!(rt; words.len() < 7);
         match read_words(alloc, words.as_slice()) {
             Err(WordError::Usage(Usage::NotYet)) => {}
             _ => return Err("these words have a plan")?,
         }
     }
     Ok(())
+}
+
+#[test]
+fn two_underscores_prefix(rt: HostRuntime) {
+    for (name, prefixed) in [
+        ("__heap_base", true),
+        ("__", true),
+        ("_f", false),
+        ("f__", false),
+        ("", false),
+    ] {
+        assert_eq!(rt; is_prefixed(name.as_bytes()), prefixed);
+    }
 }

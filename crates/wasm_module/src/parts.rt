@@ -1,20 +1,23 @@
-//! Globals, exports and element segments.
+//! Globals, exports and element segments (Core 2.5.6, 2.5.10 and 2.5.7).
 
 use wasm_types::{ConstExpr, GlobalType};
 use wl_base::{Name, Seq};
 
-/// A global with its first value (Core 2.5.6).
+/// A defined global with its first value (Core 2.5.6).
 #[derive(Clone, Copy, Debug, PartialEq, Eq)]
 pub struct ModuleGlobal {
+    /// The type of its value, and whether it can be set.
     pub kind: GlobalType,
+    /// The first value.
     pub value: ConstExpr,
 }
 
 /// An export (Core 2.5.10).
 #[derive(Debug, Drop)]
 pub struct Export {
+    /// The name that the outside knows it by. No two exports of a module have the same.
     pub name: Name,
-    /// 0 function, 1 table, 2 memory, 3 global.
+    /// What is exported: 0 a function, 1 a table, 2 a memory, 3 a global (Core 5.5.10).
     pub kind: u8,
     /// The place of what is exported among those of its kind, imports first.
     pub index: u32,
@@ -23,9 +26,10 @@ pub struct Export {
 /// An active element segment of functions (Core 2.5.7).
 #[derive(Debug, Drop)]
 pub struct Element {
-    /// `None` is table 0 by the segment's flag 0; `Some` names the table, by flag 2.
+    /// The table: `None` is table 0, by the segment's flag 0, and `Some` names it, by flag 2 (Core 5.5.12).
     pub table: Option<u32>,
-    /// Where the functions begin in the table.
+    /// The slot of the first function.
     pub offset: ConstExpr,
+    /// The functions that the slots from there on hold, by their places among all functions, imports first.
     pub functions: Seq<u32>,
 }

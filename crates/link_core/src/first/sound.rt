@@ -7,6 +7,7 @@ ghost use Rattle.link_core.specs.Sound.{entries, bodies_of, start_of, relocs_of,
 use crate::first::object::{
     FirstBody, FirstCode, FirstObject, FirstReloc, FirstRelocs, FirstSymbol,
 };
+use indexmap::IndexSet;
 use link_words::is_prefixed;
 use std::alloc::Global;
 use wasm_types::{FuncType, ValType};
@@ -87,23 +88,17 @@ fn are_sound_functions(object: &FirstObject) -> bool
         && functions.len() == bodies_of(&object.code).len()
 }
 
-// Whether the name is one of these symbols'.
-fn has_name(symbols: &[FirstSymbol], name: &[u8]) -> bool
-    ensures { result ≡ list_any (λ other. bytes_eq name.now other.name) symbols.now }
-{
-    symbols.iter().any(|symbol| name == symbol.name.as_slice())
-}
-
 // Whether no two symbols have the same name.
-fn names_differ(symbols: &[FirstSymbol]) -> bool
-    ensures { result ≡ names_differ symbols.now }
+fn names_differ(alloc: Global, symbols: &[FirstSymbol]) -> Result<bool, OutOfMemory>
+    ensures { IfOk result (λ differ. differ ≡ names_differ symbols.now) }
 {
-    for (i, symbol) in symbols.iter().enumerate() {
-        if has_name(&symbols[i + 1..], symbol.name.as_slice()) {
-            return false;
+    let mut seen = IndexSet::new(alloc);
+    for symbol in symbols {
+        if !seen.insert(symbol.name.as_slice())? {
+            return Ok(false);
         }
     }
-    true
+    Ok(true)
 }
 
 fn is_sound_symbol(functions: usize, symbol: &FirstSymbol) -> bool
@@ -121,12 +116,12 @@ fn are_named(functions: usize, symbols: &[FirstSymbol]) -> bool
 }
 
 // Whether each symbol names a function that is there, and no two have the same name.
-fn are_sound_symbols(object: &FirstObject) -> bool
-    ensures { result ≡ are_sound_symbols object.now }
+fn are_sound_symbols(alloc: Global, object: &FirstObject) -> Result<bool, OutOfMemory>
+    ensures { IfOk result (λ sound. sound ≡ are_sound_symbols object.now) }
 {
     let functions = entries(&object.functions).len();
     let symbols = object.symbols.as_slice();
-    are_named(functions, symbols) && names_differ(symbols)
+    Ok(are_named(functions, symbols) && names_differ(alloc, symbols)?)
 }
 
 fn counted(stands: bool) -> u32
@@ -211,6 +206,9 @@ fn are_sound_relocs(alloc: Global, size: usize, object: &FirstObject) -> Result<
 pub fn is_sound(alloc: Global, size: usize, object: &FirstObject) -> Result<bool, OutOfMemory>
     ensures { IfOk result (λ sound. sound ≡ is_sound size object.now) }
 {
-    let relocs = are_sound_relocs(alloc, size, object)?;
-    Ok(are_sound_functions(object) && are_sound_symbols(object) && relocs)
+    Ok(
+        are_sound_functions(object)
+            && are_sound_symbols(alloc, object)?
+            && are_sound_relocs(alloc, size, object)?,
+    )
 }
