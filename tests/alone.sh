@@ -2,21 +2,7 @@
 # The layout of the repository: HANDLES, no made files, and crates.txt with its folders.
 set -u
 cd "$(dirname "${BASH_SOURCE[0]}")/.." || exit 2
-
-passed=0
-failed=0
-
-expect() {
-  local name=$1
-  shift
-  if "$@"; then
-    echo "ok: $name"
-    passed=$((passed + 1))
-  else
-    echo "FAILED: $name"
-    failed=$((failed + 1))
-  fi
-}
+. tests/common/expect.bash
 
 handles_stand() { [ "$(cat HANDLES)" = "Handles allowed: Threads, Wait." ]; }
 
@@ -56,5 +42,4 @@ expect "crates.txt lists the crates that there are" crates_are_listed
 expect "README.md speaks of each crate" crates_are_told
 expect "no made file is kept" nothing_made_is_kept
 
-echo "$passed passed, $failed failed"
-[ "$failed" -eq 0 ]
+finish

@@ -2,25 +2,10 @@
 # Runs bin/wasmld over real files, in a folder of its own. The last line is 'N passed, M failed'.
 set -u
 top=$(cd "$(dirname "${BASH_SOURCE[0]}")/.." && pwd)
+. "$top/tests/common/expect.bash"
 folder=$(mktemp -d)
 trap 'rm -rf "$folder"' EXIT
 cd "$folder" || exit 2
-
-passed=0
-failed=0
-
-# Takes a name and a command that has to succeed.
-expect() {
-  local name=$1
-  shift
-  if "$@"; then
-    echo "ok: $name"
-    passed=$((passed + 1))
-  else
-    echo "FAILED: $name"
-    failed=$((failed + 1))
-  fi
-}
 
 # Takes the wanted exit status and the words.
 ends_with() {
@@ -78,5 +63,4 @@ else
   echo "skipped: the module runs (node isn't there)"
 fi
 
-echo "$passed passed, $failed failed"
-[ "$failed" -eq 0 ]
+finish
