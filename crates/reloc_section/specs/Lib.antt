@@ -1,0 +1,6 @@
+pub mod Kinds
+pub mod Relocs
+pub mod Fault
+pub mod RelocLaws
+pub mod Stays
+pub mod Examples

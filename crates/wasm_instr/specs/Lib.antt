@@ -1,0 +1,13 @@
+pub mod Classes
+pub mod Instrs
+pub mod Reading
+pub mod BlockLaws
+pub mod InstrLaws
+pub mod Bodies
+pub mod BodyLaws
+pub mod BodyBounds
+pub mod Skimming
+pub mod SkimLaws
+pub mod Places
+pub mod Placeless
+pub mod Examples
