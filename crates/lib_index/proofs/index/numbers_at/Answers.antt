@@ -1,0 +1,14 @@
+use Rattle.std.proofs.lemmas.Result.{err_from_is_err_and}
+use Rattle.lib_index.proofs.IndexSteps.{goes_on, ends, is_done}
+use Rattle.lib_index.proofs.index.numbers_at.Goals as goal
+
+pub returns-in_err-number : goal.returns-in_err-number
+returns-in_err-number c =
+    let p = err_from_is_err_and c.from_residual.result c.from_residual.ensures.1 in
+    rw (p.1, p.2) (ends c.args.places.now c.loop.numbers c.in_err-number.field-0.0 c.args.count c.loop.counter c.loop.rest.now _ c.loop-test.true c.in_err-number.ensures c.loop.invariant)
+
+pub loop-preserved : goal.loop-preserved
+loop-preserved c = rw c.in_ok-push.ensures.ok (goes_on c.args.places.now c.loop.numbers c.args.count c.loop.counter c.loop.rest.now c.in_ok-number.number c.in_ok-number.after.now _ c.loop-test.true c.in_ok-number.ensures c.loop.invariant)
+
+pub returns : goal.returns
+returns c = is_done c.args.places.now c.loop.numbers c.args.count c.loop.counter c.loop.rest.now _ c.loop-test.false c.loop.invariant

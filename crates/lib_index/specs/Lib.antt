@@ -1,0 +1,5 @@
+pub mod Archive
+pub mod Library
+pub mod Reading
+pub mod Table
+pub mod Examples

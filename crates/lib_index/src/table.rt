@@ -1,0 +1,74 @@
+//! The names of a library, each with the least member that is given for it.
+ghost use Rattle.std.specs.Prelude.{◌≡◌, ◌<◌, ◌==◌, length, OnOk, IfSome, option_map, position};
+ghost use Rattle.std.specs.Map.{lookup};
+ghost use Rattle.std.specs.Str.{bytes_eq};
+ghost use Rattle.lib_index.specs.Reading.{Answers, name_at, entries_at, offers};
+ghost use Rattle.lib_index.specs.Table.{shown, offered_onto, is_kept};
+
+use crate::fault::LibError;
+use indexmap::IndexMap;
+use std::alloc::Global;
+use wl_base::{LibFault, OutOfMemory};
+
+/// The least member for each name.
+pub type Table = IndexMap<Vec<u8>, u32>;
+
+/// The member that is offered for a name.
+pub fn offered(table: &Table, name: &[u8]) -> Option<u32>
+    ensures { result ≡ lookup (bytes_eq name.now) (shown table.now) }
+{
+    table.get(name).copied()
+}
+
+/// Whether a member is offered for the name that isn't greater.
+fn is_kept(table: &Table, name: &[u8], number: u32) -> bool
+    ensures { result ≡ is_kept (shown table.now) name.now number }
+{
+    match offered(table, name) {
+        Some(first) => first <= number,
+        None => false,
+    }
+}
+
+/// Offers a member for a name, unless one that isn't greater is.
+fn offer(alloc: Global, table: &mut Table, name: &[u8], number: u32) -> Result<(), OutOfMemory>
+    ensures { OnOk result (shown table.new ≡ offered_onto (shown table.old) name.now number) }
+{
+    if is_kept(table, name, number) {
+        return Ok(());
+    }
+    table.insert(Vec::from_slice(alloc, name)?, number)?;
+    Ok(())
+}
+
+/// The place of the first 0.
+fn zero_at(bytes: &[u8]) -> Option<usize>
+    ensures value { result ≡ position (λ b. b == 0) bytes.now }
+    ensures within { IfSome result (λ at. at < length bytes.now) }
+{
+    bytes.iter().position(|b| *b == 0)
+}
+
+/// The bytes before the first 0, and those after it.
+fn name_at(bytes: &[u8]) -> Option<(&[u8], &[u8])>
+    ensures { option_map (λ x. (x.0.now, x.1.now)) result ≡ name_at bytes.now }
+{
+    let at = zero_at(bytes)?;
+    Some((&bytes[..at], &bytes[at + 1..]))
+}
+
+/// What is offered where each of these members has a name among these.
+pub fn table_of(alloc: Global, numbers: &[u32], names: &[u8]) -> Result<Table, LibError>
+    ensures { Answers shown result (offers (entries_at numbers.now names.now)) }
+{
+    let mut table = IndexMap::new(alloc);
+    let mut rest = names;
+    for number in numbers {
+        let Some((name, after)) = name_at(rest) else {
+            return Err(LibError::Refused(LibFault::BadIndex(3)));
+        };
+        offer(alloc, &mut table, name, *number)?;
+        rest = after;
+    }
+    Ok(table)
+}
