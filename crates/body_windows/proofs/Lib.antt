@@ -1,0 +1,6 @@
+pub mod Spread
+pub mod Merge
+pub mod Steps
+pub mod Order
+pub mod Within
+pub mod Walk

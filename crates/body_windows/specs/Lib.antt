@@ -1,0 +1,7 @@
+pub mod Operands
+pub mod Fault
+pub mod Immediates
+pub mod Windows
+pub mod Merging
+pub mod Scanning
+pub mod Rows

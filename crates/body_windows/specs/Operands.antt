@@ -1,0 +1,27 @@
+-- The operands of a body, and how their list is kept short.
+use Rattle.std.specs.Prelude.{ℕ, ◌+◌, ◌≤◌, Bool, true, false, List, [], ◌∷◌, ◌++◌, replicate}
+use Rattle.body_windows.specs.declared.operand.Operand.{Operand}
+use Rattle.body_windows.specs.declared.operand.Operand.TheVariants.{Number, Symbol, TypeRef, TableZero}
+
+-- Whether an operand is more than the number that stands there.
+abbrev pub is_reference : Operand → Bool
+is_reference Number = false
+is_reference (Symbol kind place symbol addend) = true
+is_reference (TypeRef place index) = true
+is_reference TableZero = true
+
+-- The list that references stand for, with as many numbers before each as its count says, and some
+-- behind the last.
+abbrev pub spread : List Operand → List ℕ → ℕ → List Operand
+spread [] counts behind = replicate behind Number
+spread (r ∷ rs) [] behind = r ∷ spread rs [] behind
+spread (r ∷ rs) (n ∷ ns) behind = replicate n Number ++ (r ∷ spread rs ns behind)
+
+-- The windows of references stand one behind another, each of five bytes, from a place on and up to
+-- an end.
+abbrev pub StandIn : ℕ → ℕ → List Operand → Type 0
+StandIn from end [] = from ≤ end
+StandIn from end (Number ∷ others) = StandIn from end others
+StandIn from end (Symbol kind place symbol addend ∷ others) = (from ≤ place) × StandIn (place + 5) end others
+StandIn from end (TypeRef place index ∷ others) = (from ≤ place) × StandIn (place + 5) end others
+StandIn from end (TableZero ∷ others) = StandIn from end others

@@ -1,0 +1,24 @@
+//! Relocations meet bodies: the immediates of a function's body that can be a reference, and what
+//! the relocations of the code section put in their place (tool conventions, Linking.md, 'Relocation
+//! Sections'; WebAssembly Core Specification 2.0, 5.4).
+#![tactic(auto)]
+
+mod fault;
+mod immediate;
+mod laws;
+mod merging;
+mod operand;
+mod operands;
+mod overlap;
+mod reading;
+mod scanning;
+#[cfg(test)]
+mod tests;
+
+pub use fault::{Mismatch, WindowFault};
+pub use immediate::{Immediate, ImmediateKind};
+pub use laws::{bodies_are_in_order, operands_are_of_immediates, windows_stand_in_bodies};
+pub use operand::Operand;
+pub use operands::Operands;
+pub use reading::windows;
+pub use scanning::scan;

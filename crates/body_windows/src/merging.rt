@@ -1,0 +1,141 @@
+//! Immediates and relocations, merged by their places.
+ghost use Rattle.std.specs.Prelude.{◌≡◌, ◌+◌, ◌<◌, ◌^◌, [], None, OnOk};
+ghost use Rattle.body_windows.specs.Merging.{State, left_bare, offered, offered_all, outlined_immediates, Fit, finished};
+
+use crate::fault::Mismatch;
+use crate::immediate::{Immediate, ImmediateKind};
+use crate::operand::Operand;
+use crate::operands::Operands;
+use reloc_section::Reloc;
+use std::alloc::Global;
+use std::marker::Model;
+use wasm_instr::Outline;
+use wl_base::OutOfMemory;
+
+/// What is known behind some of a body's immediates.
+#[derive(Drop)]
+pub struct Merger<'a> {
+    /// The body's place, from the start of the code section's payload.
+    base: u32,
+    /// The relocations that stand behind these immediates.
+    left: &'a [Reloc],
+    /// The operands so far.
+    operands: Operands,
+    /// The offset of the first relocation whose window is no immediate of its kind. Where there is
+    /// one, nothing behind it is looked at.
+    off: Option<u32>,
+    /// The place of the first immediate that has no relocation and has to have one.
+    bare: Option<u32>,
+}
+
+impl<'a> Model for Merger<'a> {
+    ghost use Rattle.body_windows.specs.Merging.{State};
+
+    ghost Value = { State };
+
+    ghost view = { λ m. record { base = m.base; left = m.left.now; operands = m.operands; off = m.off; bare = m.bare } };
+}
+
+impl<'a> Merger<'a> {
+    /// What is known before the first immediate of a body that begins at the place `base`. The
+    /// offsets of the relocations are to rise.
+    pub fn new(alloc: Global, base: u32, relocs: &'a [Reloc]) -> Self
+        ensures { result ≡ record { base = base; left = relocs.now; operands = []; off = None; bare = None } }
+    {
+        Merger {
+            base,
+            left: relocs,
+            operands: Operands::new(alloc),
+            off: None,
+            bare: None,
+        }
+    }
+
+    /// Takes the next immediate as one without a relocation.
+    #[inline(always)]
+    fn leave(&mut self, immediate: Immediate) -> Result<(), OutOfMemory>
+        requires { self.old.base + immediate.place < 2 ^ 32 }
+        ensures { OnOk result (self.new ≡ left_bare self.old immediate) }
+    {
+        if self.bare.is_none() && immediate.kind.needs_window() {
+            self.bare = Some(self.base + immediate.place);
+        }
+        self.operands.push(immediate.kind.plain_operand())
+    }
+
+    /// Takes the next immediate. Where memory is refused nothing is known of what stands behind.
+    #[inline(always)]
+    pub fn offer(&mut self, immediate: Immediate) -> Result<(), OutOfMemory>
+        requires { self.old.base + immediate.place < 2 ^ 32 }
+        ensures { OnOk result (self.new ≡ offered self.old immediate) }
+    {
+        if self.off.is_some() {
+            return Ok(());
+        }
+        match self.left {
+            [reloc, after @ ..] if reloc.offset <= self.base + immediate.place => {
+                if immediate.fills(self.base, reloc) {
+                    self.left = after;
+                    self.operands.push(immediate.operand_of(reloc))
+                } else {
+                    self.off = Some(reloc.offset);
+                    Ok(())
+                }
+            }
+            _ => self.leave(immediate),
+        }
+    }
+
+    /// Takes the immediates of an instruction of this outline. Its opcode stands at the place `at`,
+    /// and its last immediate at `mid`.
+    #[inline(always)]
+    pub fn offer_outline(
+        &mut self,
+        outline: Outline,
+        at: u32,
+        mid: u32,
+        end: u32,
+    ) -> Result<(), OutOfMemory>
+        requires { Fit self.old.base (outlined_immediates outline at mid end) }
+        ensures { OnOk result (self.new ≡ offered_all self.old (outlined_immediates outline at mid end)) }
+    {
+        match outline {
+            Outline::Block { index: true, .. } => {
+                self.offer(Immediate::between(ImmediateKind::TypeIndex, mid, end))
+            }
+            Outline::Call => self.offer(Immediate::between(ImmediateKind::FunctionIndex, mid, end)),
+            Outline::CallIndirect { table } => {
+                self.offer(Immediate::between(ImmediateKind::TypeIndex, at + 1, mid))?;
+                self.offer(Immediate::between(ImmediateKind::TableIndex(table), mid, end))
+            }
+            Outline::Global => self.offer(Immediate::between(ImmediateKind::GlobalIndex, mid, end)),
+            Outline::Access => self.offer(Immediate::between(
+                ImmediateKind::MemoryOffset,
+                mid,
+                end,
+            )),
+            Outline::I32Const => self.offer(Immediate::between(ImmediateKind::Constant, mid, end)),
+            _ => Ok(()),
+        }
+    }
+
+    /// The operands, where no immediate is left, or the first fault. The argument is the least
+    /// overlap of the relocations.
+    pub fn finish(self, overlap: Option<u32>) -> Result<Operands, Mismatch>
+        ensures { result ≡ finished self.entry overlap }
+    {
+        if let Some(place) = overlap {
+            return Err(Mismatch::Overlap(place));
+        }
+        if let Some(place) = self.off {
+            return Err(Mismatch::OffImmediate(place));
+        }
+        if let [reloc, ..] = self.left {
+            return Err(Mismatch::OffImmediate(reloc.offset));
+        }
+        match self.bare {
+            Some(place) => Err(Mismatch::BareIndex(place)),
+            None => Ok(self.operands),
+        }
+    }
+}
