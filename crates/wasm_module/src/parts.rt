@@ -1,4 +1,4 @@
-//! Globals, exports and element segments (Core 2.5.6, 2.5.10 and 2.5.7).
+//! Globals, exports, element and data segments (Core 2.5.6, 2.5.10, 2.5.7 and 2.5.8).
 
 use wasm_types::{ConstExpr, GlobalType};
 use wl_base::{Name, Seq};
@@ -13,7 +13,7 @@ pub struct ModuleGlobal {
 }
 
 /// An export (Core 2.5.10).
-#[derive(Debug, Drop)]
+#[derive(Debug, PartialEq, Eq, Drop)]
 pub struct Export {
     /// The name that the outside knows it by. No two exports of a module have the same.
     pub name: Name,
@@ -24,7 +24,7 @@ pub struct Export {
 }
 
 /// An active element segment of functions (Core 2.5.7).
-#[derive(Debug, Drop)]
+#[derive(Debug, PartialEq, Eq, Drop)]
 pub struct Element {
     /// The table: `None` is table 0, by the segment's flag 0, and `Some` names it, by flag 2 (Core 5.5.12).
     pub table: Option<u32>,
@@ -32,4 +32,16 @@ pub struct Element {
     pub offset: ConstExpr,
     /// The functions that the slots from there on hold, by their places among all functions, imports first.
     pub functions: Seq<u32>,
+}
+
+/// An active data segment (Core 2.5.8).
+#[derive(Debug, PartialEq, Eq, Drop)]
+pub struct DataSegment {
+    /// The memory: `None` is memory 0, by the segment's flag 0, and `Some` names it, by flag 2 (Core
+    /// 5.5.14).
+    pub memory: Option<u32>,
+    /// The address of the first byte.
+    pub offset: ConstExpr,
+    /// The bytes that the memory holds from there on.
+    pub bytes: Seq<u8>,
 }

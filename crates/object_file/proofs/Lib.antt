@@ -1,0 +1,3 @@
+pub mod Exported
+pub mod Made
+pub mod Read

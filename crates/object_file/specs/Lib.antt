@@ -1,0 +1,4 @@
+pub mod Objects
+pub mod ObjectOf
+pub mod Exports
+pub mod Rows

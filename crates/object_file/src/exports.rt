@@ -1,0 +1,66 @@
+//! The names under which an object's functions are exported.
+ghost use Rattle.std.specs.Prelude.{◌≡◌, slice_index_or, None, IfOk};
+ghost use Rattle.object_file.specs.Exports.{AreLast, noted, name_at};
+
+use std::alloc::Global;
+use wasm_module::Export;
+use wl_base::{Name, OutOfMemory, Seq};
+
+/// For each function, by its index, the place of its last export. Where there is no export at all
+/// the list is empty.
+pub fn last_exports(
+    alloc: Global,
+    functions: usize,
+    exports: &[Export],
+) -> Result<Vec<Option<usize>>, OutOfMemory>
+    ensures { IfOk result (λ places. AreLast exports.now functions places.items) }
+{
+    if exports.is_empty() {
+        return Ok(Vec::new(alloc));
+    }
+    let mut places = vec![in alloc; None; functions]?;
+    for (at, export) in exports.iter().enumerate() {
+        note(&mut places, export, at);
+    }
+    Ok(places)
+}
+
+/// Notes the place of an export, where it is one of these functions.
+fn note(places: &mut [Option<usize>], export: &Export, at: usize)
+    ensures { places.new ≡ noted export.now at places.old }
+{
+    let index = export.index as usize;
+    if export.kind == 0 && index < places.len() {
+        places[index] = Some(at);
+    }
+}
+
+/// The place of the last export of the function of this index.
+pub fn place_of(last: &[Option<usize>], index: usize) -> Option<usize>
+    ensures { result ≡ slice_index_or last.now index None }
+{
+    match last.get(index) {
+        Some(place) => *place,
+        None => None,
+    }
+}
+
+/// The name of the export at this place, where there is one.
+pub fn name_at(
+    alloc: Global,
+    exports: &[Export],
+    place: Option<usize>,
+) -> Result<Option<Name>, OutOfMemory>
+    ensures { IfOk result (λ name. name ≡ name_at exports.now place) }
+{
+    let Some(place) = place else {
+        return Ok(None);
+    };
+    match exports.get(place) {
+        None => Ok(None),
+        Some(export) => {
+            let name = Seq::from_slice(alloc, export.name.as_slice())?;
+            Ok(Some(name))
+        }
+    }
+}

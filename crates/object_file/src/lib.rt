@@ -1,0 +1,19 @@
+//! An object file, read whole and exactly (tool conventions, Linking.md).
+//!
+//! The definition of what an object is stands in `specs/ObjectOf.antt`: the bytes are cut into
+//! sections, each section is spelled whole, and the sections agree with one another.
+#![tactic(auto)]
+
+mod building;
+mod exports;
+mod functions;
+mod names;
+mod object;
+mod reading;
+mod segments;
+#[cfg(test)]
+mod tests;
+
+pub use object::{FunctionDef, Object, SegmentDef};
+pub use object_parts::GlobalDef;
+pub use reading::{ObjectError, read_object};

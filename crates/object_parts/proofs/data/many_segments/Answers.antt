@@ -1,0 +1,18 @@
+use Rattle.std.proofs.lemmas.Result.{err_from_is_err_and}
+use Rattle.wasm_grammar.specs.declared.fault.ReadFault.TheVariants.{Stopped}
+use Rattle.object_parts.specs.Turns.{turns_at}
+use Rattle.object_parts.specs.Placed.{stays, data_part_at}
+use Rattle.object_parts.proofs.Loop.{goes_on, ends, is_done}
+use Rattle.object_parts.proofs.data.many_segments.Goals as goal
+
+pub returns-in_err-segment : goal.returns-in_err-segment
+returns-in_err-segment c =
+    let p = err_from_is_err_and c.from_residual.result c.from_residual.ensures.1 in
+    rw (p.1, p.2) (ends data_part_at stays (Stopped c.in_err-segment.field-0.0) c.loop.segments tt c.args.count c.loop.counter c.args.end c.loop.rest.now (turns_at data_part_at stays c.args.count tt c.args.end c.args.bytes.now) c.loop-test.true c.in_err-segment.ensures c.loop.invariant)
+
+pub loop-preserved : goal.loop-preserved
+loop-preserved c =
+    rw c.in_ok-push.ensures.ok (goes_on data_part_at stays c.loop.segments tt c.args.count c.loop.counter c.args.end c.loop.rest.now c.in_ok-segment.segment c.in_ok-segment.after.now (turns_at data_part_at stays c.args.count tt c.args.end c.args.bytes.now) c.loop-test.true c.in_ok-segment.ensures c.loop.invariant)
+
+pub returns : goal.returns
+returns c = is_done data_part_at stays c.loop.segments tt c.args.count c.loop.counter c.args.end c.loop.rest.now (turns_at data_part_at stays c.args.count tt c.args.end c.args.bytes.now) c.loop-test.false c.loop.invariant

@@ -1,0 +1,9 @@
+pub mod Kinds
+pub mod Turns
+pub mod Imports
+pub mod Placed
+pub mod Code
+pub mod Adding
+pub mod Sections
+pub mod Reading
+pub mod Spans

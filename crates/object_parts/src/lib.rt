@@ -1,0 +1,26 @@
+//! What the sections of an object tell, each section by itself (WebAssembly Core Specification 2.0,
+//! section 5.5; tool conventions, Linking.md).
+//!
+//! The sections are read in file order, and the first that isn't spelled whole ends the reading.
+//! Whether they agree with one another is not judged here.
+#![tactic(auto)]
+
+mod adding;
+mod code;
+mod custom;
+mod data;
+mod elements;
+mod globals;
+mod imports;
+mod kind;
+mod parts;
+mod placed;
+mod reading;
+#[cfg(test)]
+mod tests;
+
+pub use code::split_at_place;
+pub use custom::has_id;
+pub use kind::{CustomKind, SectionKind};
+pub use parts::{CodeBody, DataPart, GlobalDef, Parts};
+pub use reading::{PartsFault, SectionStop, parts_of};

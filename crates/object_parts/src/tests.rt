@@ -1,0 +1,150 @@
+use super::*;
+use std::alloc::Global;
+use wasm_grammar::Stop;
+use wasm_sections::frame;
+use wl_base::{Item, Span};
+
+/// The parts of a small object; `None` where it isn't cut into sections.
+fn parts(alloc: Global, bytes: &[u8]) -> Option<Result<Parts, PartsFault>> {
+    if bytes.len() > 1000 {
+        return None;
+    }
+    let all = frame(alloc, bytes).ok()?;
+    if all.len() > 100 {
+        return None;
+    }
+    Some(parts_of(alloc, all.as_slice(), bytes))
+}
+
+/// How many types, functions, bodies, segments and sections of relocations there are.
+fn lengths(alloc: Global, bytes: &[u8]) -> Option<[usize; 5]> {
+    match parts(alloc, bytes) {
+        Some(Ok(parts)) => Some([
+            parts.types.len(),
+            parts.functions.len(),
+            parts.bodies.len(),
+            parts.segments.len(),
+            parts.relocs.len(),
+        ]),
+        _ => None,
+    }
+}
+
+/// How many element segments and exports there are.
+fn others(alloc: Global, bytes: &[u8]) -> Option<(usize, usize)> {
+    match parts(alloc, bytes) {
+        Some(Ok(parts)) => Some((parts.elements.len(), parts.exports.len())),
+        _ => None,
+    }
+}
+
+/// Whether the metadata are there, and in order.
+fn metadata(alloc: Global, bytes: &[u8]) -> Option<(bool, bool)> {
+    match parts(alloc, bytes) {
+        Some(Ok(parts)) => Some((parts.linking.is_some(), parts.in_order)),
+        _ => None,
+    }
+}
+
+/// Where a body stands, and whether its relocations fit it.
+fn body(alloc: Global, bytes: &[u8], at: usize) -> Option<(Span, bool)> {
+    match parts(alloc, bytes) {
+        Some(Ok(parts)) => match parts.bodies.get(at) {
+            Some(body) => Some((body.span, body.windows.is_ok())),
+            None => None,
+        },
+        _ => None,
+    }
+}
+
+/// Where the value of the first global stands.
+fn global_span(alloc: Global, bytes: &[u8]) -> Option<Span> {
+    match parts(alloc, bytes) {
+        Some(Ok(parts)) => match parts.globals.get(0) {
+            Some(global) => Some(global.span),
+            None => None,
+        },
+        _ => None,
+    }
+}
+
+/// The first segment.
+fn segment(alloc: Global, bytes: &[u8]) -> Option<DataPart> {
+    match parts(alloc, bytes) {
+        Some(Ok(parts)) => match parts.segments.get(0) {
+            Some(segment) => Some(*segment),
+            None => None,
+        },
+        _ => None,
+    }
+}
+
+/// The target and the number of entries of the first section of relocations.
+fn relocs(alloc: Global, bytes: &[u8]) -> Option<(u32, usize)> {
+    match parts(alloc, bytes) {
+        Some(Ok(parts)) => match parts.relocs.get(0) {
+            Some(relocs) => Some((relocs.target, relocs.entries.len())),
+            None => None,
+        },
+        _ => None,
+    }
+}
+
+/// The section that isn't spelled whole.
+fn fault(alloc: Global, bytes: &[u8]) -> Option<PartsFault> {
+    match parts(alloc, bytes) {
+        Some(Err(fault)) => Some(fault),
+        _ => None,
+    }
+}
+
+/// This stands in this section.
+fn stopped(section: u32, stop: Stop) -> Option<PartsFault> {
+    Some(PartsFault::Stopped(SectionStop { section, stop }))
+}
+
+#[test]
+fn sections_are_read_in_file_order(rt: HostRuntime) {
+    let alloc = rt.alloc();
+    // f calls g, which gives 7
+    let bytes =
+        b"\0asm\x01\0\0\0\x01\x05\x01`\0\x01\x7f\x03\x03\x02\0\0\x0a\x0f\x02\x08\0\x10\x81\x80\x80\x80\0\x0b\x04\0A\x07\x0b\0\x16\x07linking\x02\x08\x0b\x02\0\0\0\x01f\0\0\x01\x01g\0\x10\x0areloc.CODE\x02\x01\0\x04\x01".as_slice();
+    assert_eq!(rt; lengths(alloc, bytes), Some([1, 2, 2, 0, 1]));
+    assert_eq!(rt; metadata(alloc, bytes), Some((true, true)));
+    let spans = [Span { start: 24, len: 8 }, Span { start: 33, len: 4 }];
+    assert_eq!(rt; body(alloc, bytes, 0), Some((spans[0], true)));
+    assert_eq!(rt; body(alloc, bytes, 1), Some((spans[1], true)));
+    assert_eq!(rt; relocs(alloc, bytes), Some((2, 1)));
+    // relocations before the section linking, and a second one of those
+    let bytes = b"\0asm\x01\0\0\0\0\x0d\x0areloc.CODE\x02\0\0\x09\x07linking\x02".as_slice();
+    assert_eq!(rt; metadata(alloc, bytes), Some((true, false)));
+    let bytes = b"\0asm\x01\0\0\0\0\x09\x07linking\x02\0\x09\x07linking\x02".as_slice();
+    assert_eq!(rt; metadata(alloc, bytes), Some((true, false)));
+    // relocations of a custom section, which aren't read
+    let bytes =
+        b"\0asm\x01\0\0\0\0\x09\x07linking\x02\0\x07\x06.debug\0\x0f\x0creloc..debug\x01\xff".as_slice();
+    assert_eq!(rt; relocs(alloc, bytes), Some((1, 0)));
+    // a global and a segment
+    let bytes = b"\0asm\x01\0\0\0\x06\x06\x01\x7f\0A*\x0b\x0b\x08\x01\0A\0\x0b\x02xy".as_slice();
+    assert_eq!(rt; global_span(alloc, bytes), Some(Span { start: 13, len: 3 }));
+    let memory = None;
+    let span = Span { start: 24, len: 2 };
+    assert_eq!(rt; segment(alloc, bytes), Some(DataPart { memory, span }));
+    // an element segment and two exports
+    let bytes =
+        b"\0asm\x01\0\0\0\x07\x09\x02\x01a\0\0\x01m\x02\0\x09\x07\x01\0A\x01\x0b\x01\x01".as_slice();
+    assert_eq!(rt; others(alloc, bytes), Some((1, 2)));
+}
+
+#[test]
+fn the_first_section_at_fault_is_told(rt: HostRuntime) {
+    let alloc = rt.alloc();
+    // the second section has limits that aren't linked, the third is broken
+    let bytes =
+        b"\0asm\x01\0\0\0\x01\x04\x01`\0\0\x02\x09\x01\x03env\x01m\x02\x09\x03\x01\x01".as_slice();
+    let stop = Stop::Foreign(Item::LimitsFlag(9));
+    assert_eq!(rt; fault(alloc, bytes), stopped(1, stop));
+    // a place counts from the object's first byte
+    let bytes = b"\0asm\x01\0\0\0\x01\x06\x01`\x02\x7f\x01{".as_slice();
+    assert_eq!(rt; fault(alloc, bytes), stopped(0, Stop::Broken(14)));
+}

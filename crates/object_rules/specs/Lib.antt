@@ -1,0 +1,9 @@
+pub mod Spaces
+pub mod Differ
+pub mod Indexes
+pub mod Symbols
+pub mod Metadata
+pub mod Relocs
+pub mod Windows
+pub mod Rules
+pub mod Examples

@@ -1,0 +1,93 @@
+//! The names of symbols.
+ghost use Rattle.std.specs.Prelude.{◌≡◌, slice_get, option_copied, IfOk};
+ghost use Rattle.object_rules.specs.Spaces.{ArePlaces};
+ghost use Rattle.object_rules.specs.Symbols.{field_of, import_name, name_of, is_seen, seen_name, names_differ};
+
+use crate::spaces::ImportPlaces;
+use indexmap::IndexSet;
+use linking_section::{Symbol, SymbolKind};
+use std::alloc::Global;
+use wasm_types::Import;
+use wl_base::OutOfMemory;
+
+fn field_at(imports: &[Import], place: usize) -> Option<&[u8]>
+    ensures { option_copied result ≡ field_of (slice_get imports.now place) }
+{
+    match imports.get(place) {
+        None => None,
+        Some(import) => Some(import.field.as_slice()),
+    }
+}
+
+/// The field of the import that a symbol names, where it names one.
+fn import_name<'a>(
+    imports: &'a [Import],
+    places: &ImportPlaces,
+    symbol: &Symbol,
+) -> Option<&'a [u8]>
+    requires { ArePlaces imports.now places.now }
+    ensures { option_copied result ≡ import_name imports.now symbol.now }
+{
+    let place = places.of_kind(symbol.kind).get(symbol.index as usize)?;
+    field_at(imports, *place)
+}
+
+/// The name of a symbol: its own, or the field of the import that it names (Linking.md, 'Symbol
+/// Table Subsection'). `places` are those of the imports.
+pub fn name_of<'a>(
+    imports: &'a [Import],
+    places: &ImportPlaces,
+    symbol: &'a Symbol,
+) -> Option<&'a [u8]>
+    requires { ArePlaces imports.now places.now }
+    ensures { option_copied result ≡ name_of imports.now symbol.now }
+{
+    match &symbol.name {
+        Some(name) => Some(name.as_slice()),
+        None => import_name(imports, places, symbol),
+    }
+}
+
+/// Whether other objects see the symbol's name.
+fn is_seen(symbol: &Symbol) -> bool
+    ensures { result ≡ is_seen symbol.now }
+{
+    !matches!(symbol.kind, SymbolKind::Section) && (symbol.is_undefined() || !symbol.is_local())
+}
+
+/// The symbol's name, if other objects see it.
+fn seen_name<'a>(
+    imports: &'a [Import],
+    places: &ImportPlaces,
+    symbol: &'a Symbol,
+) -> Option<&'a [u8]>
+    requires { ArePlaces imports.now places.now }
+    ensures { option_copied result ≡ seen_name imports.now symbol.now }
+{
+    if is_seen(symbol) {
+        name_of(imports, places, symbol)
+    } else {
+        None
+    }
+}
+
+/// Whether no two of the names that other objects see are equal.
+pub fn names_differ(
+    alloc: Global,
+    imports: &[Import],
+    places: &ImportPlaces,
+    symbols: &[Symbol],
+) -> Result<bool, OutOfMemory>
+    requires { ArePlaces imports.now places.now }
+    ensures { IfOk result (λ differ. differ ≡ names_differ imports.now symbols.now) }
+{
+    let mut seen = IndexSet::new(alloc);
+    for symbol in symbols {
+        if let Some(name) = seen_name(imports, places, symbol) {
+            if !seen.insert(name)? {
+                return Ok(false);
+            }
+        }
+    }
+    Ok(true)
+}

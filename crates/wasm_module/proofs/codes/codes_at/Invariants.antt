@@ -1,0 +1,8 @@
+use Rattle.std.proofs.Common.{◌≡◌, ◌-◌}
+use Rattle.wasm_grammar.specs.Reading.{many_at}
+use Rattle.wasm_grammar.proofs.Loop.{with_front}
+use Rattle.wasm_module.specs.ModuleReading.{code_at}
+use Rattle.wasm_module.proofs.codes.codes_at.Given as goal
+
+abbrev pub invariant-loop : goal.invariant-loop
+invariant-loop l = with_front l.bodies (many_at code_at (l.count - l.counter) l.end l.rest) ≡ many_at code_at l.count l.end l.bytes

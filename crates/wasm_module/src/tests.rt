@@ -1,0 +1,290 @@
+use super::*;
+use std::alloc::Global;
+use std::test::Fail;
+use wasm_grammar::{ReadFault, Stop};
+use wasm_instr::Body;
+use wasm_types::{ConstExpr, GlobalType, Limits, TableType, ValType};
+use wl_base::{Item, OutOfMemory, Seq};
+
+/// Where the last instruction of a body ends.
+fn end_of(body: &Body) -> Option<u32> {
+    match body.code.as_slice() {
+        [.., last] => Some(last.end),
+        [] => None,
+    }
+}
+
+fn table(funcref: bool, min: u32, max: u32) -> TableType {
+    let max = Some(max);
+    let limits = Limits { min, max };
+    TableType { funcref, limits }
+}
+
+#[test]
+fn a_module_is_read_and_written_as_short_as_can_be(rt: HostRuntime) -> Result<(), Fail> {
+    let alloc = rt.alloc();
+    let text =
+        b"\0asm\x01\0\0\0\x01\x05\x01\x60\x00\x01\x7f\x03\x03\x02\x00\x00\x04\x05\x01\x70\x01\x01\x01\x05\x03\x01\x00\x02\x07\x0e\x02\x06memory\x02\x00\x01f\x00\x00\x0a\x0f\x02\x08\x00\x10\x81\x80\x80\x80\x00\x0b\x04\x00\x41\x07\x0b";
+    let m = read(alloc, text.as_slice())?;
+    assert_eq!(rt; m.functions.as_slice(), [0, 0].as_slice());
+    assert_eq!(rt; m.tables.as_slice(), [table(true, 1, 1)].as_slice());
+    assert_eq!(rt;
+        m.memories.as_slice(),
+        [Limits { min: 2, max: None }].as_slice()
+    );
+    assert_eq!(rt; m.data_count, None);
+    assert_eq!(rt; (m.types.len(), m.exports.len(), m.bodies.len()), (1, 2, 2));
+    // the call has its shortest spelling, and the section is four bytes shorter
+    let short =
+        b"\0asm\x01\0\0\0\x01\x05\x01\x60\x00\x01\x7f\x03\x03\x02\x00\x00\x04\x05\x01\x70\x01\x01\x01\x05\x03\x01\x00\x02\x07\x0e\x02\x06memory\x02\x00\x01f\x00\x00\x0a\x0b\x02\x04\x00\x10\x01\x0b\x04\x00\x41\x07\x0b";
+    let written = write(alloc, &m)?;
+    assert_eq!(rt; written.as_slice(), short.as_slice());
+    Ok(())
+}
+
+#[test]
+fn places_are_counted_from_a_body(rt: HostRuntime) -> Result<(), Fail> {
+    let text =
+        b"\0asm\x01\0\0\0\x01\x04\x01\x60\x00\x00\x03\x02\x01\x00\x0a\x09\x01\x07\x00\x10\x80\x80\x00\x1a\x0b";
+    let m = read(rt.alloc(), text.as_slice())?;
+    if let [body] = m.bodies.as_slice() {
+        assert_eq!(rt; end_of(body), Some(7));
+    }
+    assert_eq!(rt; m.bodies.len(), 1);
+    Ok(())
+}
+
+/// Whether these bytes are a module that is written again just so.
+fn stays(alloc: Global, text: &[u8]) -> Result<bool, ModuleFault> {
+    let m = read(alloc, text)?;
+    match write(alloc, &m) {
+        Ok(written) => Ok(written.as_slice() == text),
+        Err(_) => Err(ModuleFault::OutOfMemory),
+    }
+}
+
+#[test]
+fn modules_of_no_padding_are_written_byte_for_byte(rt: HostRuntime) {
+    let alloc = rt.alloc();
+    // the header alone; a table, a memory and an export; and a function of a f64
+    let nothing = b"\0asm\x01\0\0\0";
+    assert_eq!(rt; stays(alloc, nothing.as_slice()), Ok(true));
+    let memory =
+        b"\0asm\x01\0\0\0\x04\x05\x01\x70\x01\x01\x01\x05\x03\x01\x00\x02\x07\x0a\x01\x06memory\x02\x00";
+    assert_eq!(rt; stays(alloc, memory.as_slice()), Ok(true));
+    let of_f64 =
+        b"\0asm\x01\0\0\0\x01\x05\x01\x60\x01\x7c\x00\x03\x02\x01\x00\x04\x05\x01\x70\x01\x01\x01\x05\x03\x01\x00\x02\x07\x0e\x02\x06memory\x02\x00\x01f\x00\x00\x0a\x07\x01\x05\x00\x20\x00\x1a\x0b";
+    assert_eq!(rt; stays(alloc, of_f64.as_slice()), Ok(true));
+}
+
+#[test]
+fn each_section_is_read_and_written(rt: HostRuntime) -> Result<(), Fail> {
+    let alloc = rt.alloc();
+    let text =
+        b"\0asm\x01\0\0\0\x01\x0a\x02\x60\x02\x7f\x7e\x01\x7d\x60\x00\x00\x02\x0e\x02\x01m\x01f\x00\x01\x01m\x01g\x03\x7f\x01\x03\x02\x01\x01\x04\x05\x01\x6f\x01\x01\x02\x05\x03\x01\x00\x01\x06\x0b\x02\x7f\x00\x23\x00\x0b\x7e\x01\x42\x7f\x0b\x07\x09\x02\x01a\x03\x00\x01b\x01\x00\x09\x0e\x02\x00\x41\x00\x0b\x01\x00\x02\x00\x23\x00\x0b\x00\x00\x0c\x01\x02\x0a\x05\x01\x03\x00\x01\x0b\x0b\x0d\x02\x00\x41\x00\x0b\x01\xaa\x02\x00\x41\x01\x0b\x00";
+    assert_eq!(rt; stays(alloc, text.as_slice()), Ok(true));
+    let m = read(alloc, text.as_slice())?;
+    assert_eq!(rt;
+        (
+            m.types.len(),
+            m.imports.len(),
+            m.exports.len(),
+            m.bodies.len()
+        ),
+        (2, 2, 2, 1)
+    );
+    assert_eq!(rt; m.functions.as_slice(), [1].as_slice());
+    assert_eq!(rt; m.tables.as_slice(), [table(false, 1, 2)].as_slice());
+    if let [first, second] = m.globals.as_slice() {
+        assert_eq!(rt;
+            (first.value, second.value),
+            (ConstExpr::Get(0), ConstExpr::I64(-1))
+        );
+    }
+    if let [first, second] = m.elements.as_slice() {
+        assert_eq!(rt; (first.table, first.offset), (None, ConstExpr::I32(0)));
+        assert_eq!(rt; first.functions.as_slice(), [0].as_slice());
+        assert_eq!(rt; (second.table, second.offset), (Some(0), ConstExpr::Get(0)));
+    }
+    assert_eq!(rt; m.data_count, Some(2));
+    if let [first, second] = m.data_segments.as_slice() {
+        assert_eq!(rt; (first.memory, first.offset), (None, ConstExpr::I32(0)));
+        assert_eq!(rt; first.bytes.as_slice(), [0xaa].as_slice());
+        assert_eq!(rt;
+            (second.memory, second.offset),
+            (Some(0), ConstExpr::I32(1))
+        );
+    }
+    Ok(())
+}
+
+#[test]
+fn custom_sections_and_padding_are_read_and_not_written(rt: HostRuntime) -> Result<(), Fail> {
+    let alloc = rt.alloc();
+    let text =
+        b"\0asm\x01\0\0\0\x00\x04\x01a\xff\xfe\x00\x01\x00\x03\x81\x00\x00\x00\x02\x01b\x04\x06\x81\x00\x70\x00\x85\x00\x07\x01\x00\x00\x04\x03\xc3\xa9x";
+    let m = read(alloc, text.as_slice())?;
+    let written = write(alloc, &m)?;
+    let short = b"\0asm\x01\0\0\0\x04\x04\x01\x70\x00\x05";
+    assert_eq!(rt; written.as_slice(), short.as_slice());
+    Ok(())
+}
+
+/// Whether each of these sections behind the header is no module.
+fn are_refused(alloc: Global, cases: &[&[u8]]) -> Result<bool, OutOfMemory> {
+    let mut all = true;
+    for sections in cases {
+        let mut text = Seq::from_slice(alloc, b"\0asm\x01\0\0\0".as_slice())?;
+        text.extend_from_slice(sections)?;
+        all &= read(alloc, text.as_slice()) == Err(ModuleFault::NotModule);
+    }
+    Ok(all)
+}
+
+#[test]
+fn sections_out_of_place_are_refused(rt: HostRuntime) -> Result<(), Fail> {
+    let alloc = rt.alloc();
+    let fault = Err(ModuleFault::NotModule);
+    assert_eq!(rt; stays(alloc, &[]), fault);
+    assert_eq!(rt; stays(alloc, b"\0asm\x02\0\0\0".as_slice()), fault);
+    let cases = [
+        // twice, too late, of no known id, cut short, and with a byte left over
+        b"\x01\x01\x00\x01\x01\x00".as_slice(),
+        b"\x0a\x01\x00\x0c\x01\x00".as_slice(),
+        b"\x02\x01\x00\x01\x01\x00".as_slice(),
+        b"\x0e\x01\x00".as_slice(),
+        b"\x01".as_slice(),
+        b"\x01\x02\x00".as_slice(),
+        b"\x01\x02\x00\x00".as_slice(),
+        // a start section and a section of tags
+        b"\x08\x01\x00".as_slice(),
+        b"\x0d\x01\x00".as_slice(),
+        // a custom section with no name, with a name that is cut off, and with one that isn't UTF-8
+        b"\x00\x00".as_slice(),
+        b"\x00\x02\x02a".as_slice(),
+        b"\x00\x02\x01\xff".as_slice(),
+    ];
+    assert_eq!(rt; are_refused(alloc, &cases)?, true);
+    // and a module that isn't refused
+    assert_eq!(rt; are_refused(alloc, &[b"\x00\x01\x00".as_slice()])?, false);
+    Ok(())
+}
+
+#[test]
+fn contents_of_another_form_are_refused(rt: HostRuntime) -> Result<(), Fail> {
+    let alloc = rt.alloc();
+    let cases = [
+        // a function with no body, a body with no function, and a data count that is another
+        b"\x01\x04\x01\x60\x00\x00\x03\x02\x01\x00".as_slice(),
+        b"\x0a\x04\x01\x02\x00\x0b".as_slice(),
+        b"\x0c\x01\x01".as_slice(),
+        b"\x0c\x01\x00\x0b\x06\x01\x00\x41\x00\x0b\x00".as_slice(),
+        // a body of another size than its own
+        b"\x03\x02\x01\x00\x0a\x05\x01\x03\x00\x0b\x00".as_slice(),
+        // not linked: a value type, limits, an expression, segments, an opcode
+        b"\x01\x05\x01\x60\x01\x7b\x00".as_slice(),
+        b"\x05\x04\x01\x03\x01\x01".as_slice(),
+        b"\x06\x09\x01\x7d\x00\x43\x00\x00\x00\x00\x0b".as_slice(),
+        b"\x0b\x03\x01\x01\x00".as_slice(),
+        b"\x09\x04\x01\x01\x00\x00".as_slice(),
+        b"\x03\x02\x01\x00\x0a\x05\x01\x03\x00\xfd\x0b".as_slice(),
+        // an export of kind 4
+        b"\x07\x05\x01\x01a\x04\x00".as_slice(),
+    ];
+    assert_eq!(rt; are_refused(alloc, &cases)?, true);
+    Ok(())
+}
+
+#[test]
+fn expressions_and_globals_are_read_with_places(rt: HostRuntime) {
+    let rest = [9].as_slice();
+    let get = [0x23, 0x05, 0x0b, 9];
+    let foreign = |byte| Stop::Foreign(Item::ConstExpr(byte));
+    assert_eq!(rt; init_at(true, 10, &get), Ok((ConstExpr::Get(5), rest)));
+    assert_eq!(rt; init_at(false, 10, &get), Err(foreign(0x23)));
+    assert_eq!(rt; init_at(true, 10, &[0x23, 0x05, 0x01]), Err(foreign(0x01)));
+    assert_eq!(rt; init_at(true, 10, &[]), Err(Stop::Broken(10)));
+    let value = ConstExpr::I32(7);
+    assert_eq!(rt;
+        init_at(true, 10, &[0x41, 0x07, 0x0b, 9]),
+        Ok((value, rest))
+    );
+    let kind = GlobalType {
+        kind: ValType::I32,
+        var: true,
+    };
+    assert_eq!(rt;
+        global_at(false, 10, &[0x7f, 0x01, 0x41, 0x07, 0x0b, 9]),
+        Ok((ModuleGlobal { kind, value }, rest))
+    );
+    assert_eq!(rt;
+        global_at(false, 10, &[0x7f, 0x02, 0x41]),
+        Err(Stop::Broken(8))
+    );
+}
+
+#[test]
+fn segments_and_names_are_lent(rt: HostRuntime) {
+    let rest = [9].as_slice();
+    let value = ConstExpr::I32(7);
+    let lent = lent_segment_at(false, 10, &[0x80, 0x00, 0x41, 0x07, 0x0b, 0x02, 1, 2, 9]);
+    assert_eq!(rt; lent, Ok((None, value, [1, 2].as_slice(), rest)));
+    let foreign = |item| Stop::Foreign(item);
+    assert_eq!(rt;
+        lent_segment_at(true, 10, &[0x01]),
+        Err(foreign(Item::PassiveSegment))
+    );
+    assert_eq!(rt;
+        lent_segment_at(true, 10, &[0x03]),
+        Err(foreign(Item::SegmentForm(3)))
+    );
+    let cut = [0x00, 0x41, 0x07, 0x0b, 0x02, 1];
+    assert_eq!(rt; lent_segment_at(true, 10, &cut), Err(Stop::Broken(10)));
+    assert_eq!(rt;
+        lent_name_at(10, &[0x01, 0x66, 9]),
+        Ok((b"f".as_slice(), rest))
+    );
+    assert_eq!(rt; lent_name_at(10, &[0x01, 0xff, 9]), Err(Stop::Broken(7)));
+}
+
+#[test]
+fn exports_and_segments_are_kept(rt: HostRuntime) -> Result<(), Fail> {
+    let alloc = rt.alloc();
+    let broken = |at| ReadFault::Stopped(Stop::Broken(at));
+    let name = Seq::from_slice(alloc, b"f".as_slice())?;
+    let of_function = Export {
+        name,
+        kind: 0,
+        index: 3,
+    };
+    let rest = [9].as_slice();
+    assert_eq!(rt;
+        export_at(alloc, 10, &[0x01, 0x66, 0x00, 0x03, 9]),
+        Ok((of_function, rest))
+    );
+    assert_eq!(rt;
+        export_at(alloc, 10, &[0x01, 0x66, 0x04, 0x03, 9]),
+        Err(broken(7))
+    );
+    let foreign = ReadFault::Stopped(Stop::Foreign(Item::SegmentForm(1)));
+    assert_eq!(rt; element_at(alloc, true, 10, &[0x01, 9]), Err(foreign));
+    let no_kind = [0x02, 0x00, 0x41, 0x00, 0x0b, 0x01];
+    assert_eq!(rt; element_at(alloc, true, 10, &no_kind), Err(broken(9)));
+    let element = Element {
+        table: None,
+        offset: ConstExpr::I32(7),
+        functions: Seq::new(alloc),
+    };
+    let text = [0x00, 0x41, 0x07, 0x0b, 0x00, 9];
+    assert_eq!(rt; element_at(alloc, false, 10, &text), Ok((element, rest)));
+    let segment = DataSegment {
+        memory: None,
+        offset: ConstExpr::I32(7),
+        bytes: Seq::new(alloc),
+    };
+    assert_eq!(rt;
+        data_segment_at(alloc, false, 10, &text),
+        Ok((segment, rest))
+    );
+    Ok(())
+}
