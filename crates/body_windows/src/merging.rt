@@ -135,7 +135,7 @@ impl<'a> Merger<'a> {
         }
         match self.bare {
             Some(place) => Err(Mismatch::BareIndex(place)),
-            None => Ok(self.operands),
+            None => Ok(self.operands.shrunk()),
         }
     }
 }

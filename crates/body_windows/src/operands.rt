@@ -103,6 +103,17 @@ impl Operands {
         }
     }
 
+    /// The same list in no more memory than it needs.
+    pub fn shrunk(self) -> Self
+        ensures { result ≡ self }
+    {
+        Operands {
+            references: shrunk(self.references),
+            counts: shrunk(self.counts),
+            behind: self.behind,
+        }
+    }
+
     /// The whole list.
     pub fn to_list(&self, alloc: Global) -> Result<Seq<Operand>, OutOfMemory>
         ensures { IfOk result (λ list. list ≡ self.now) }
@@ -116,6 +127,15 @@ impl Operands {
         put_numbers(&mut list, self.behind)?;
         Ok(list)
     }
+}
+
+/// The same items in no more memory than they need.
+pub fn shrunk<T: Drop>(items: Seq<T>) -> Seq<T>
+    ensures { result ≡ items }
+{
+    let mut items = items.into_vec();
+    items.shrink_to_fit();
+    Seq::from_vec(items)
 }
 
 /// Puts so many numbers at the end.

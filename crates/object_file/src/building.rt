@@ -6,6 +6,7 @@ use crate::functions::functions_from;
 use crate::names::with_names;
 use crate::object::Object;
 use crate::segments::segments_from;
+use body_windows::shrunk;
 use linking_section::Linking;
 use object_parts::Parts;
 use object_rules::{Counts, relocs_for, start_of};
@@ -68,10 +69,10 @@ pub fn object_from(
         input,
         types,
         imports,
-        functions,
+        functions: shrunk(functions),
         globals,
-        segments,
-        symbols,
+        segments: shrunk(segments),
+        symbols: shrunk(symbols),
         inits: linking.inits,
         groups: linking.groups,
     })

@@ -4,6 +4,7 @@ ghost use Rattle.object_parts.specs.Code.{end_in};
 ghost use Rattle.object_file.specs.Objects.{no_info, window_from, segments_from};
 
 use crate::object::SegmentDef;
+use body_windows::shrunk;
 use linking_section::SegmentInfo;
 use object_parts::DataPart;
 use object_rules::split_before;
@@ -38,7 +39,7 @@ fn windows_from(alloc: Global, base: u64, relocs: &[Reloc]) -> Result<Seq<Reloc>
     for reloc in relocs {
         windows.push(window_from(base, reloc))?;
     }
-    Ok(windows)
+    Ok(shrunk(windows))
 }
 
 /// Where a part of the object ends in a payload that begins at `start`.
