@@ -1,6 +1,8 @@
 -- The operands of a body, and how their list is kept short.
 use Rattle.std.specs.Prelude.{ℕ, ◌+◌, ◌≤◌, Bool, true, false, List, [], ◌∷◌, ◌++◌, replicate}
 use Rattle.body_windows.specs.declared.operand.Operand.{Operand}
+use Rattle.body_windows.specs.declared.operands.Reference.{Reference}
+use Rattle.body_windows.specs.declared.operands.OperandsRef.{OperandsRef}
 use Rattle.body_windows.specs.declared.operand.Operand.TheVariants.{Number, Symbol, TypeRef, TableZero}
 
 -- Whether an operand is more than the number that stands there.
@@ -10,12 +12,15 @@ is_reference (Symbol kind place symbol addend) = true
 is_reference (TypeRef place index) = true
 is_reference TableZero = true
 
--- The list that references stand for, with as many numbers before each as its count says, and some
--- behind the last.
-abbrev pub spread : List Operand → List ℕ → ℕ → List Operand
-spread [] counts behind = replicate behind Number
-spread (r ∷ rs) [] behind = r ∷ spread rs [] behind
-spread (r ∷ rs) (n ∷ ns) behind = replicate n Number ++ (r ∷ spread rs ns behind)
+-- The list that references stand for, with as many numbers before each as it says, and some behind
+-- the last.
+abbrev pub spread : List Reference → ℕ → List Operand
+spread [] behind = replicate behind Number
+spread (r ∷ rs) behind = replicate r.numbers Number ++ (r.operand ∷ spread rs behind)
+
+-- What a lent list tells: the list.
+abbrev pub operands_seen : OperandsRef → List Operand
+operands_seen o = spread o.references.now o.behind
 
 -- The windows of references stand one behind another, each of five bytes, from a place on and up to
 -- an end.

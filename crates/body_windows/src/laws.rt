@@ -5,8 +5,9 @@ ghost use Rattle.wasm_instr.specs.declared.body.Body.{Body};
 ghost use Rattle.wasm_instr.specs.Bodies.{SpellsBody};
 ghost use Rattle.reloc_section.specs.declared.entry.Reloc.{Reloc};
 ghost use Rattle.body_windows.specs.declared.operand.Operand.{Operand};
+ghost use Rattle.body_windows.specs.declared.operands.Reference.{Reference};
 ghost use Rattle.body_windows.specs.Immediates.{immediates, AreInOrder, end_of};
-ghost use Rattle.body_windows.specs.Operands.{is_reference, StandIn};
+ghost use Rattle.body_windows.specs.Operands.{is_reference, spread, StandIn};
 ghost use Rattle.body_windows.specs.Windows.{operand_at, windows_of};
 
 /// The immediates of a body that was read stand one behind another, and its last instruction ends
@@ -28,4 +29,9 @@ pub fn windows_stand_in_bodies()
     ensures all { (base from end : ℕ) (relocs : List Reloc) (body : Body) (operands : List Operand)
         → AreInOrder from end (immediates body.code) → windows_of base relocs body ≡ Ok operands → StandIn from end operands }
     ensures references { (from end : ℕ) (operands : List Operand) → StandIn from end operands → StandIn from end (filter is_reference operands) }
+{}
+
+/// The references that a list of operands is kept as are those of the list.
+pub fn references_are_kept()
+    ensures { (references : List Reference) (behind : ℕ) → filter is_reference (spread references behind) ≡ filter is_reference (map (λ r. r.operand) references) }
 {}

@@ -17,8 +17,10 @@ mod tests;
 
 pub use fault::{Mismatch, WindowFault};
 pub use immediate::{Immediate, ImmediateKind};
-pub use laws::{bodies_are_in_order, operands_are_of_immediates, windows_stand_in_bodies};
+pub use laws::{
+    bodies_are_in_order, operands_are_of_immediates, references_are_kept, windows_stand_in_bodies,
+};
 pub use operand::Operand;
-pub use operands::{Operands, shrunk};
+pub use operands::{Operands, OperandsRef, Reference};
 pub use reading::windows;
 pub use scanning::scan;

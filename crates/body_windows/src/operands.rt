@@ -1,38 +1,53 @@
 //! The operands of a body, kept short.
-ghost use Rattle.std.specs.Prelude.{◌≡◌, ◌++◌, ◌∷◌, [], true, replicate, OnOk, OnErr, IfOk};
-ghost use Rattle.std.specs.List.{filter};
-ghost use Rattle.body_windows.specs.Operands.{is_reference};
+ghost use Rattle.std.specs.Prelude.{◌≡◌, ◌++◌, ◌∷◌, [], replicate, OnOk, OnErr, IfOk};
+ghost use Rattle.body_windows.specs.Operands.{operands_seen};
 ghost use Rattle.body_windows.specs.declared.operand.Operand.TheVariants.{Number};
 
 use crate::operand::Operand;
 use std::alloc::Global;
 use std::marker::Model;
 use wl_base::{OutOfMemory, Seq};
+use wl_lists::shrunk;
+
+/// An operand that is more than a number, among others.
+#[derive(Clone, Copy, Debug, PartialEq, Eq)]
+pub struct Reference {
+    /// How many numbers stand before it, back to the reference before it.
+    pub numbers: u32,
+    /// The operand.
+    pub operand: Operand,
+}
+
+// A link keeps one for each reference of its objects.
+const _: () = prove!(size_of::<Reference>() == 20);
 
 /// A list of operands, which contracts see as that list. Numbers are counted and not kept: most
 /// operands are numbers.
 #[derive(Debug, Drop)]
 pub struct Operands {
     /// The operands that are more than numbers, in order.
-    references: Seq<Operand>,
-    /// How many numbers stand before each of them, back to the one before it.
-    counts: Seq<u32>,
+    references: Seq<Reference>,
     /// How many numbers stand behind the last of them.
     behind: u32,
 }
 
 impl Model for Operands {
-    ghost use Rattle.std.specs.Prelude.{◌≡◌, List, length};
-    ghost use Rattle.std.specs.List.{filter};
+    ghost use Rattle.std.specs.Prelude.{List};
     ghost use Rattle.body_windows.specs.declared.operand.Operand.{Operand};
+    ghost use Rattle.body_windows.specs.Operands.{spread};
 
     ghost Value = { List Operand };
 
-    ghost use Rattle.body_windows.specs.Operands.{spread, is_reference};
+    ghost view = { λ o. spread o.references o.behind };
+}
 
-    ghost view = { λ o. spread o.references o.counts o.behind };
-
-    ghost invariant = { λ o. (length o.references ≡ length o.counts) × (filter is_reference o.references ≡ o.references) };
+/// A list of operands, lent.
+#[derive(Clone, Copy, Debug)]
+pub struct OperandsRef<'a> {
+    /// The operands that are more than numbers, in order.
+    pub references: &'a [Reference],
+    /// How many numbers stand behind the last of them.
+    pub behind: u32,
 }
 
 impl Operands {
@@ -42,16 +57,18 @@ impl Operands {
     {
         Operands {
             references: Seq::new(alloc),
-            counts: Seq::new(alloc),
             behind: 0,
         }
     }
 
-    /// The operands that are more than numbers, in order.
-    pub fn references(&self) -> &[Operand]
-        ensures { result.now ≡ filter is_reference self.now }
+    /// The list, lent.
+    pub fn as_ref(&self) -> OperandsRef<'_>
+        ensures { operands_seen result ≡ self.now }
     {
-        self.references.as_slice()
+        OperandsRef {
+            references: self.references.as_slice(),
+            behind: self.behind,
+        }
     }
 
     /// One number more. A count past 2^32 - 1 is answered as want of memory.
@@ -71,22 +88,14 @@ impl Operands {
 
     /// One reference more.
     #[inline(never)]
-    fn push_reference(&mut self, reference: Operand) -> Result<(), OutOfMemory>
-        requires { is_reference reference ≡ true }
-        ensures ok { OnOk result (self.new ≡ self.old ++ reference ∷ []) }
+    fn push_reference(&mut self, operand: Operand) -> Result<(), OutOfMemory>
+        ensures ok { OnOk result (self.new ≡ self.old ++ operand ∷ []) }
         ensures err { OnErr result (self.new ≡ self.old) }
     {
-        self.counts.push(self.behind)?;
-        match self.references.push(reference) {
-            Ok(()) => {
-                self.behind = 0;
-                Ok(())
-            }
-            Err(e) => {
-                self.counts.pop();
-                Err(e)
-            }
-        }
+        let numbers = self.behind;
+        self.references.push(Reference { numbers, operand })?;
+        self.behind = 0;
+        Ok(())
     }
 
     /// Puts an operand at the end. Where memory is refused the list is as before. A number takes
@@ -109,33 +118,24 @@ impl Operands {
     {
         Operands {
             references: shrunk(self.references),
-            counts: shrunk(self.counts),
             behind: self.behind,
         }
     }
+}
 
+impl OperandsRef<'_> {
     /// The whole list.
-    pub fn to_list(&self, alloc: Global) -> Result<Seq<Operand>, OutOfMemory>
-        ensures { IfOk result (λ list. list ≡ self.now) }
+    pub fn to_list(self, alloc: Global) -> Result<Seq<Operand>, OutOfMemory>
+        ensures { IfOk result (λ list. list ≡ operands_seen self.entry) }
     {
         let mut list = Seq::new(alloc);
-        let counts = self.counts.as_slice();
-        for (at, reference) in self.references.as_slice().iter().enumerate() {
-            put_numbers(&mut list, counts[at])?;
-            list.push(*reference)?;
+        for reference in self.references {
+            put_numbers(&mut list, reference.numbers)?;
+            list.push(reference.operand)?;
         }
         put_numbers(&mut list, self.behind)?;
         Ok(list)
     }
-}
-
-/// The same items in no more memory than they need.
-pub fn shrunk<T: Drop>(items: Seq<T>) -> Seq<T>
-    ensures { result ≡ items }
-{
-    let mut items = items.into_vec();
-    items.shrink_to_fit();
-    Seq::from_vec(items)
 }
 
 /// Puts so many numbers at the end.

@@ -38,7 +38,7 @@ fn type_ref(place: u8) -> Operand {
 
 /// Whether the operands are these.
 fn are(rt: &HostRuntime, operands: &Operands, want: &[Operand]) -> bool {
-    match operands.to_list(rt.alloc()) {
+    match operands.as_ref().to_list(rt.alloc()) {
         Ok(list) => list.as_slice() == want,
         Err(_) => false,
     }
@@ -244,6 +244,15 @@ fn faults_of_the_body_come_first(rt: HostRuntime) {
     );
 }
 
+/// Whether these are the references, each with so many numbers before it.
+fn has_references(operands: &Operands, want: &[(u32, Operand)]) -> bool {
+    let references = operands.as_ref().references;
+    references.len() == want.len()
+        && references.iter().zip(want).all(|(reference, (numbers, operand))| {
+            reference.numbers == *numbers && reference.operand == *operand
+        })
+}
+
 #[test]
 fn operands_are_counted(rt: HostRuntime) {
     let mut operands = Operands::new(rt.alloc());
@@ -260,7 +269,7 @@ fn operands_are_counted(rt: HostRuntime) {
     }
     assert_eq!(rt; are(&rt, &operands, &list), true);
     assert_eq!(rt;
-        operands.references() == [type_ref(7), Operand::TableZero].as_slice(),
+        has_references(&operands, &[(2, type_ref(7)), (0, Operand::TableZero)]),
         true
     );
 }

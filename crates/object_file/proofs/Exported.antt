@@ -1,14 +1,13 @@
 -- The last export of each function, as a loop finds it.
-use Rattle.std.proofs.Common.{◌≡◌, ℕ, zero, suc, ◌+◌, ◌<◌, ◌≤◌, Bool, true, false, cond, ◌&&◌, eqb, ltb, List, [], ◌∷◌, ◌++◌, length, take, get_or, set, Option, Some, None, refl, sym, ap, subst, ◌∙◌, arith, inl, inr, ◌⊎◌}
-use Rattle.std.specs.Prelude.{slice_get, slice_index_or, slice_set}
-use Rattle.std.proofs.lemmas.List.{take_more, take_all, get_or-set_same, get_or-set_other, length-set}
+use Rattle.std.proofs.Common.{◌≡◌, ℕ, ◌+◌, ◌<◌, Bool, true, false, cond, ◌&&◌, eqb, ltb, List, [], ◌∷◌, ◌++◌, length, take, get_or, set, Option, Some, None, refl, sym, ap, ◌∙◌, arith, inl, inr}
+use Rattle.std.proofs.lemmas.List.{take_more, get_or-set_other, length-set}
 use Rattle.std.proofs.lemmas.Option.{slice_get-get_or}
 use Rattle.std.proofs.lemmas.Bool.{ne_eqb, eq-eqb, ltb-false, cases_eq}
 use borrow.Author.Tests.{ltb-true}
 use Rattle.std.proofs.lemmas.Grind.{get_or-set_at}
 use Rattle.wasm_module.specs.declared.parts.Export.{Export}
 use Rattle.object_file.specs.Objects.{last_name, export_name}
-use Rattle.object_file.specs.Exports.{named, name_at, AreLast, noted}
+use Rattle.object_file.specs.Exports.{named, name_at, noted}
 
 -- one export more decides, where it is of the function
 last_more : (index : ℕ) (es : List Export) (e : Export) (name : Option (List ℕ)) → last_name index (es ++ e ∷ []) name ≡ cond (eqb e.kind 0 && eqb e.index index) (Some e.name) (last_name index es name)

@@ -1,5 +1,5 @@
 -- What is read is an object, and an object is read.
-use Rattle.std.proofs.Common.{◌≡◌, ℕ, ◌+◌, ◌^◌, ◌≤◌, ltb, Bool, true, false, cond, List, [], ◌∷◌, length, Result, Ok, Err, Option, Some, None, refl, sym, ap, subst, ◌∙◌}
+use Rattle.std.proofs.Common.{◌≡◌, ℕ, ◌^◌, ◌≤◌, Bool, true, false, cond, List, length, Result, Ok, Err, Option, Some, None, refl, sym, ap}
 use Rattle.std.specs.Prelude.{IfOk, nat_lt}
 use Rattle.std.proofs.lemmas.Bool.{ltb-false, le-ltb}
 use Rattle.wl_base.specs.declared.fault.Fault.{Fault}
@@ -15,7 +15,6 @@ use Rattle.object_parts.proofs.Sections.{parts_found, parts_again}
 use Rattle.object_rules.specs.Rules.{broken_rule}
 use Rattle.object_file.specs.declared.object.Object.{Object}
 use Rattle.object_file.specs.declared.reading.ObjectError.{ObjectError}
-use Rattle.object_file.specs.Objects.{object_from}
 use Rattle.object_file.specs.ObjectOf.{IsObject, agreed, spelled_object, framed_object, object_of, Answers}
 
 ok_is : {x y : Object} → (let r : Result Object Fault = Ok x in r ≡ Ok y) → x ≡ y

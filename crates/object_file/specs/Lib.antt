@@ -1,4 +1,5 @@
 pub mod Objects
+pub mod Building
 pub mod ObjectOf
 pub mod Exports
 pub mod Rows

@@ -1,6 +1,5 @@
 -- An object as it is linked, made of what its sections tell (Linking.md).
-use Rattle.std.specs.Prelude.{ℕ, ◌+◌, ◌-◌, ◌==◌, Bool, ◌&&◌, List, [], ◌∷◌, map, filter, Option, Some, None, Result, Ok, Err, if◌then◌else◌}
-use Rattle.wl_base.specs.declared.span.Span.{Span}
+use Rattle.std.specs.Prelude.{ℕ, ◌+◌, ◌-◌, ◌==◌, ◌&&◌, List, [], ◌∷◌, map, Option, Some, None, Result, Ok, Err, if◌then◌else◌}
 use Rattle.wasm_types.specs.declared.import.Import.{Import}
 use Rattle.wasm_module.specs.declared.parts.Export.{Export}
 use Rattle.wasm_sections.specs.declared.section.SectionSpan.{SectionSpan}
@@ -18,8 +17,8 @@ use Rattle.object_rules.specs.Spaces.{counts_of}
 use Rattle.object_rules.specs.Symbols.{name_of}
 use Rattle.object_rules.specs.Windows.{relocs_for, start_of}
 use Rattle.object_file.specs.declared.object.Object.{Object}
-use Rattle.object_file.specs.declared.object.FunctionDef.{FunctionDef}
-use Rattle.object_file.specs.declared.object.SegmentDef.{SegmentDef}
+use Rattle.object_columns.specs.declared.functions.FunctionDef.{FunctionDef}
+use Rattle.object_columns.specs.declared.segments.SegmentDef.{SegmentDef}
 
 -- ---- functions
 

@@ -1,8 +1,7 @@
 -- An object that is too long is told by its length alone.
-use Rattle.std.specs.Prelude.{◌≡◌, ℕ, ◌+◌, ◌^◌, ◌<◌, List, length, Result, Ok, Err, refl}
+use Rattle.std.specs.Prelude.{◌≡◌, ℕ, ◌+◌, ◌^◌, List, length, Err, refl}
 use Rattle.std.proofs.Common.{arith}
 use Rattle.std.proofs.lemmas.Bool.{lt-ltb}
-use Rattle.wl_base.specs.declared.fault.Fault.{Fault}
 use Rattle.wl_base.specs.declared.fault.Fault.TheVariants.{TooLong}
 use Rattle.object_file.specs.ObjectOf.{object_of}
 

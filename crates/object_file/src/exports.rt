@@ -1,10 +1,10 @@
 //! The names under which an object's functions are exported.
-ghost use Rattle.std.specs.Prelude.{◌≡◌, slice_index_or, None, IfOk};
-ghost use Rattle.object_file.specs.Exports.{AreLast, noted, name_at};
+ghost use Rattle.std.specs.Prelude.{◌≡◌, slice_get, slice_index_or, option_copied, None, IfOk};
+ghost use Rattle.object_file.specs.Exports.{AreLast, noted, named, name_at};
 
 use std::alloc::Global;
 use wasm_module::Export;
-use wl_base::{Name, OutOfMemory, Seq};
+use wl_base::OutOfMemory;
 
 /// For each function, by its index, the place of its last export. Where there is no export at all
 /// the list is empty.
@@ -46,21 +46,21 @@ pub fn place_of(last: &[Option<usize>], index: usize) -> Option<usize>
 }
 
 /// The name of the export at this place, where there is one.
-pub fn name_at(
-    alloc: Global,
-    exports: &[Export],
-    place: Option<usize>,
-) -> Result<Option<Name>, OutOfMemory>
-    ensures { IfOk result (λ name. name ≡ name_at exports.now place) }
+pub fn name_at(exports: &[Export], place: Option<usize>) -> Option<&[u8]>
+    ensures { option_copied result ≡ name_at exports.now place }
 {
-    let Some(place) = place else {
-        return Ok(None);
-    };
+    match place {
+        None => None,
+        Some(place) => name_of(exports, place),
+    }
+}
+
+/// The name of the export at this place, where there is an export.
+fn name_of(exports: &[Export], place: usize) -> Option<&[u8]>
+    ensures { option_copied result ≡ named (slice_get exports.now place) }
+{
     match exports.get(place) {
-        None => Ok(None),
-        Some(export) => {
-            let name = Seq::from_slice(alloc, export.name.as_slice())?;
-            Ok(Some(name))
-        }
+        None => None,
+        Some(export) => Some(export.name.as_slice()),
     }
 }

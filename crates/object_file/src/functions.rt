@@ -1,23 +1,37 @@
 //! The functions of an object.
-ghost use Rattle.std.specs.Prelude.{◌≡◌, ◌+◌, ◌<◌, ◌^◌, length, IfOk};
+ghost use Rattle.std.specs.Prelude.{◌≡◌, ◌+◌, ◌<◌, ◌^◌, length, slice_get, option_copied, IfOk};
 ghost use Rattle.object_file.specs.Objects.{operands_of, functions_from};
 ghost use Rattle.object_file.specs.Exports.{AreLast};
+ghost use Rattle.body_windows.specs.Operands.{operands_seen};
 
 use crate::exports::{last_exports, name_at, place_of};
-use crate::object::FunctionDef;
-use body_windows::{Mismatch, Operands};
+use body_windows::{Mismatch, Operands, OperandsRef};
+use object_columns::{FunctionRef, Functions};
 use object_parts::CodeBody;
 use std::alloc::Global;
 use wasm_module::Export;
-use wl_base::{OutOfMemory, Seq};
+use wl_base::OutOfMemory;
 
 /// The operands of a body.
-fn operands_of(alloc: Global, windows: Result<Operands, Mismatch>) -> Operands
-    ensures { result ≡ operands_of windows }
+fn operands_of(windows: &Result<Operands, Mismatch>) -> OperandsRef<'_>
+    ensures { operands_seen result ≡ operands_of windows.now }
 {
     match windows {
-        Ok(operands) => operands,
-        Err(_) => Operands::new(alloc),
+        Ok(operands) => operands.as_ref(),
+        Err(_) => OperandsRef {
+            references: &[],
+            behind: 0,
+        },
+    }
+}
+
+/// The body at a place.
+fn body_at(bodies: &[CodeBody], at: usize) -> Option<&CodeBody>
+    ensures { option_copied result ≡ slice_get bodies.now at }
+{
+    match bodies.get(at) {
+        Some(body) => Some(body),
+        None => None,
     }
 }
 
@@ -29,24 +43,22 @@ fn named_functions(
     last: &[Option<usize>],
     first: usize,
     types: &[u32],
-    bodies: Seq<CodeBody>,
-) -> Result<Seq<FunctionDef>, OutOfMemory>
+    bodies: &[CodeBody],
+) -> Result<Functions, OutOfMemory>
     requires named { AreLast exports.now (first + length types.now) last.now }
     requires counted { first + length types.now < 2 ^ 64 }
-    ensures { IfOk result (λ functions. functions ≡ functions_from exports.now first types.now bodies) }
+    ensures { IfOk result (λ functions. functions ≡ functions_from exports.now first types.now bodies.now) }
 {
-    let mut functions = Seq::new(alloc);
-    let mut left = bodies.into_vec().into_iter();
+    let mut functions = Functions::new(alloc);
     for (at, type_index) in types.iter().enumerate() {
-        let Some(body) = left.next() else {
+        let Some(body) = body_at(bodies, at) else {
             return Ok(functions);
         };
-        let export_name = name_at(alloc, exports, place_of(last, first + at))?;
-        functions.push(FunctionDef {
+        functions.push(FunctionRef {
             type_index: *type_index,
             span: body.span,
-            operands: operands_of(alloc, body.windows),
-            export_name,
+            operands: operands_of(&body.windows),
+            export_name: name_at(exports, place_of(last, first + at)),
         })?;
     }
     Ok(functions)
@@ -60,12 +72,12 @@ pub fn functions_from(
     first: usize,
     functions: usize,
     types: &[u32],
-    bodies: Seq<CodeBody>,
-) -> Result<Seq<FunctionDef>, OutOfMemory>
+    bodies: &[CodeBody],
+) -> Result<Functions, OutOfMemory>
     requires { functions ≡ first + length types.now }
-    ensures { IfOk result (λ functions. functions ≡ functions_from exports.now first types.now bodies) }
+    ensures { IfOk result (λ functions. functions ≡ functions_from exports.now first types.now bodies.now) }
 {
     let last = last_exports(alloc, functions, exports)?;
     let functions = named_functions(alloc, exports, last.as_slice(), first, types, bodies)?;
-    Ok(functions)
+    Ok(functions.shrunk())
 }

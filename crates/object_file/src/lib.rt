@@ -14,6 +14,6 @@ mod segments;
 #[cfg(test)]
 mod tests;
 
-pub use object::{FunctionDef, Object, SegmentDef};
+pub use object::Object;
 pub use object_parts::GlobalDef;
 pub use reading::{ObjectError, read_object};

@@ -1,25 +1,41 @@
 //! The data segments of an object.
-ghost use Rattle.std.specs.Prelude.{◌≡◌, map, IfOk};
+ghost use Rattle.std.specs.Prelude.{◌≡◌, drop, map, IfOk};
+ghost use Rattle.object_columns.specs.Seen.{segment_seen};
 ghost use Rattle.object_parts.specs.Code.{end_in};
-ghost use Rattle.object_file.specs.Objects.{no_info, window_from, segments_from};
+ghost use Rattle.object_file.specs.Objects.{first_info, window_from, segments_from};
 
-use crate::object::SegmentDef;
-use body_windows::shrunk;
 use linking_section::SegmentInfo;
+use object_columns::{SegmentRef, Segments};
 use object_parts::DataPart;
 use object_rules::split_before;
 use reloc_section::Reloc;
 use std::alloc::Global;
 use wl_base::{OutOfMemory, Seq, Span};
 
-/// What is said of a segment without an info.
-fn no_info(alloc: Global) -> SegmentInfo
-    ensures { result ≡ no_info }
+/// A segment, with the info at its place, or else no name, alignment 1 and no flags.
+fn with_info<'a>(
+    span: Span,
+    infos: &'a [SegmentInfo],
+    at: usize,
+    windows: &'a [Reloc],
+) -> SegmentRef<'a>
+    ensures { segment_seen result ≡ record { span = span; info = first_info (drop at infos.now); windows = windows.now } }
 {
-    SegmentInfo {
-        name: Seq::new(alloc),
-        align: 0,
-        flags: 0,
+    match infos.get(at) {
+        Some(info) => SegmentRef {
+            span,
+            name: info.name.as_slice(),
+            align: info.align,
+            flags: info.flags,
+            windows,
+        },
+        None => SegmentRef {
+            span,
+            name: &[],
+            align: 0,
+            flags: 0,
+            windows,
+        },
     }
 }
 
@@ -39,7 +55,7 @@ fn windows_from(alloc: Global, base: u64, relocs: &[Reloc]) -> Result<Seq<Reloc>
     for reloc in relocs {
         windows.push(window_from(base, reloc))?;
     }
-    Ok(shrunk(windows))
+    Ok(windows)
 }
 
 /// Where a part of the object ends in a payload that begins at `start`.
@@ -55,28 +71,19 @@ pub fn segments_from(
     alloc: Global,
     start: u64,
     relocs: &[Reloc],
-    infos: Seq<SegmentInfo>,
+    infos: &[SegmentInfo],
     parts: &[DataPart],
-) -> Result<Seq<SegmentDef>, OutOfMemory>
-    ensures { IfOk result (λ segments. segments ≡ segments_from start relocs.now infos parts.now) }
+) -> Result<Segments, OutOfMemory>
+    ensures { IfOk result (λ segments. segments ≡ segments_from start relocs.now infos.now parts.now) }
 {
-    let mut segments = Seq::new(alloc);
-    let mut infos = infos.into_vec().into_iter();
+    let mut segments = Segments::new(alloc);
     let mut left = relocs;
-    for part in parts {
+    for (at, part) in parts.iter().enumerate() {
         let span = part.span;
         let (own, behind) = split_before(end_in(start, span), left);
-        let info = match infos.next() {
-            Some(info) => info,
-            None => no_info(alloc),
-        };
         let windows = windows_from(alloc, span.start.saturating_sub(start), own)?;
-        segments.push(SegmentDef {
-            span,
-            info,
-            windows,
-        })?;
+        segments.push(with_info(span, infos, at, windows.as_slice()))?;
         left = behind;
     }
-    Ok(segments)
+    Ok(segments.shrunk())
 }

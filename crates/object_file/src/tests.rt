@@ -408,8 +408,8 @@ fn lengths(alloc: Global, bytes: &[u8]) -> Option<[usize; 8]> {
 fn is_named(alloc: Global, bytes: &[u8], at: usize, name: &[u8]) -> bool {
     match read_object(alloc, 1, bytes) {
         Ok(object) => match object.symbols.get(at) {
-            Some(symbol) => match &symbol.name {
-                Some(own) => own.as_slice() == name,
+            Some(symbol) => match symbol.name {
+                Some(own) => own == name,
                 None => false,
             },
             None => false,
@@ -433,8 +433,8 @@ fn function(alloc: Global, bytes: &[u8], at: usize) -> Option<(Span, bool)> {
 fn is_exported(alloc: Global, bytes: &[u8], at: usize, name: &[u8]) -> bool {
     match read_object(alloc, 1, bytes) {
         Ok(object) => match object.functions.get(at) {
-            Some(function) => match &function.export_name {
-                Some(own) => own.as_slice() == name,
+            Some(function) => match function.export_name {
+                Some(own) => own == name,
                 None => false,
             },
             None => false,
@@ -461,7 +461,7 @@ fn has_operands(alloc: Global, bytes: &[u8], operands: &[Operand]) -> bool {
 fn segment(alloc: Global, bytes: &[u8], at: usize) -> Option<(Span, usize, u32)> {
     match read_object(alloc, 1, bytes) {
         Ok(object) => match object.segments.get(at) {
-            Some(segment) => Some((segment.span, segment.info.name.len(), segment.info.align)),
+            Some(segment) => Some((segment.span, segment.name.len(), segment.align)),
             None => None,
         },
         Err(_) => None,
@@ -472,7 +472,7 @@ fn segment(alloc: Global, bytes: &[u8], at: usize) -> Option<(Span, usize, u32)>
 fn has_windows(alloc: Global, bytes: &[u8], at: usize, windows: &[Reloc]) -> bool {
     match read_object(alloc, 1, bytes) {
         Ok(object) => match object.segments.get(at) {
-            Some(segment) => segment.windows.as_slice() == windows,
+            Some(segment) => segment.windows == windows,
             None => false,
         },
         Err(_) => false,

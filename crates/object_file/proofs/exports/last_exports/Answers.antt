@@ -1,4 +1,4 @@
-use Rattle.std.proofs.Common.{◌≡◌, ◌+◌, length, take, drop, ◌++◌, subst, sym, arith, Option}
+use Rattle.std.proofs.Common.{◌≡◌, ◌+◌, length, drop, subst, sym, arith}
 use Rattle.std.proofs.lemmas.List.{take_at}
 use Rattle.wasm_module.specs.declared.parts.Export.{Export}
 use Rattle.object_file.specs.Exports.{noted}

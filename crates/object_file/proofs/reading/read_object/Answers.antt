@@ -1,4 +1,4 @@
-use Rattle.std.proofs.Common.{subst, sym}
+use Rattle.std.proofs.Common.{subst}
 use Rattle.object_file.specs.ObjectOf.{Answers}
 use Rattle.object_file.proofs.Read.{is_object, object_again}
 use Rattle.object_file.proofs.reading.read_object.Goals as goal

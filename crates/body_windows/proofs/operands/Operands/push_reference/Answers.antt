@@ -1,8 +1,9 @@
-use Rattle.std.proofs.Common.{sym}
+use Rattle.std.proofs.Common.{◌∙◌, ◌++◌, ◌∷◌, [], ap}
+use Rattle.body_windows.specs.Operands.{spread}
 use Rattle.body_windows.proofs.Spread.{spread_reference}
 use Rattle.body_windows.proofs.operands.Operands.push_reference.Goals as goal
 
-pub returns-in-Ok-clause-ok : goal.returns-in-Ok-clause-ok
-returns-in-Ok-clause-ok c =
+pub returns-clause-ok : goal.returns-clause-ok
+returns-clause-ok c =
     let o = c.self.inside in
-    rw (c.in-Ok.ensures.ok, c.in_ok-push.ensures.ok, sym c.self.view_is) (spread_reference o.references o.counts o.behind c.args.reference c.self.invariant.0)
+    ap (λ rs. spread rs 0) c.in_ok-push.ensures.ok ∙ spread_reference o.references o.behind c.args.operand ∙ ap (λ xs. xs ++ c.args.operand ∷ []) c.self.view_is
