@@ -6,7 +6,7 @@ use Rattle.std.proofs.lemmas.List.{at_drop_more, drop_all}
 use Rattle.body_windows.specs.declared.operand.Operand.{Operand}
 use Rattle.body_windows.specs.declared.operand.Operand.TheVariants.{Number}
 use Rattle.body_windows.specs.declared.operands.Reference.{Reference}
-use Rattle.body_windows.specs.Operands.{is_reference, spread}
+use Rattle.body_windows.specs.Operands.{is_reference, operand_of, spread}
 
 replicate_more : (n : ℕ) → replicate (suc n) Number ≡ replicate n Number ++ Number ∷ []
 replicate_more zero = refl
@@ -16,15 +16,15 @@ replicate_more (suc n) = ap (λ (xs : List Operand). Number ∷ xs) (replicate_m
 pub spread_number : (rs : List Reference) (n : ℕ) → spread rs (suc n) ≡ spread rs n ++ Number ∷ []
 spread_number [] n = replicate_more n
 spread_number (r ∷ rs) n =
-    ap (λ (xs : List Operand). replicate r.numbers Number ++ (r.operand ∷ xs)) (spread_number rs n)
-    ∙ sym (append_assoc (replicate r.numbers Number) (r.operand ∷ spread rs n) (Number ∷ []))
+    ap (λ (xs : List Operand). replicate r.numbers Number ++ (operand_of r ∷ xs)) (spread_number rs n)
+    ∙ sym (append_assoc (replicate r.numbers Number) (operand_of r ∷ spread rs n) (Number ∷ []))
 
 -- one reference more
-pub spread_reference : (rs : List Reference) (n : ℕ) (operand : Operand) → spread (rs ++ record { numbers = n; operand = operand } ∷ []) 0 ≡ spread rs n ++ operand ∷ []
-spread_reference [] n operand = refl
-spread_reference (r ∷ rs) n operand =
-    ap (λ (xs : List Operand). replicate r.numbers Number ++ (r.operand ∷ xs)) (spread_reference rs n operand)
-    ∙ sym (append_assoc (replicate r.numbers Number) (r.operand ∷ spread rs n) (operand ∷ []))
+pub spread_reference : (rs : List Reference) (kept : Reference) → spread (rs ++ kept ∷ []) 0 ≡ spread rs kept.numbers ++ operand_of kept ∷ []
+spread_reference [] kept = refl
+spread_reference (r ∷ rs) kept =
+    ap (λ (xs : List Operand). replicate r.numbers Number ++ (operand_of r ∷ xs)) (spread_reference rs kept)
+    ∙ sym (append_assoc (replicate r.numbers Number) (operand_of r ∷ spread rs kept.numbers) (operand_of kept ∷ []))
 
 filter_numbers : (n : ℕ) (xs : List Operand) → filter is_reference (replicate n Number ++ xs) ≡ filter is_reference xs
 filter_numbers zero xs = refl
@@ -35,20 +35,20 @@ filter_none zero = refl
 filter_none (suc n) = filter_none n
 
 -- the references are those of the list
-pub filter_spread : (rs : List Reference) (n : ℕ) → filter is_reference (spread rs n) ≡ filter is_reference (map (λ r. r.operand) rs)
+pub filter_spread : (rs : List Reference) (n : ℕ) → filter is_reference (spread rs n) ≡ filter is_reference (map operand_of rs)
 filter_spread [] n = filter_none n
 filter_spread (r ∷ rs) n =
-    filter_numbers r.numbers (r.operand ∷ spread rs n) ∙ ap (λ (xs : List Operand). cond (is_reference r.operand) (r.operand ∷ xs) xs) (filter_spread rs n)
+    filter_numbers r.numbers (operand_of r ∷ spread rs n) ∙ ap (λ (xs : List Operand). cond (is_reference (operand_of r)) (operand_of r ∷ xs) xs) (filter_spread rs n)
 
 -- a list and what is still to be put behind it
 pub spread_step : (list : List Operand) (rs : List Reference) (behind i : ℕ) (d : Reference) → i < length rs
-    → ((list ++ replicate (get_or rs i d).numbers Number) ++ (get_or rs i d).operand ∷ []) ++ spread (drop (i + 1) rs) behind ≡ list ++ spread (drop i rs) behind
+    → ((list ++ replicate (get_or rs i d).numbers Number) ++ operand_of (get_or rs i d) ∷ []) ++ spread (drop (i + 1) rs) behind ≡ list ++ spread (drop i rs) behind
 spread_step list rs behind i d lt =
     let r : Reference = get_or rs i d in
     let here : drop i rs ≡ r ∷ drop (i + 1) rs = at_drop_more (λ xs. xs) rs i d lt in
     let rest : List Operand = spread (drop (i + 1) rs) behind in
-    append_assoc (list ++ replicate r.numbers Number) (r.operand ∷ []) rest
-    ∙ append_assoc list (replicate r.numbers Number) (r.operand ∷ rest)
+    append_assoc (list ++ replicate r.numbers Number) (operand_of r ∷ []) rest
+    ∙ append_assoc list (replicate r.numbers Number) (operand_of r ∷ rest)
     ∙ sym (rw here refl)
 
 pub spread_done : (list : List Operand) (rs : List Reference) (behind i : ℕ) → length rs ≤ i → list ++ spread (drop i rs) behind ≡ list ++ replicate behind Number

@@ -7,7 +7,7 @@ ghost use Rattle.reloc_section.specs.declared.entry.Reloc.{Reloc};
 ghost use Rattle.body_windows.specs.declared.operand.Operand.{Operand};
 ghost use Rattle.body_windows.specs.declared.operands.Reference.{Reference};
 ghost use Rattle.body_windows.specs.Immediates.{immediates, AreInOrder, end_of};
-ghost use Rattle.body_windows.specs.Operands.{is_reference, spread, StandIn};
+ghost use Rattle.body_windows.specs.Operands.{is_reference, operand_of, spread, StandIn};
 ghost use Rattle.body_windows.specs.Windows.{operand_at, windows_of};
 
 /// The immediates of a body that was read stand one behind another, and its last instruction ends
@@ -33,5 +33,5 @@ pub fn windows_stand_in_bodies()
 
 /// The references that a list of operands is kept as are those of the list.
 pub fn references_are_kept()
-    ensures { (references : List Reference) (behind : ℕ) → filter is_reference (spread references behind) ≡ filter is_reference (map (λ r. r.operand) references) }
+    ensures { (references : List Reference) (behind : ℕ) → filter is_reference (spread references behind) ≡ filter is_reference (map operand_of references) }
 {}

@@ -1,6 +1,6 @@
 //! The operands of a body, kept short.
 ghost use Rattle.std.specs.Prelude.{◌≡◌, ◌++◌, ◌∷◌, [], replicate, OnOk, OnErr, IfOk};
-ghost use Rattle.body_windows.specs.Operands.{operands_seen};
+ghost use Rattle.body_windows.specs.Operands.{operand_of, operands_seen};
 ghost use Rattle.body_windows.specs.declared.operand.Operand.TheVariants.{Number};
 
 use crate::operand::Operand;
@@ -9,26 +9,107 @@ use std::marker::Model;
 use wl_base::{OutOfMemory, Seq};
 use wl_lists::shrunk;
 
-/// An operand that is more than a number, among others.
+/// What an operand is.
+#[derive(Clone, Copy, Debug, PartialEq, Eq)]
+enum Shape {
+    Number,
+    Symbol,
+    TypeRef,
+    TableZero,
+}
+
+/// An operand among others, kept short. Fields that it doesn't have are 0.
 #[derive(Clone, Copy, Debug, PartialEq, Eq)]
 pub struct Reference {
-    /// How many numbers stand before it, back to the reference before it.
-    pub numbers: u32,
-    /// The operand.
-    pub operand: Operand,
+    shape: Shape,
+    kind: u8,
+    numbers: u16,
+    place: u32,
+    index: u32,
+    addend: i32,
 }
 
 // A link keeps one for each reference of its objects.
-const _: () = prove!(size_of::<Reference>() == 20);
+const _: () = prove!(size_of::<Reference>() == 16);
 
-/// A list of operands, which contracts see as that list. Numbers are counted and not kept: most
-/// operands are numbers.
+impl Reference {
+    /// The operand, with so many numbers before it.
+    fn of(numbers: u16, operand: Operand) -> Self
+        ensures numbers { result.numbers ≡ numbers }
+        ensures operand { operand_of result ≡ operand }
+    {
+        let none = Reference {
+            shape: Shape::Number,
+            kind: 0,
+            numbers,
+            place: 0,
+            index: 0,
+            addend: 0,
+        };
+        match operand {
+            Operand::Number => none,
+            Operand::Symbol {
+                kind,
+                place,
+                symbol,
+                addend,
+            } => Reference {
+                shape: Shape::Symbol,
+                kind,
+                numbers,
+                place,
+                index: symbol,
+                addend,
+            },
+            Operand::TypeRef { place, index } => Reference {
+                shape: Shape::TypeRef,
+                place,
+                index,
+                ..none
+            },
+            Operand::TableZero => Reference {
+                shape: Shape::TableZero,
+                ..none
+            },
+        }
+    }
+
+    /// How many numbers stand before it, back to the reference before it.
+    pub fn numbers(&self) -> u16
+        ensures { result ≡ self.now.numbers }
+    {
+        self.numbers
+    }
+
+    /// The operand.
+    pub fn operand(&self) -> Operand
+        ensures { result ≡ operand_of self.now }
+    {
+        match self.shape {
+            Shape::Number => Operand::Number,
+            Shape::Symbol => Operand::Symbol {
+                kind: self.kind,
+                place: self.place,
+                symbol: self.index,
+                addend: self.addend,
+            },
+            Shape::TypeRef => Operand::TypeRef {
+                place: self.place,
+                index: self.index,
+            },
+            Shape::TableZero => Operand::TableZero,
+        }
+    }
+}
+
+/// A list of operands, which contracts see as that list. Numbers are counted and not kept, but for one
+/// in 2^16: most operands are numbers.
 #[derive(Debug, Drop)]
 pub struct Operands {
-    /// The operands that are more than numbers, in order.
+    /// The operands that are kept, in order.
     references: Seq<Reference>,
     /// How many numbers stand behind the last of them.
-    behind: u32,
+    behind: u16,
 }
 
 impl Model for Operands {
@@ -44,10 +125,11 @@ impl Model for Operands {
 /// A list of operands, lent.
 #[derive(Clone, Copy, Debug)]
 pub struct OperandsRef<'a> {
-    /// The operands that are more than numbers, in order.
+    /// The operands that are kept, in order: those that are more than numbers, and a number where 2^16
+    /// stand in a row.
     pub references: &'a [Reference],
     /// How many numbers stand behind the last of them.
-    pub behind: u32,
+    pub behind: u16,
 }
 
 impl Operands {
@@ -71,7 +153,7 @@ impl Operands {
         }
     }
 
-    /// One number more. A count past 2^32 - 1 is answered as want of memory.
+    /// One number more.
     #[inline(always)]
     fn push_number(&mut self) -> Result<(), OutOfMemory>
         ensures ok { OnOk result (self.new ≡ self.old ++ Number ∷ []) }
@@ -82,24 +164,23 @@ impl Operands {
                 self.behind = behind;
                 Ok(())
             }
-            None => Err(OutOfMemory),
+            None => self.push_reference(Operand::Number),
         }
     }
 
-    /// One reference more.
+    /// One operand more, which is kept.
     #[inline(never)]
     fn push_reference(&mut self, operand: Operand) -> Result<(), OutOfMemory>
         ensures ok { OnOk result (self.new ≡ self.old ++ operand ∷ []) }
         ensures err { OnErr result (self.new ≡ self.old) }
     {
-        let numbers = self.behind;
-        self.references.push(Reference { numbers, operand })?;
+        self.references.push(Reference::of(self.behind, operand))?;
         self.behind = 0;
         Ok(())
     }
 
     /// Puts an operand at the end. Where memory is refused the list is as before. A number takes
-    /// memory only where 2^32 of them stand in a row.
+    /// memory only where 2^16 of them stand in a row.
     #[inline(always)]
     pub fn push(&mut self, operand: Operand) -> Result<(), OutOfMemory>
         ensures ok { OnOk result (self.new ≡ self.old ++ operand ∷ []) }
@@ -130,8 +211,8 @@ impl OperandsRef<'_> {
     {
         let mut list = Seq::new(alloc);
         for reference in self.references {
-            put_numbers(&mut list, reference.numbers)?;
-            list.push(reference.operand)?;
+            put_numbers(&mut list, reference.numbers())?;
+            list.push(reference.operand())?;
         }
         put_numbers(&mut list, self.behind)?;
         Ok(list)
@@ -139,7 +220,7 @@ impl OperandsRef<'_> {
 }
 
 /// Puts so many numbers at the end.
-fn put_numbers(list: &mut Seq<Operand>, count: u32) -> Result<(), OutOfMemory>
+fn put_numbers(list: &mut Seq<Operand>, count: u16) -> Result<(), OutOfMemory>
     ensures { OnOk result (list.new ≡ list.old ++ replicate count Number) }
 {
     for _ in 0..count {

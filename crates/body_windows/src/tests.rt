@@ -245,11 +245,11 @@ fn faults_of_the_body_come_first(rt: HostRuntime) {
 }
 
 /// Whether these are the references, each with so many numbers before it.
-fn has_references(operands: &Operands, want: &[(u32, Operand)]) -> bool {
+fn has_references(operands: &Operands, want: &[(u16, Operand)]) -> bool {
     let references = operands.as_ref().references;
     references.len() == want.len()
         && references.iter().zip(want).all(|(reference, (numbers, operand))| {
-            reference.numbers == *numbers && reference.operand == *operand
+            reference.numbers() == *numbers && reference.operand() == *operand
         })
 }
 

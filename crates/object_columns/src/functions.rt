@@ -4,6 +4,7 @@ ghost use Rattle.object_columns.specs.Columns.{function_of};
 ghost use Rattle.object_columns.specs.Seen.{function_seen};
 
 use crate::name::{maybe, split};
+use crate::short_span::ShortSpan;
 use body_windows::{Operands, OperandsRef, Reference};
 use std::alloc::Global;
 use std::marker::Model;
@@ -39,12 +40,15 @@ pub struct FunctionRef<'a> {
 /// A function without its references and its name.
 #[derive(Clone, Copy, Debug)]
 pub struct FunctionRow {
-    span: Span,
+    span: ShortSpan,
     type_index: u32,
     /// How many numbers stand behind its last reference.
-    behind: u32,
+    behind: u16,
     is_exported: bool,
 }
+
+// A link keeps one for each function of its objects.
+const _: () = prove!(size_of::<FunctionRow>() == 16);
 
 impl FunctionRow {
     /// The function of these references and this name.
@@ -53,7 +57,7 @@ impl FunctionRow {
     {
         FunctionRef {
             type_index: self.type_index,
-            span: self.span,
+            span: self.span.span(),
             operands: OperandsRef {
                 references,
                 behind: self.behind,
@@ -119,15 +123,17 @@ impl Functions {
         Some(row.with(references, name))
     }
 
-    /// Puts a function at the end. Where memory is refused the list is as before.
+    /// Puts a function at the end. Where memory is refused the list is as before. A
+    /// span past 2^32 - 1 is answered as want of memory.
     pub fn push(&mut self, function: FunctionRef<'_>) -> Result<(), OutOfMemory>
         ensures ok { OnOk result (self.new ≡ self.old ++ function_seen function.entry ∷ []) }
         ensures err { OnErr result (self.new ≡ self.old) }
     {
+        let span = ShortSpan::of(function.span)?;
         let len = self.rows.len();
         let (is_exported, name) = split(function.export_name);
         self.rows.push(FunctionRow {
-            span: function.span,
+            span,
             type_index: function.type_index,
             behind: function.operands.behind,
             is_exported,

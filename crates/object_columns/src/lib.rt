@@ -7,6 +7,7 @@ mod functions;
 mod imports;
 mod name;
 mod segments;
+mod short_span;
 mod symbols;
 #[cfg(test)]
 mod tests;

@@ -2,6 +2,7 @@
 ghost use Rattle.std.specs.Prelude.{◌≡◌, ◌++◌, ◌∷◌, [], length, slice_get, option_map, OnOk, OnErr};
 ghost use Rattle.object_columns.specs.Seen.{segment_seen};
 
+use crate::short_span::ShortSpan;
 use linking_section::SegmentInfo;
 use reloc_section::Reloc;
 use std::alloc::Global;
@@ -38,10 +39,13 @@ pub struct SegmentRef<'a> {
 /// A segment without its name and relocations.
 #[derive(Clone, Copy, Debug)]
 pub struct SegmentRow {
-    span: Span,
+    span: ShortSpan,
     align: u32,
     flags: u32,
 }
+
+// A link keeps one for each segment of its objects.
+const _: () = prove!(size_of::<SegmentRow>() == 16);
 
 /// A list of data segments, which contracts see as that list.
 #[derive(Debug, Drop)]
@@ -96,7 +100,7 @@ impl Segments {
             return None;
         };
         Some(SegmentRef {
-            span: row.span,
+            span: row.span.span(),
             name,
             align: row.align,
             flags: row.flags,
@@ -104,14 +108,16 @@ impl Segments {
         })
     }
 
-    /// Puts a segment at the end. Where memory is refused the list is as before.
+    /// Puts a segment at the end. Where memory is refused the list is as before. A
+    /// span past 2^32 - 1 is answered as want of memory.
     pub fn push(&mut self, segment: SegmentRef<'_>) -> Result<(), OutOfMemory>
         ensures ok { OnOk result (self.new ≡ self.old ++ segment_seen segment.entry ∷ []) }
         ensures err { OnErr result (self.new ≡ self.old) }
     {
+        let span = ShortSpan::of(segment.span)?;
         let len = self.rows.len();
         self.rows.push(SegmentRow {
-            span: segment.span,
+            span,
             align: segment.align,
             flags: segment.flags,
         })?;

@@ -1,5 +1,7 @@
-use Rattle.std.proofs.Common.{◌∙◌, sym, ap}
+use Rattle.std.proofs.Common.{Some, ◌∙◌, sym, ap}
 use Rattle.std.specs.Prelude.{slice_get, option_copied}
+use Rattle.wl_base.specs.declared.span.Span.{Span}
+use Rattle.object_columns.specs.declared.segments.SegmentDef.{SegmentDef}
 use Rattle.object_columns.specs.Columns.{segment_of}
 use Rattle.object_columns.proofs.Joined.{three_at, three_none_first, three_none_second, three_none_third}
 use Rattle.object_columns.proofs.segments.Segments.get.Goals as goal
@@ -22,5 +24,7 @@ returns-in_default-get-2 c =
 pub returns : goal.returns
 returns c =
     let o = c.self.inside in
-    sym (three_at segment_of o.rows o.names o.windows c.args.at c.in-Some.row.now c.in-Some-get.name.now c.in-Some-get-2.windows.now (sym c.get.ensures ∙ ap option_copied c.in-Some.is) (sym c.get-2.ensures ∙ ap option_copied c.in-Some-get.is) (sym c.get-3.ensures ∙ ap option_copied c.in-Some-get-2.is))
+    let of : Span → SegmentDef = λ span. record { span = span; info = record { name = c.in-Some-get.name.now; align = c.in-Some.row.now.align; flags = c.in-Some.row.now.flags }; windows = c.in-Some-get-2.windows.now } in
+    ap (λ span. Some (of span)) c.span.ensures
+    ∙ sym (three_at segment_of o.rows o.names o.windows c.args.at c.in-Some.row.now c.in-Some-get.name.now c.in-Some-get-2.windows.now (sym c.get.ensures ∙ ap option_copied c.in-Some.is) (sym c.get-2.ensures ∙ ap option_copied c.in-Some-get.is) (sym c.get-3.ensures ∙ ap option_copied c.in-Some-get-2.is))
     ∙ ap (λ list. slice_get list c.args.at) c.self.view_is

@@ -1,0 +1,4 @@
+mod Works
+mod Joints
+mod Reaches
+mod Graphs

@@ -1,0 +1,5 @@
+pub mod Asks
+pub mod Shares
+pub mod Plans
+pub mod Going
+pub mod Graphs

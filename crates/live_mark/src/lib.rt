@@ -1,0 +1,14 @@
+//! Which chunks are live: workers mark what the roots reach, in rounds.
+#![tactic(auto)]
+
+mod edges;
+mod found;
+mod plan;
+mod rounds;
+mod share;
+#[cfg(test)]
+mod tests;
+mod work;
+
+pub use edges::Edges;
+pub use rounds::live;

@@ -1,0 +1,167 @@
+//! Graphs that are marked on real threads.
+ghost use Rattle.std.specs.Prelude.{◌≡◌, length, IsTrue};
+ghost use Rattle.live_mark.specs.Asks.{Below, AllBelow};
+ghost use Rattle.live_mark.specs.Graphs.{all_below, rows_below};
+
+use crate::{Edges, live};
+use mark_bits::MarkSet;
+use std::alloc::Global;
+use std::sync::atomic::{AtomicU64, Ordering};
+use std::test::Fail;
+use std::thread::Threads;
+use wl_base::{OutOfMemory, Seq};
+use wl_fan::Workers;
+use wl_outside::{Gate, OpenGate, Phase};
+
+// Holds the first job that comes until a second one has come, for a number of turns.
+#[derive(Drop)]
+struct Meeting {
+    came: AtomicU64,
+    late: AtomicU64,
+}
+
+impl Gate for Meeting {
+    fn turn(&self, _phase: Phase, _worker: u32, _job: u32) {
+        if self.came.fetch_add(1, Ordering::SeqCst) > 0 {
+            return;
+        }
+        for _ in 0..100_000_000u64 {
+            if self.came.load(Ordering::SeqCst) > 1 {
+                return;
+            }
+        }
+        self.late.store(1, Ordering::SeqCst);
+    }
+}
+
+// Keeps the greatest number of a worker that came.
+#[derive(Drop)]
+struct Greatest {
+    worker: AtomicU64,
+}
+
+impl Gate for Greatest {
+    fn turn(&self, _phase: Phase, worker: u32, _job: u32) {
+        self.worker.fetch_max(u64::from(worker), Ordering::SeqCst);
+    }
+}
+
+fn in_range(count: usize, chunks: &[u32]) -> bool
+    ensures { result ≡ all_below count chunks.now }
+{
+    chunks.iter().all(|chunk| (*chunk as usize) < count)
+}
+
+fn rows_in_range(count: usize, rows: &[Seq<u32>]) -> bool
+    ensures { result ≡ rows_below count rows.now }
+{
+    rows.iter().all(|row| in_range(count, row.as_slice()))
+}
+
+// The marked chunks, where the numbers may be asked for.
+#[tactic(auto, using(crate::proofs::Graphs::below_from, crate::proofs::Graphs::all_below_from))]
+fn marked<G: Gate, R: Threads + Sync>(
+    rt: &R,
+    alloc: Global,
+    edges: &Edges,
+    roots: &[u32],
+    workers: u32,
+    gate: &G,
+) -> Option<MarkSet> {
+    let workers = Workers::new(workers)?;
+    let count = edges.targets.len();
+    if count >= 1 << 32 || roots.len() >= 1 << 32 {
+        return None;
+    }
+    if !in_range(count, roots) {
+        return None;
+    }
+    if !rows_in_range(count, edges.targets.as_slice()) {
+        return None;
+    }
+    live(rt, alloc, edges, roots, workers, gate).ok()
+}
+
+// 0 refers to 1 and 2, these to 3, and 4 stands by itself.
+fn diamond(alloc: Global) -> Result<Edges, OutOfMemory> {
+    let mut targets = Seq::new(alloc);
+    for row in [
+        [1u32, 2].as_slice(),
+        [3].as_slice(),
+        [3].as_slice(),
+        [].as_slice(),
+        [].as_slice(),
+    ] {
+        targets.push(Seq::from_slice(alloc, row)?)?;
+    }
+    Ok(Edges { targets })
+}
+
+// 0 refers to 9,000 chunks, each of these to one more, and the first of those to a further one. The last
+// chunk stands by itself.
+fn wide(alloc: Global) -> Result<Edges, OutOfMemory> {
+    let mut targets = Seq::new(alloc);
+    let mut all = Seq::new(alloc);
+    for chunk in 1..=9000u32 {
+        all.push(chunk)?;
+    }
+    targets.push(all)?;
+    for chunk in 9001..=18001u32 {
+        targets.push(Seq::from_slice(alloc, [chunk].as_slice())?)?;
+    }
+    for _ in 0..9001 {
+        targets.push(Seq::new(alloc))?;
+    }
+    Ok(Edges { targets })
+}
+
+#[test]
+fn marks_what_the_roots_reach(rt: HostRuntime) -> Result<(), Fail> {
+    let edges = diamond(rt.alloc())?;
+    for workers in [1u32, 2, 64] {
+        let set = marked(&rt, rt.alloc(), &edges, &[0], workers, &OpenGate).ok_or("marks")?;
+        assert_eq!(rt; set.chunks, 5);
+        assert_eq!(rt; set.words.as_slice(), [15].as_slice());
+    }
+    Ok(())
+}
+
+#[test]
+fn no_roots_reach_nothing(rt: HostRuntime) -> Result<(), Fail> {
+    let edges = diamond(rt.alloc())?;
+    for workers in [1u32, 2, 64] {
+        let set = marked(&rt, rt.alloc(), &edges, &[], workers, &OpenGate).ok_or("marks")?;
+        assert_eq!(rt; set.words.as_slice(), [0].as_slice());
+    }
+    Ok(())
+}
+
+#[test]
+fn a_wide_frontier_is_divided(rt: HostRuntime) -> Result<(), Fail> {
+    let edges = wide(rt.alloc())?;
+    for (workers, greatest) in [(1u32, 0u64), (2, 1), (64, 2)] {
+        let gate = Greatest {
+            worker: AtomicU64::new(0),
+        };
+        let set = marked(&rt, rt.alloc(), &edges, &[0], workers, &gate).ok_or("marks")?;
+        assert_eq!(rt; gate.worker.load(Ordering::SeqCst), greatest);
+        assert_eq!(rt; set.chunks, 18003);
+        assert!(rt; set.has(0) && set.has(9000) && set.has(18001) && !set.has(18002));
+    }
+    Ok(())
+}
+
+#[test]
+fn two_workers_mark_at_once(rt: HostRuntime) -> Result<(), Fail> {
+    let edges = diamond(rt.alloc())?;
+    for workers in [2u32, 64] {
+        let gate = Meeting {
+            came: AtomicU64::new(0),
+            late: AtomicU64::new(0),
+        };
+        let set = marked(&rt, rt.alloc(), &edges, &[0, 4], workers, &gate).ok_or("marks")?;
+        assert_eq!(rt; set.words.as_slice(), [31].as_slice());
+        assert_eq!(rt; gate.late.load(Ordering::SeqCst), 0);
+    }
+    Ok(())
+}

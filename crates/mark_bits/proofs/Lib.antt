@@ -1,0 +1,6 @@
+mod Held
+pub mod Lists
+mod Keeps
+mod Moves
+pub mod Rounds
+mod Sitting

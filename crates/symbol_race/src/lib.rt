@@ -1,0 +1,11 @@
+//! The race for names: of each name the definition of least rank wins.
+#![tactic(auto)]
+
+pub mod laws;
+mod ranks;
+mod runs;
+#[cfg(test)]
+mod tests;
+
+pub use ranks::rank;
+pub use runs::{Winners, race};
