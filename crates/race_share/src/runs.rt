@@ -21,8 +21,8 @@ const ITEMS_A_WORKER: u64 = 128;
 /// For each word the least rank that the jobs offer, or none. Each job is claimed by one worker,
 /// which passes the gate and then asks for each of the job's offers, once and in order.
 ///
-/// No more workers are used than there are jobs, nor than have enough items each: with few items all
-/// is done on the caller's thread.
+/// No more workers are used than there are jobs, nor more than two that have few items each. One job is
+/// done on the caller's thread.
 pub fn least_ranks<J: Jobs + Sync, G: Gate, R: Threads + Sync>(
     rt: &R,
     alloc: Global,
@@ -54,7 +54,7 @@ fn useful_workers<J: Jobs>(jobs: &J, workers: Workers) -> u32
     for job in 0..jobs.count() {
         items = items.saturating_add(u64::from(jobs.items(job)));
     }
-    let busy = (items / ITEMS_A_WORKER).min(u64::from(jobs.count()));
+    let busy = (items / ITEMS_A_WORKER).max(2).min(u64::from(jobs.count()));
     (busy.min(64) as u32).min(workers.count()).max(1)
 }
 
