@@ -1,47 +1,32 @@
--- A worked link: f calls g, which gives 7. The object's 79 bytes give the module's 65.
-use Rattle.std.specs.Prelude.{◌≡◌, ℕ, List, [], ◌∷◌, codes, Ok, Err, refl, true}
-use Rattle.std.specs.Str.{is_utf8}
-use Rattle.std.proofs.lemmas.Str.{IsUtf8-from_ascii, is_utf8-from_IsUtf8}
-use Rattle.std.proofs.Common.{rules}
-use Rattle.leb_codec.specs.Reading.{end_within, end_of, number_at}
-use Rattle.leb_codec.specs.Shortest.{u32, u32_padded}
-use Rattle.wasm_grammar.specs.Reading.{u32_at, s32_at, many_at, vector_at, front_at, bytes_at, name_at, part_at, whole, sized_at}
-use Rattle.wasm_types.specs.Types.{val_type_at, func_type_at}
+-- The worked links give what they have to.
+use Rattle.std.specs.Prelude.{◌≡◌, List, ◌++◌, refl}
+use Rattle.leb_codec.specs.Shortest.{u32, u32_padded, s32, s32_padded, s64}
+use Rattle.lib_rounds.specs.Rounds.{load}
+use Rattle.weak_rules.specs.Entries.{entries}
+use Rattle.weak_rules.specs.Meanings.{resolve}
+use Rattle.weak_rules.specs.Cases.{clash, duplicate}
+use Rattle.live_mark.specs.Live.{reached}
+use Rattle.memory_layout.specs.Memory.{places, memory_overflow}
+use Rattle.ctor_call.specs.Body.{ctor_body}
+use Rattle.reloc_apply.specs.Windows.{value_overflow}
 use Rattle.image_emit.specs.Bytes.{bytes_of}
-use Rattle.image_emit.specs.Rows.{call_bytes}
-use Rattle.wl_base.specs.declared.fault.Fault.TheVariants.{Malformed, Unresolved}
-use Rattle.wl_base.specs.declared.fault.Part.TheVariants.{Frame}
-use Rattle.link_words.specs.Words.{first_plan}
-use Rattle.link_core.specs.FirstEntries.{number_is, name_is, symbol_at, reloc_at}
-use Rattle.link_core.specs.FirstBodies.{instr_at, calls_at, body_at, code_at}
-use Rattle.link_core.specs.First.{header_at, linking_at, relocs_at, linking_section_at, first_at}
-use Rattle.link_core.specs.LinkOf.{link_of}
+use Rattle.link_core.specs.Candidates.{candidates_of}
+use Rattle.link_core.specs.Program.{init_calls, parts_of, winners_of, program_of}
+use Rattle.link_core.specs.Marks.{exported, repeated_export, live, pic_fault, unresolved}
+use Rattle.link_core.specs.Keys.{imports_in_order, functions, slots, globals, types}
+use Rattle.link_core.specs.Values.{shapes, windows}
+use Rattle.link_core.specs.Output.{layout, image, source_windows}
+use Rattle.link_core.specs.LinkOf.{asked_names, too_many_names, memory_fault, table_fault, output_fault, reference_fault, output_bytes, written, laid_out, marked, link_program, link_by}
+use Rattle.dylink_out.specs.Shared.{apply_body, dylink_payload}
+use Rattle.link_core.specs.Examples.{Row, links, answers}
+use Rattle.link_core.specs.NameRows as names_of
+use Rattle.link_core.specs.DataRows as data_of
+use Rattle.link_core.specs.LoadingRows as loading_of
+use Rattle.link_core.specs.MoreRows as more_of
 
-abbrev pub call_object : List ℕ
-call_object =
-    0x00 ∷ 0x61 ∷ 0x73 ∷ 0x6D ∷ 0x01 ∷ 0x00 ∷ 0x00 ∷ 0x00
-    ∷ 0x01 ∷ 0x05 ∷ 0x01 ∷ 0x60 ∷ 0x00 ∷ 0x01 ∷ 0x7F
-    ∷ 0x03 ∷ 0x03 ∷ 0x02 ∷ 0x00 ∷ 0x00
-    ∷ 0x0A ∷ 0x0F ∷ 0x02 ∷ 0x08 ∷ 0x00 ∷ 0x10 ∷ 0x81 ∷ 0x80 ∷ 0x80 ∷ 0x80 ∷ 0x00 ∷ 0x0B ∷ 0x04 ∷ 0x00 ∷ 0x41 ∷ 0x07 ∷ 0x0B
-    ∷ 0x00 ∷ 0x16 ∷ 0x07 ∷ 0x6C ∷ 0x69 ∷ 0x6E ∷ 0x6B ∷ 0x69 ∷ 0x6E ∷ 0x67 ∷ 0x02 ∷ 0x08 ∷ 0x0B ∷ 0x02 ∷ 0x00 ∷ 0x00 ∷ 0x00 ∷ 0x01 ∷ 0x66
-    ∷ 0x00 ∷ 0x00 ∷ 0x01 ∷ 0x01 ∷ 0x67
-    ∷ 0x00 ∷ 0x10 ∷ 0x0A ∷ 0x72 ∷ 0x65 ∷ 0x6C ∷ 0x6F ∷ 0x63 ∷ 0x2E ∷ 0x43 ∷ 0x4F ∷ 0x44 ∷ 0x45 ∷ 0x02 ∷ 0x01 ∷ 0x00 ∷ 0x04 ∷ 0x01 ∷ []
+abbrev pub all_rows : List Row
+all_rows = names_of.rows ++ data_of.rows ++ loading_of.rows ++ more_of.rows
 
-f_is_utf8 : is_utf8 (0x66 ∷ []) ≡ true
-f_is_utf8 = is_utf8-from_IsUtf8 (0x66 ∷ []) (IsUtf8-from_ascii (0x66 ∷ []) (search rules))
-
-g_is_utf8 : is_utf8 (0x67 ∷ []) ≡ true
-g_is_utf8 = is_utf8-from_IsUtf8 (0x67 ∷ []) (IsUtf8-from_ascii (0x67 ∷ []) (search rules))
-
-call_linked : link_of (first_plan (codes "b.wasm") (codes "f")) (call_object ∷ []) ≡ Ok call_bytes
-unfolding link_of bytes_of u32 u32_padded end_within end_of number_at u32_at s32_at many_at vector_at front_at bytes_at name_at part_at whole sized_at val_type_at func_type_at number_is name_is symbol_at reloc_at instr_at calls_at body_at code_at header_at linking_at relocs_at linking_section_at first_at
-call_linked = rw (f_is_utf8, g_is_utf8) refl
-
-call_unresolved : link_of (first_plan (codes "b.wasm") (codes "h")) (call_object ∷ []) ≡ Err (Unresolved (codes "h") 0)
-unfolding link_of bytes_of u32 u32_padded end_within end_of number_at u32_at s32_at many_at vector_at front_at bytes_at name_at part_at whole sized_at val_type_at func_type_at number_is name_is symbol_at reloc_at instr_at calls_at body_at code_at header_at linking_at relocs_at linking_section_at first_at
-call_unresolved = rw (f_is_utf8, g_is_utf8) refl
-
--- a file without the header is malformed
-empty_malformed : link_of (first_plan (codes "b.wasm") (codes "f")) ([] ∷ []) ≡ Err (Malformed 1 Frame)
-unfolding link_of whole header_at first_at
-empty_malformed = refl
+pub all_worked : links all_rows ≡ answers all_rows
+unfolding link_by candidates_of load entries resolve program_of winners_of parts_of init_calls asked_names too_many_names clash duplicate exported repeated_export link_program marked live reached pic_fault unresolved memory_fault memory_overflow shapes laid_out layout places functions slots globals types imports_in_order table_fault written image source_windows windows output_fault reference_fault value_overflow output_bytes bytes_of u32 u32_padded s32 s32_padded s64 ctor_body apply_body dylink_payload
+all_worked = refl

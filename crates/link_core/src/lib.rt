@@ -1,14 +1,2 @@
-//! The link: the definition of its answer, and the call that gives it.
+//! The whole link. So far the crate has its definition, `link_of`, in `specs/`; `first_link` links one kind of object.
 #![tactic(auto)]
-
-mod error;
-mod first;
-mod output;
-mod patching;
-mod run;
-#[cfg(test)]
-mod tests;
-mod types;
-
-pub use error::LinkError;
-pub use run::link;

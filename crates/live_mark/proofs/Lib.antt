@@ -2,3 +2,4 @@ mod Works
 mod Joints
 mod Reaches
 mod Graphs
+mod Searched

@@ -3,3 +3,4 @@ pub mod Shares
 pub mod Plans
 pub mod Going
 pub mod Graphs
+pub mod Live

@@ -3,6 +3,7 @@
 
 mod edges;
 mod found;
+mod laws;
 mod plan;
 mod rounds;
 mod share;
@@ -11,4 +12,5 @@ mod tests;
 mod work;
 
 pub use edges::Edges;
+pub use laws::reached_exactly;
 pub use rounds::live;

@@ -9,6 +9,6 @@ pub struct Chunk {
     pub input: InputId,
     /// 0 a function, 1 a data segment, 2 a global.
     pub kind: u8,
-    /// The place in the input's index space of its kind.
+    /// The place among what the input defines of its kind.
     pub index: u32,
 }

@@ -3,3 +3,4 @@ pub mod Building
 pub mod ObjectOf
 pub mod Exports
 pub mod Rows
+pub mod Spaces

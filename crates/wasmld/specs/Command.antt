@@ -1,7 +1,7 @@
 -- What the program's answer says of the words and of the shelf before and after.
 use Rattle.std.specs.Prelude.{◌≡◌, ◌⊎◌, ℕ, List, [], ◌∷◌, IsTrue, Contains, map, Option, Some, None, IfSome, IsSomeAnd, Result, Ok, Err}
 use Rattle.link_words.specs.declared.plan.Plan.{Plan}
-use Rattle.link_core.specs.LinkOf.{link_of}
+use Rattle.first_link.specs.LinkOf.{first_link_of}
 use Rattle.wl_base.specs.declared.fault.Fault.{Fault}
 use Rattle.wasmld.specs.declared.status.Status.{Status}
 use Rattle.wasmld.specs.declared.status.Status.TheVariants.{Linked, Refused, Usage, ReadFault, WriteFault, NoMemory}
@@ -28,7 +28,7 @@ input_names words plan = map (word words) (places plan)
 pub record LinkIs (before : Shown) (words : List (List ℕ)) (plan : Plan) (said : Result (List ℕ) Fault) : Type 0 where
   pub files : List (List ℕ)
   pub held : contents before.held (input_names words plan) ≡ Some files
-  pub link : link_of plan files ≡ said
+  pub link : first_link_of plan files ≡ said
 
 -- the output, where the plan names one, holds the bytes, and all else is as before
 abbrev pub Saved : Shown → Shown → Option (List ℕ) → List ℕ → Type 0

@@ -8,7 +8,7 @@ ghost use Rattle.link_words.specs.Words.{IsFirstPlan, plan_of, word};
 ghost use Rattle.wasmld.specs.Command.{Shows, LinkIs, LoadsWork, SaveWorks, IsUnlessMemory, Saved, Cut, contents, input_names, places};
 
 use crate::Status;
-use link_core::{LinkError, link};
+use first_link::{LinkError, link};
 use link_words::{Plan, WordError, read_words};
 use std::alloc::Global;
 use wl_base::{OutOfMemory, Seq, Text};

@@ -1,0 +1,2 @@
+pub mod Body
+mod Rows

@@ -1,0 +1,5 @@
+pub mod Calls
+pub mod Lent
+pub mod Names
+pub mod Windows
+pub mod Written

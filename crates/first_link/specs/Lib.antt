@@ -1,0 +1,10 @@
+pub mod Answers
+pub mod First
+pub mod FirstBodies
+pub mod FirstEntries
+pub mod FirstLaws
+pub mod Image
+pub mod LinkOf
+pub mod Rows
+pub mod Sound
+pub mod Types

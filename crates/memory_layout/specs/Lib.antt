@@ -1,0 +1,4 @@
+pub mod Memory
+pub mod Order
+pub mod Rows
+pub mod Steps

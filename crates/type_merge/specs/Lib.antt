@@ -1,0 +1,2 @@
+pub mod Types
+mod Rows

@@ -1,0 +1,10 @@
+//! The function types of the output, each once.
+#![tactic(auto)]
+
+mod laws;
+mod table;
+#[cfg(test)]
+mod tests;
+
+pub use laws::{added_in_turn, numbers_stay};
+pub use table::TypeTable;
