@@ -1,0 +1,12 @@
+pub mod Room
+pub mod Joined
+pub mod Lengths
+pub mod Pick
+pub mod Cuts
+pub mod Emitted
+pub mod Stands
+pub mod Fills
+pub mod CountLaws
+pub mod SpelledOnce
+pub mod SpelledRows
+pub mod SpelledLaws

@@ -1,12 +1,24 @@
 //! The output module as a tree, and its bytes.
 #![tactic(auto)]
 
-mod joined;
-mod kinds;
-mod spell;
+mod emission;
+mod fronts;
+mod joining;
+mod laws;
+mod measuring;
+mod parts;
+pub mod piece_laws;
+mod put;
+mod put_kinds;
+mod sizes;
+mod sources;
+mod splitting;
 #[cfg(test)]
 mod tests;
 mod tree;
 
-pub use joined::join_image;
+pub use emission::emit;
+pub use joining::join_image;
+pub use laws::{a_tree_has_a_module, bytes_are_no_other, bytes_are_the_module, entries_take_bytes};
+pub use measuring::{Measured, measure};
 pub use tree::{Image, PlacedSource, Source};

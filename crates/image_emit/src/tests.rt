@@ -1,9 +1,90 @@
 use super::*;
+use crate::joining::lie_in;
 use std::alloc::Global;
+use std::sync::atomic::{AtomicU64, Ordering};
 use std::test::Fail;
+use std::thread::Threads;
 use wasm_module::{Element, Export, ModuleGlobal};
 use wasm_types::{ConstExpr, FuncType, GlobalType, Import, ImportKind, Limits, TableType, ValType};
-use wl_base::{FileSpan, OutOfMemory, Seq, Span};
+use wl_base::{FileSpan, LayoutError, OutOfMemory, Seq, Span, What};
+use wl_fan::Workers;
+use wl_outside::{Gate, OpenGate, Phase};
+
+// Holds the first job that comes until a second one has come, for a number of turns.
+#[derive(Drop)]
+struct Meeting {
+    came: AtomicU64,
+    late: AtomicU64,
+}
+
+impl Gate for Meeting {
+    fn turn(&self, _phase: Phase, _worker: u32, _job: u32) {
+        if self.came.fetch_add(1, Ordering::SeqCst) > 0 {
+            return;
+        }
+        for _ in 0..100_000_000u64 {
+            if self.came.load(Ordering::SeqCst) > 1 {
+                return;
+            }
+        }
+        self.late.store(1, Ordering::SeqCst);
+    }
+}
+
+// Counts each job in eight bits of its own, and jobs of another phase in the highest ones.
+#[derive(Drop)]
+struct Counts {
+    jobs: AtomicU64,
+}
+
+impl Gate for Counts {
+    fn turn(&self, phase: Phase, _worker: u32, job: u32) {
+        let place = if phase == Phase::Fill { job.min(6) } else { 7 };
+        self.jobs
+            .fetch_add(1u64.wrapping_shl(8 * place), Ordering::SeqCst);
+    }
+}
+
+// The bytes of an image, where its parts lie in the files.
+fn emitted<G: Gate, R: Threads + Sync>(
+    rt: &R,
+    alloc: Global,
+    image: &Image,
+    files: &[Seq<u8>],
+    workers: u32,
+    gate: &G,
+) -> Option<Seq<u8>> {
+    let workers = Workers::new(workers)?;
+    if !lie_in(files, image) {
+        return None;
+    }
+    let Ok(m) = measure(alloc, image) else {
+        return None;
+    };
+    let mut out = vec![in alloc; 0xAAu8; m.len as usize].ok()?;
+    emit(rt, image, &m, files, out.as_mut_slice(), workers, gate);
+    Some(Seq::from_vec(out))
+}
+
+// Whether an image has these bytes, whoever writes them.
+fn is_written<R: Threads + Sync>(
+    rt: &R,
+    alloc: Global,
+    image: &Image,
+    files: &[Seq<u8>],
+    bytes: &[u8],
+) -> bool {
+    for workers in [1u32, 2, 64] {
+        match emitted(rt, alloc, image, files, workers, &OpenGate) {
+            Some(out) if out.as_slice() == bytes => {}
+            _ => return false,
+        }
+    }
+    match join_image(alloc, image, files) {
+        Ok(out) => out.as_slice() == bytes,
+        Err(_) => false,
+    }
+}
 
 fn bytes(alloc: Global, items: &[u8]) -> Result<Seq<u8>, OutOfMemory> {
     Seq::from_slice(alloc, items)
@@ -264,30 +345,200 @@ fn kinds_bytes(alloc: Global) -> Result<Seq<u8>, OutOfMemory> {
     )
 }
 
-// The bytes of an image without data.
-fn joined(alloc: Global, mut image: Image, files: &[Seq<u8>]) -> Result<Seq<u8>, OutOfMemory> {
-    image.blocks = Seq::new(alloc);
-    join_image(alloc, &image, files)
+// Three bytes at 16 and one at 20: the one byte between is 0.
+fn data_image(alloc: Global) -> Result<Image, OutOfMemory> {
+    let mut image = empty(alloc);
+    image.data_offset = ConstExpr::I32(16);
+    let own = bytes(alloc, b"\x01\x02\x03".as_slice())?;
+    image.blocks.push(PlacedSource {
+        address: 16,
+        source: Source::Own(own),
+    })?;
+    image.blocks.push(PlacedSource {
+        address: 20,
+        source: part(0, 1, 1),
+    })?;
+    Ok(image)
 }
 
-#[test]
-fn images_have_their_bytes(rt: HostRuntime) -> Result<(), Fail> {
-    let alloc = rt.alloc();
+// A body, and three blocks with gaps, of which the last has no bytes.
+fn mixed_image(alloc: Global) -> Result<Image, OutOfMemory> {
+    let mut image = data_image(alloc)?;
+    image.types.push(func_type(alloc, &[], &[])?)?;
+    image.functions.push(0)?;
+    image.bodies.push(part(0, 1, 3))?;
+    image.blocks.push(PlacedSource {
+        address: 23,
+        source: part(0, 0, 0),
+    })?;
+    Ok(image)
+}
+
+fn call_files(alloc: Global) -> Result<Seq<Seq<u8>>, OutOfMemory> {
     let mut files = Seq::new(alloc);
     files.push(bytes(alloc, b"\xFF\x00\x41\x07\x0B".as_slice())?)?;
     files.push(bytes(
         alloc,
         b"\xFF\xFF\xFF\x00\x10\x81\x80\x80\x80\x00\x0B\xFF".as_slice(),
     )?)?;
-    let module = joined(alloc, call_image(alloc)?, files.as_slice())?;
-    assert_eq!(rt; module.as_slice(), call_bytes(alloc)?.as_slice());
+    Ok(files)
+}
+
+fn kinds_files(alloc: Global) -> Result<Seq<Seq<u8>>, OutOfMemory> {
     let mut files = Seq::new(alloc);
     files.push(bytes(alloc, b"\xFF".as_slice())?)?;
     files.push(bytes(
         alloc,
         b"\xFF\xFF\x00\x10\x80\x80\x80\x80\x00\x0B\xFF".as_slice(),
     )?)?;
-    let module = joined(alloc, kinds_image(alloc)?, files.as_slice())?;
-    assert_eq!(rt; module.as_slice(), kinds_bytes(alloc)?.as_slice());
+    Ok(files)
+}
+
+fn data_files(alloc: Global) -> Result<Seq<Seq<u8>>, OutOfMemory> {
+    let mut files = Seq::new(alloc);
+    files.push(bytes(alloc, b"\xFF\x04\x00\x0B".as_slice())?)?;
+    Ok(files)
+}
+
+#[test]
+fn images_have_their_bytes(rt: HostRuntime) -> Result<(), Fail> {
+    let alloc = rt.alloc();
+    let bytes = call_bytes(alloc)?;
+    let files = call_files(alloc)?;
+    assert!(rt;
+        is_written(
+            &rt,
+            alloc,
+            &call_image(alloc)?,
+            files.as_slice(),
+            bytes.as_slice()
+        )
+    );
+    let bytes = kinds_bytes(alloc)?;
+    let files = kinds_files(alloc)?;
+    assert!(rt;
+        is_written(
+            &rt,
+            alloc,
+            &kinds_image(alloc)?,
+            files.as_slice(),
+            bytes.as_slice()
+        )
+    );
+    Ok(())
+}
+
+#[test]
+fn data_has_gaps_of_zeros(rt: HostRuntime) -> Result<(), Fail> {
+    let alloc = rt.alloc();
+    let files = data_files(alloc)?;
+    let data =
+        b"\x00asm\x01\x00\x00\x00\x0B\x0B\x01\x00\x41\x10\x0B\x05\x01\x02\x03\x00\x04".as_slice();
+    assert!(rt; is_written(&rt, alloc, &data_image(alloc)?, files.as_slice(), data));
+    let head =
+        b"\x00asm\x01\x00\x00\x00\x01\x04\x01\x60\x00\x00\x03\x02\x01\x00\x0A\x05\x01\x03\x04\x00\x0B".as_slice();
+    let tail = b"\x0B\x0D\x01\x00\x41\x10\x0B\x07\x01\x02\x03\x00\x04\x00\x00".as_slice();
+    let mixed = together(alloc, &[head, tail])?;
+    assert!(rt;
+        is_written(
+            &rt,
+            alloc,
+            &mixed_image(alloc)?,
+            files.as_slice(),
+            mixed.as_slice()
+        )
+    );
+    let header = b"\x00asm\x01\x00\x00\x00".as_slice();
+    assert!(rt; is_written(&rt, alloc, &empty(alloc), &[], header));
+    Ok(())
+}
+
+fn places_are(alloc: Global, image: &Image, len: u64, places: &[u64]) -> bool {
+    match measure(alloc, image) {
+        Ok(m) => m.len == len && m.places.as_slice() == places,
+        Err(_) => false,
+    }
+}
+
+#[test]
+fn sources_have_their_places(rt: HostRuntime) -> Result<(), Fail> {
+    let alloc = rt.alloc();
+    assert!(rt; places_are(alloc, &call_image(alloc)?, 65, &[52, 61]));
+    assert!(rt; places_are(alloc, &kinds_image(alloc)?, 188, &[175, 184]));
+    assert!(rt; places_are(alloc, &data_image(alloc)?, 21, &[16, 20]));
+    assert!(rt; places_are(alloc, &mixed_image(alloc)?, 40, &[22, 33, 37, 40]));
+    assert!(rt; places_are(alloc, &empty(alloc), 8, &[]));
+    Ok(())
+}
+
+// The length that is told for bodies of these lengths, where it is too long.
+fn too_long(alloc: Global, lens: &[u64]) -> Result<Option<i64>, OutOfMemory> {
+    let mut image = empty(alloc);
+    for &len in lens {
+        image.bodies.push(part(0, 0, len))?;
+    }
+    match measure(alloc, &image) {
+        Err(
+            LayoutError::Overflow {
+                what: What::OutputLength,
+                needed,
+            },
+        ) => Ok(Some(needed)),
+        _ => Ok(None),
+    }
+}
+
+#[test]
+fn no_module_has_more_than_2_31_bytes(rt: HostRuntime) -> Result<(), Fail> {
+    let alloc = rt.alloc();
+    assert_eq!(rt; too_long(alloc, &[0x8000_0000])?, Some(0x8000_0014));
+    assert_eq!(rt; too_long(alloc, &[0x7FFF_FFEC])?, Some(0x8000_0000));
+    assert_eq!(rt; too_long(alloc, &[0x7FFF_FFEB])?, None);
+    assert_eq!(rt; too_long(alloc, &[u64::MAX, u64::MAX])?, Some(i64::MAX));
+    Ok(())
+}
+
+#[test]
+fn parts_outside_of_files_are_refused(rt: HostRuntime) -> Result<(), Fail> {
+    let alloc = rt.alloc();
+    let files = data_files(alloc)?;
+    for (file, start, len) in [(0u32, 1u64, 4u64), (0, 5, 0), (1, 0, 1), (0, u64::MAX, 2)] {
+        let mut image = empty(alloc);
+        image.bodies.push(part(file, start, len))?;
+        assert!(rt; join_image(alloc, &image, files.as_slice()).is_err());
+    }
+    Ok(())
+}
+
+#[test]
+fn two_workers_fill_at_once(rt: HostRuntime) -> Result<(), Fail> {
+    let alloc = rt.alloc();
+    let image = call_image(alloc)?;
+    let files = call_files(alloc)?;
+    for workers in [2u32, 64] {
+        let gate = Meeting {
+            came: AtomicU64::new(0),
+            late: AtomicU64::new(0),
+        };
+        let out = emitted(&rt, alloc, &image, files.as_slice(), workers, &gate).ok_or("lies")?;
+        assert_eq!(rt; out.len(), 65);
+        assert_eq!(rt; gate.late.load(Ordering::SeqCst), 0);
+    }
+    Ok(())
+}
+
+#[test]
+fn each_chunk_passes_the_gate_once(rt: HostRuntime) -> Result<(), Fail> {
+    let alloc = rt.alloc();
+    let image = mixed_image(alloc)?;
+    let files = data_files(alloc)?;
+    for workers in [1u32, 3, 64] {
+        let gate = Counts {
+            jobs: AtomicU64::new(0),
+        };
+        let out = emitted(&rt, alloc, &image, files.as_slice(), workers, &gate).ok_or("lies")?;
+        assert_eq!(rt; out.len(), 40);
+        assert_eq!(rt; gate.jobs.load(Ordering::SeqCst), 0x0101_0101);
+    }
     Ok(())
 }

@@ -5,7 +5,6 @@ pub mod Keys
 pub mod Values
 pub mod Loader
 pub mod Output
-pub mod Written
 pub mod LinkOf
 pub mod Examples
 pub mod NameRows

@@ -15,16 +15,16 @@ use Rattle.weak_rules.specs.Cases.{clash, duplicate}
 use Rattle.memory_layout.specs.Memory.{Passed, memory_overflow}
 use Rattle.table_layout.specs.Slots.{table_overflow}
 use Rattle.reloc_apply.specs.declared.window.Window.{Window}
-use Rattle.reloc_apply.specs.Windows.{value_overflow}
+use Rattle.reloc_apply.specs.Windows.{value_overflow, patch_of}
 use Rattle.image_emit.specs.declared.tree.Image.{Image}
 use Rattle.image_emit.specs.Bytes.{bytes_of, tree_of}
+use Rattle.image_emit.specs.Filled.{tree_filled}
 use Rattle.link_words.specs.declared.plan.Plan.{Plan}
 use Rattle.link_core.specs.Candidates.{Readers, candidates_of}
 use Rattle.link_core.specs.Program.{Program, Part, program_of}
 use Rattle.link_core.specs.Marks.{demanded, exported, repeated_export, live, pic_fault, unresolved}
 use Rattle.link_core.specs.Values.{Layout, rules_of, shapes}
 use Rattle.link_core.specs.Output.{layout, image, source_windows, held}
-use Rattle.link_core.specs.Written.{with_windows}
 
 -- The names whose definitions are asked for when inputs are loaded: the entry, and those of `--export` and `-u`.
 unfoldable pub asked_names : Plan → List (List ℕ)
@@ -71,7 +71,7 @@ reference_fault wss = option_map (Overflow Reference) (value_overflow (flat_map 
 
 -- The bytes of the output: those of the image with every window written.
 unfoldable pub output_bytes : Mode → Program → Image → List (List Window) → List ℕ
-output_bytes mode p i wss = bytes_of (with_windows (held mode wss) (tree_of p.files i))
+output_bytes mode p i wss = bytes_of (tree_filled (map (map patch_of) (held mode wss)) (tree_of p.files i))
 
 unfoldable pub written : Mode → Program → Image → List (List Window) → Result (List ℕ) Fault
 written mode p i wss = do
