@@ -239,12 +239,27 @@ magic_later (Some rest) thin = inl tt
 magic_later None (Some rest) = inl tt
 magic_later None None = inr refl
 
+long_step : (same : Bool) (ts bs : List ℕ) → (is_some (behind ts bs) ≡ false → is_some (behind (ts ++ 0x0a ∷ []) bs) ≡ false)
+    → is_some (cond same (behind ts bs) None) ≡ false → is_some (cond same (behind (ts ++ 0x0a ∷ []) bs) None) ≡ false
+long_step true ts bs rest e = rest e
+long_step false ts bs rest e = refl
+
+-- what doesn't begin with a text doesn't begin with a longer one
+none_longer : (text bytes : List ℕ) → is_some (behind text bytes) ≡ false → is_some (behind (text ++ 0x0a ∷ []) bytes) ≡ false
+none_longer [] bytes e = absurd (subst (λ (b : Bool). cond b (Unit {0}) ⊥) e tt)
+none_longer (t ∷ ts) [] e = refl
+none_longer (t ∷ ts) (b ∷ bs) e = long_step (b == t) ts bs (none_longer ts bs) e
+
+either_none : (a b c : Bool) → (b ≡ false → c ≡ false) → (a || b) ≡ false → (a || c) ≡ false
+either_none true b c rest e = e
+either_none false b c rest e = rest e
+
 pub not_library : (bytes : List ℕ) → library_of bytes ≡ Err NotLibrary → has_magic bytes ≡ false
 unfolding library_of
 not_library bytes e =
     elim (magic_later (behind magic bytes) (behind thin_magic bytes)) [
       | inl later ↦ absurd (subst IsLater e (bind_later (after_magic bytes) _ later (λ rest. bind_later (members_at (length rest) (length bytes) rest) _ (members_later (length rest) (length bytes) rest) (λ ms. bind_later (entries_of bytes ms) _ (given_later bytes ms) (λ es. tt)))))
-      | inr other ↦ other
+      | inr other ↦ either_none (is_some (behind magic bytes)) (is_some (behind thin_magic bytes)) (is_some (behind (thin_magic ++ 0x0a ∷ []) bytes)) (none_longer thin_magic bytes) other
     ]
 
 pub is_no_library : (bytes : List ℕ) (r : Result Contents LibError) → Answers (λ (x : Contents). x) r (library_of bytes) → r ≡ Err (Refused NotLibrary) → has_magic bytes ≡ false

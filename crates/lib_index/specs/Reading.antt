@@ -1,7 +1,7 @@
 -- Reading a library: its contents, or the first cause for which it is none.
 --
 -- The end is the place of the end of the bytes, so they stand at end less their length.
-use Rattle.std.specs.Prelude.{◌≡◌, ℕ, zero, suc, ◌+◌, ◌-◌, ◌*◌, ◌%◌, List, [], ◌∷◌, length, take, drop, Option, Some, None, Result, Ok, Err, Bool, nat_lt, ◌==◌, ◌&&◌, ◌||◌, is_some, if◌then◌else◌, min, position, option_map}
+use Rattle.std.specs.Prelude.{◌++◌, ◌≡◌, ℕ, zero, suc, ◌+◌, ◌-◌, ◌*◌, ◌%◌, List, [], ◌∷◌, length, take, drop, Option, Some, None, Result, Ok, Err, Bool, nat_lt, ◌==◌, ◌&&◌, ◌||◌, is_some, if◌then◌else◌, min, position, option_map}
 use Rattle.std.specs.List.{list_all, prefix_len}
 use Rattle.std.specs.Str.{bytes_eq}
 use Rattle.std.specs.Char.{is_ascii_digit}
@@ -53,9 +53,9 @@ behind (t ∷ text) (b ∷ bytes) = if b == t then behind text bytes else None
 abbrev pub after_magic : List ℕ → Result (List ℕ) LibFault
 after_magic bytes = or_fault (if is_some (behind thin_magic bytes) then Thin else NotLibrary) (behind magic bytes)
 
--- Whether a file begins with either magic.
+-- Whether a file begins with either magic and a newline.
 abbrev pub has_magic : List ℕ → Bool
-has_magic bytes = is_some (behind magic bytes) || is_some (behind thin_magic bytes)
+has_magic bytes = is_some (behind magic bytes) || is_some (behind (thin_magic ++ 0x0a ∷ []) bytes)
 
 -- ---- the members
 

@@ -1,5 +1,5 @@
 //! How a library begins.
-ghost use Rattle.std.specs.Prelude.{◌≡◌, ◌≤◌, length, IfOk, IfSome, is_some, option_copied};
+ghost use Rattle.std.specs.Prelude.{◌≡◌, ◌≤◌, ◌∷◌, ◌++◌, [], length, IfOk, IfSome, is_some, option_copied};
 ghost use Rattle.lib_index.specs.Archive.{magic, thin_magic};
 ghost use Rattle.lib_index.specs.Reading.{Reads, behind, after_magic, has_magic};
 
@@ -26,12 +26,22 @@ fn is_thin(bytes: &[u8]) -> bool
     }
 }
 
-/// Whether a file begins as a library does, a thin one included. Where it doesn't, `read_index`
-/// answers that it is no library.
+/// Whether the bytes begin with the magic of a thin library and a newline.
+fn is_thin_line(bytes: &[u8]) -> bool
+    ensures { result ≡ is_some (behind (thin_magic ++ 0x0a ∷ []) bytes.now) }
+{
+    match bytes {
+        [b'!', b'<', b't', b'h', b'i', b'n', b'>', b'\n', ..] => true,
+        _ => false,
+    }
+}
+
+/// Whether a file begins as a library does, with either magic and a newline. Where `read_index`
+/// answers that a file is no library, it doesn't.
 pub fn has_magic(bytes: &[u8]) -> bool
     ensures { result ≡ has_magic bytes.now }
 {
-    behind_magic(bytes).is_some() || is_thin(bytes)
+    behind_magic(bytes).is_some() || is_thin_line(bytes)
 }
 
 /// The bytes behind the magic, or why there are none.

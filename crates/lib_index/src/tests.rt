@@ -140,7 +140,7 @@ fn the_magic_is_told(rt: HostRuntime) -> Result<(), Fail> {
         Some(LibFault::NotLibrary)
     );
     assert!(rt; has_magic(b"!<thin>\n") && has_magic(b"!<arch>\n"));
-    assert!(rt; !has_magic(b"\0asm") && !has_magic(b"!<arch>"));
+    assert!(rt; !has_magic(b"\0asm") && !has_magic(b"!<arch>") && !has_magic(b"!<thin>x"));
     Ok(())
 }
 

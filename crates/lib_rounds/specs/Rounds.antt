@@ -1,4 +1,5 @@
--- Which inputs are loaded: objects at once, and members of libraries where something that was loaded needs them.
+-- Which inputs are loaded: objects and members of whole libraries at once, lazy objects and other members where a loaded input or the
+-- words need them.
 use Rattle.std.specs.Prelude.{ℕ, zero, suc, ◌+◌, ◌==◌, nat_lt, Bool, true, false, not, ◌&&◌, ◌||◌, List, [], ◌∷◌, ◌++◌, filter, filter_map, map, find, flat_map, length, if◌then◌else◌, Option, Some, None, option_map, bytes_eq, Result, Ok, Err}
 use Rattle.std.specs.List.{list_any}
 use Rattle.wl_base.specs.Choice.{first_some, unless, ◌>>=◌, has_name}
@@ -12,7 +13,8 @@ use Rattle.made_symbols.specs.Made.{made}
 
 -- A candidate is an object of the words or a member of a library. Its number among all candidates, in the order of the words and in a
 -- library in the order of the file, is its precedence as an input; they count from 1, since the linker itself is input 0. One that
--- is loaded by need is not loaded at once. It offers the names for which it may be loaded, and `object` is what reading it gives.
+-- is loaded by need is not loaded at once. A member offers the names that its index gives for it, also one of a whole library; a lazy
+-- object those that it defines; any other object none. `object` is what reading it gives.
 pub record Candidate : Type 0 where
   pub input : ℕ
   pub file : ℕ  -- the place of its file among the files

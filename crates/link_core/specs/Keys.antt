@@ -155,6 +155,7 @@ imports_by Shared ref = (ref.kind == 0) || is_kind GlobalVar ref.entry
 abbrev pub function_imports_of : Mode → Program → List Ref → List ImportKey
 function_imports_of mode p refs = filter (λ k. is_function_type k.type && has_import (used_imports (filter (imports_by mode) refs)) k) (imports_in_order p)
 
+-- whether a reference is a call of the null function of this name
 abbrev pub calls_stub : List ℕ → Ref → Bool
 calls_stub name ref = (ref.kind == 0) && is_null ref.meaning && bytes_eq (name_of ref.entry) name
 
@@ -204,10 +205,11 @@ slots mode parts fs = filter (is_taken (map ref_function (filter (takes_slot mod
 abbrev pub used_globals : Mode → Program → List Ref → List ImportKey
 used_globals mode p refs = filter (λ k. is_global_type k.type && has_import (used_imports (filter (imports_by mode) refs)) k) (imports_in_order p)
 
--- In a shared output: the linker's globals, the cells of foreign addresses over live code and then live data, other globals.
+-- The import of a linker-made global.
 abbrev pub made_global_import : Entry → Option ImportKey
 made_global_import e = given ((e.input == 0) && is_kind GlobalVar e) (record { place = codes "env"; field = name_of e; type = e.type })
 
+-- The cell of a foreign address that a reference uses.
 abbrev pub foreign_cell : Ref → Option ImportKey
 foreign_cell ref = given (not (ref.kind == 0) && not (is_kind GlobalVar ref.entry) && is_foreign ref) (cell_of ref.entry)
 
@@ -217,6 +219,7 @@ parts_of_kind kind parts = filter (λ part. part.chunk.kind == kind) parts
 abbrev pub foreign_cells : List Part → List ImportKey
 foreign_cells parts = filter_map foreign_cell (refs_of (parts_of_kind 0 parts) ++ refs_of (parts_of_kind 1 parts))
 
+-- The imported globals. In a shared output: the linker's, the cells of foreign addresses over live code and then live data, others.
 abbrev pub global_imports_in : Mode → Program → List Part → List ImportKey
 global_imports_in Plain p parts = used_globals Plain p (refs_of parts)
 global_imports_in Shared p parts = distinct same_import (filter_map made_global_import p.entries ++ foreign_cells parts ++ used_globals Shared p (refs_of parts))
@@ -227,6 +230,7 @@ made_global_key part = given ((part.chunk.input == 0) && (part.chunk.kind == 2))
 abbrev pub own_global_key : Part → Option GlobalKey
 own_global_key part = given (not (part.chunk.input == 0) && (part.chunk.kind == 2)) (own_global part.chunk.input part.chunk.index)
 
+-- whether a reference reads a cell that the link defines; in a shared output those of foreign addresses are imported
 abbrev pub needs_got : Mode → Ref → Bool
 needs_got Plain ref = reads_cell ref
 needs_got Shared ref = reads_cell ref && is_here ref.meaning

@@ -11,4 +11,5 @@ pub mod NameRows
 pub mod DataRows
 pub mod LoadingRows
 pub mod MoreRows
+pub mod FurtherRows
 pub mod Rows

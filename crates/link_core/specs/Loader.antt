@@ -15,7 +15,7 @@ use Rattle.dylink_out.specs.declared.word.WordValue.{WordValue}
 use Rattle.dylink_out.specs.declared.word.WordValue.TheVariants.{OwnDatum, OwnFunction, ForeignDatum, ForeignFunction}
 use Rattle.link_core.specs.Program.{Program, Part, Ref, refs}
 use Rattle.link_core.specs.Marks.{is_foreign}
-use Rattle.link_core.specs.Keys.{FunctionKey, GlobalKey, GotKey, got_entry, got_import, got_null, outside, linker_function, stub, own, outside_global, linker_global, own_global, got, exported_datum, cell_key, global_number}
+use Rattle.link_core.specs.Keys.{FunctionKey, GlobalKey, GotKey, got_entry, got_import, got_null, outside, linker_function, stub, own, outside_global, linker_global, own_global, got, exported_datum, cell_key, global_number, has_import, foreign_cells}
 use Rattle.link_core.specs.Values.{Layout, segments, solid_segments, slot_count, segment_address, got_value, meant_address, ref_slot, content_align}
 
 abbrev pub greatest : List ℕ → ℕ
@@ -53,6 +53,7 @@ module _ (mode : Mode) (p : Program) (parts : List Part) (l : Layout) where
   got_word (got key) = Some (record { to = Got (global_number l.numbers (got key)); value = if is_function_got key then OwnFunction (got_value mode l key) else OwnDatum (got_value mode l key) })
   got_word (exported_datum e) = None
 
+  -- All words that are stored when the module is loaded.
   abbrev pub words : List WordReloc
   words = flat_map segment_words (solid_segments p parts) ++ filter_map got_word l.numbers.globals
 
@@ -61,11 +62,12 @@ module _ (mode : Mode) (p : Program) (parts : List Part) (l : Layout) where
   abbrev pub is_weak_name : Entry → Bool
   is_weak_name e = list_all (λ f. is_weak f.symbol) (named p.entries (name_of e))
 
+  -- A WEAK name's imports: the one that its symbols mean, and for a function also the cell of its address, where live parts use it.
   abbrev pub weak_meaning : Entry → Meaning → List ImportKey
-  weak_meaning e (imported k) = if is_weak_name e then k ∷ cell_of e ∷ [] else []
+  weak_meaning e (imported k) = if is_weak_name e then k ∷ (if is_kind Function e then filter (has_import (foreign_cells parts)) (cell_of e ∷ []) else []) else []
   weak_meaning e (here d) = []
   weak_meaning e null = []
-  weak_meaning e nothing = if is_weak_name e then cell_of e ∷ [] else []
+  weak_meaning e nothing = []
 
   abbrev pub zip_weak : List Entry → List Meaning → List ImportKey
   zip_weak [] ms = []
@@ -95,6 +97,7 @@ module _ (mode : Mode) (p : Program) (parts : List Part) (l : Layout) where
 
   -- ---- the section dylink.0
 
+  -- The memory is the data's bytes, aligned as the segment of greatest alignment; the table is the slots.
   abbrev pub dylink : Dylink
   dylink = record {
     memory_size = l.places.data_end;

@@ -130,7 +130,8 @@ live p exports = picked (reached (targets p) (root_places p exports)) 0 p.parts
 abbrev pub refs_of : List Part → List Ref
 refs_of parts = flat_map refs parts
 
--- ---- what a shared output exports besides: the init functions, and the function that makes addresses right, where they have work
+-- ---- what a shared output exports besides: `__wasm_call_ctors` where there are init functions, and the function that makes addresses
+-- right where it has work
 
 abbrev pub is_here : Meaning → Bool
 is_here (here e) = true
@@ -151,6 +152,7 @@ needs_work part =
 abbrev pub has_calls : Program → Bool
 has_calls p = not (length (init_calls p.resolved) == 0)
 
+-- exported by the words or flags; or `__wasm_call_ctors` (0) where it calls, or `__wasm_apply_data_relocs` (1) where it has work
 abbrev pub is_due : Bool → Bool → Plan → Entry → Bool
 is_due calls work plan e =
     is_exported_by plan e || ((e.input == 0) && (((e.place == 0) && calls) || ((e.place == 1) && work)))

@@ -119,7 +119,7 @@ need_one_another = record {
       ++ hex (codes "07 0E 02 06 6D 65 6D 6F 72 79 02 00 01 66 00 00 0A 1C 03 08 00 10 81 80 80 80 00 0B 08 00 10 82 80 80 80 00 0B 08 00 10 81 80 80 80 00 0B"));
 }
 
--- a defined with no locals and so many nops
+-- a, defined by a body of so many bytes at a place
 abbrev pub defining_a : ℕ → ℕ → ℕ → Object
 defining_a input start len = record (empty_object input) { types = plain_type ∷ []; functions = body_at 0 (span start len) [] ∷ []; symbols = function_symbol 0 (codes "a") 0 ∷ [] }
 

@@ -1,4 +1,4 @@
--- The output as an image, and as a tree in which every window is written.
+-- The output as an image, and the windows of its sources.
 use Rattle.std.specs.Prelude.{ℕ, ◌+◌, ◌/◌, ◌==◌, Bool, true, false, not, ◌&&◌, List, [], ◌∷◌, ◌++◌, map, filter, filter_map, find, if◌then◌else◌, Option, Some, None, option_map, pos, codes}
 use Rattle.wasm_types.specs.declared.table.Limits.{Limits}
 use Rattle.wasm_types.specs.declared.table.TableType.{TableType}
@@ -150,6 +150,7 @@ module _ (mode : Mode) (p : Program) (parts : List Part) (exports : List Entry) 
   abbrev pub table : TableType
   table = record { funcref = true; limits = record { min = 1 + slot_count l; max = Some (1 + slot_count l) } }
 
+  -- One segment with all slots, from the first slot on; none without slots.
   abbrev pub elements : List Element
   elements = if slot_count l == 0 then [] else record { table = None; offset = by_mode mode (constants.I32 (pos 1)) (constants.Get 2); functions = map (function_number l.numbers) l.numbers.slots } ∷ []
 

@@ -50,7 +50,8 @@ pub data Content : Type 0 where
   global : GlobalDef → Content
   linker_made : MadeSymbol → Content
 
--- A part: a chunk of an object or of the linker, with its bytes as a span of a file, and what its windows name, by rising place.
+-- A part: a chunk of an object or of the linker, with its bytes as a span of a file (none for globals and the linker's
+-- parts), and what its windows name, by rising place.
 pub record Part : Type 0 where
   pub chunk : Chunk
   pub content : Content

@@ -23,9 +23,10 @@ use Rattle.link_core.specs.NameRows as names_of
 use Rattle.link_core.specs.DataRows as data_of
 use Rattle.link_core.specs.LoadingRows as loading_of
 use Rattle.link_core.specs.MoreRows as more_of
+use Rattle.link_core.specs.FurtherRows as further_of
 
 abbrev pub all_rows : List Row
-all_rows = names_of.rows ++ data_of.rows ++ loading_of.rows ++ more_of.rows
+all_rows = names_of.rows ++ data_of.rows ++ loading_of.rows ++ more_of.rows ++ further_of.rows
 
 pub all_worked : links all_rows ≡ answers all_rows
 unfolding link_by candidates_of load entries resolve program_of winners_of parts_of init_calls asked_names too_many_names clash duplicate exported repeated_export link_program marked live reached pic_fault unresolved memory_fault memory_overflow shapes laid_out layout places functions slots globals types imports_in_order table_fault written image source_windows windows output_fault reference_fault value_overflow output_bytes bytes_of u32 u32_padded s32 s32_padded s64 ctor_body apply_body dylink_payload

@@ -57,7 +57,7 @@ solid_segments p parts = filter (λ part. not (is_zero p part)) (segments parts)
 
 -- ---- the layout: what windows are filled by
 
--- The chunks of the live segments stand in the order of the places' addresses.
+-- `segments` has the live segments by input and index; the places have the address of each at the same place.
 pub record Layout : Type 0 where
   pub segments : List Chunk
   pub places : Places
@@ -66,8 +66,9 @@ pub record Layout : Type 0 where
 abbrev pub segment_address : Layout → Chunk → ℕ
 segment_address l c = slice_index_or l.places.addresses (unwrap_or (position (same_chunk c) l.segments) 0) 0
 
--- The values of the linker-made symbols of a plain output by their numbers, of which 5 to 11 are data: heap base, data end, global
--- base and DSO handle, the stack's low and high end, and the heap's end, which is the initial memory's bytes and at most 2^32 - 1.
+-- The addresses of the linker-made data of a plain output by their numbers, 5 to 11 (0 stands for the others, which are no data): heap
+-- base, data end, global base and DSO handle, the stack's low and high end, and the heap's end, which is the initial memory's bytes and
+-- at most 2^32 - 1.
 abbrev pub made_data : Places → List ℕ
 made_data at =
     0 ∷ 0 ∷ 0 ∷ 0 ∷ 0
@@ -127,6 +128,7 @@ asks kind =
     else if kind == 7 then a_global
     else a_table
 
+-- TABLE_INDEX_SLEB, MEMORY_ADDR_SLEB and both REL_SLEB are signed, the I32 types have four bytes, all others are unsigned.
 abbrev pub form_of : ℕ → Form
 form_of kind =
     if (kind == 1) || (kind == 4) || (kind == 11) || (kind == 12) then Signed5

@@ -90,7 +90,7 @@ base_of rules = (around rules).base
 abbrev pub data_end : MemoryRules → List SegmentShape → ℕ
 data_end rules shapes = last_end (base_of rules) (placed shapes)
 
--- These two by the data's end.
+-- Where the heap begins, by the data's end.
 abbrev pub heap_base : MemoryRules → ℕ → ℕ
 heap_base rules end = (around rules).heap_base end
 
@@ -98,6 +98,7 @@ heap_base rules end = (around rules).heap_base end
 abbrev pub pages_over : ℕ → ℕ → ℕ
 pages_over place least = max (up place 65536 / 65536) least
 
+-- The pages of the memory, by the data's end.
 abbrev pub pages : MemoryRules → ℕ → ℕ
 pages rules end = pages_over (heap_base rules end) (around rules).least_pages
 

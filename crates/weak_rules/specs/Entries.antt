@@ -29,8 +29,9 @@ pub record ImportKey : Type 0 where
   pub type : SymbolType
 
 -- A symbol of an input, by its place in the symbol table, with its type and, where it stands on an import, that import. It defines
--- its name where it is a definition in a kept part. Its class is 0 strong, 1 weak or 2 linker-made datum. The index counts the
--- definitions of its kind.
+-- its name where it is a definition in a kept part. Its class is 0 strong, 1 weak or 2 linker-made datum. The index is of
+-- a defined function or global its place among those that the object defines, of a datum its segment, of a linker-made symbol its
+-- number.
 pub record Entry : Type 0 where
   pub input : ℕ
   pub place : ℕ
@@ -65,7 +66,7 @@ has_member kind index g = list_any (λ m. (m.kind == kind) && (m.index == index)
 abbrev pub is_kept : List Object → Object → ℕ → ℕ → Bool
 is_kept objects o kind index = not (list_any (λ g. has_member kind index g && not (is_input o.input (group_winner objects g.name))) o.groups)
 
--- whether the part in which a symbol is defined is kept; only functions and data are members of groups
+-- whether the part in which a symbol is defined is kept; only functions and data segments are dropped with groups
 abbrev pub in_kept_part : List Object → Object → Symbol → SymbolKind → Bool
 in_kept_part objects o s Function = is_kept objects o 1 s.index
 in_kept_part objects o s Datum = is_kept objects o 0 s.index

@@ -37,7 +37,7 @@ definitions all name = filter (λ e. e.defines) (named all name)
 abbrev pub winner : List Entry → List ℕ → Option Entry
 winner all name = least (definitions all name)
 
--- ---- uses: which undefined functions are called, and of which the address is used. Only a shared output asks
+-- ---- uses: which functions are called by name, and of which the address is used. Only a shared output asks
 
 pub record Uses : Type 0 where
   pub called : List (List ℕ)
@@ -133,9 +133,9 @@ is_called uses e = is_kind Function e && has_name uses.called (name_of e)
 abbrev pub is_address : Uses → Entry → Bool
 is_address uses e = is_kind Datum e || (is_kind Function e && has_name uses.addressed (name_of e) && not (has_name uses.called (name_of e)))
 
--- The rules in their order, over the entries of the symbol's name. In a plain output: the winner; the import that the least
--- EXPLICIT_NAME reference names; with `--allow-undefined`, the import of the least reference that stands on one; null. In a shared
--- output what has no winner is foreign: it is imported to be called or as a global, or its address stands in a cell.
+-- The rules in their order, over the entries of the symbol's name. In a plain output: the winner; the import of the least
+-- EXPLICIT_NAME reference that stands on one; with `--allow-undefined`, that of the least reference that stands on one; null, for a
+-- WEAK function or datum. In a shared output what has no winner is foreign: it is imported to be called or as a global, or its address stands in a cell.
 abbrev pub rules : Mode → Uses → Bool → List Entry → Entry → List (Option Meaning)
 rules Shared uses allow es e =
     option_map here (least (filter (λ d. d.defines) es))
