@@ -238,7 +238,6 @@ shared_cells = record {
       ++ hex (codes "01 0B 08 00 00 00 00 00 00 00 00"));
 }
 
--- The ten that pin most.
 -- A WEAK global is told to the loader by its own import alone, and not by a cell that another symbol imports.
 abbrev pub weak_global : Row
 weak_global = record {
