@@ -18,7 +18,7 @@ mod tests;
 mod tree;
 
 pub use emission::emit;
-pub use joining::join_image;
+pub use joining::{join_image, lie_in};
 pub use laws::{a_tree_has_a_module, bytes_are_no_other, bytes_are_the_module, entries_take_bytes};
 pub use measuring::{Measured, measure};
 pub use tree::{Image, PlacedSource, Source};
