@@ -10,3 +10,4 @@ pub mod CountLaws
 pub mod SpelledOnce
 pub mod SpelledRows
 pub mod SpelledLaws
+pub mod Laid

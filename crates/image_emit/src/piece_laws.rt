@@ -4,6 +4,7 @@ ghost use Rattle.image_emit.specs.declared.tree.Image.{Image};
 ghost use Rattle.image_emit.specs.Bytes.{Tree, tree_of, bytes_of};
 ghost use Rattle.image_emit.specs.Filled.{FillLaw};
 ghost use Rattle.image_emit.specs.Measures.{LieIn, measure_of, image_measure};
+ghost use Rattle.image_emit.specs.Stored.{OneSegment};
 ghost use Rattle.image_emit.specs.Pieces.{front, pieces, joined, source_places, sources};
 
 /// What stands before the first source and the pieces, one behind another, are the bytes of the module.
@@ -29,4 +30,10 @@ pub fn sources_stand()
 #[tactic(auto, using(crate::proofs::Fills::fill_law))]
 pub fn emit_then_fill()
     ensures { FillLaw }
+{}
+
+/// The one data segment leaves the memory that its blocks would leave one by one.
+#[tactic(auto, using(crate::proofs::Laid::one_segment_law))]
+pub fn one_segment()
+    ensures { OneSegment }
 {}
