@@ -1,3 +1,14 @@
+pub mod Agreed
+pub mod Counted
+pub mod Differing
 pub mod Exported
 pub mod Made
+pub mod Named
+pub mod Operated
+pub mod Placing
 pub mod Read
+pub mod SoundObject
+pub mod Standing
+pub mod Targets
+pub mod Told
+pub mod Windowed

@@ -4,3 +4,5 @@ pub mod ObjectOf
 pub mod Exports
 pub mod Rows
 pub mod Spaces
+pub mod Sound
+pub mod Bodies

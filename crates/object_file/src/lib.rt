@@ -7,6 +7,7 @@
 mod building;
 mod exports;
 mod functions;
+mod laws;
 mod names;
 mod object;
 mod reading;
@@ -14,6 +15,7 @@ mod segments;
 #[cfg(test)]
 mod tests;
 
+pub use laws::{index_spaces_are_counted, operands_stand_on_immediates, read_objects_are_sound};
 pub use object::Object;
 pub use object_parts::GlobalDef;
 pub use reading::{ObjectError, read_object};
