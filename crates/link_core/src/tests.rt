@@ -1,0 +1,125 @@
+//! An image is written and its windows are filled, by several workers.
+ghost use Rattle.std.specs.Prelude.{◌≡◌, ◌≤◌, IsTrue};
+ghost use Rattle.reloc_apply.specs.Apart.{AreApart, size_of};
+
+use image_emit::{Image, PlacedSource, Source, emit, lie_in, measure};
+use reloc_apply::{Form, Patch, Patches, fill};
+use std::alloc::Global;
+use std::test::Fail;
+use std::thread::Threads;
+use wasm_types::ConstExpr;
+use wl_base::{FileSpan, OutOfMemory, Seq, Span};
+use wl_fan::Workers;
+use wl_outside::OpenGate;
+
+fn size(form: Form) -> u64
+    ensures { (4 ≤ result) × (result ≤ 5) × (result ≡ size_of form) }
+{
+    match form {
+        Form::Unsigned5 | Form::Signed5 => 5,
+        Form::Word4 => 4,
+    }
+}
+
+// Whether the windows rise, don't overlap and end within so many bytes.
+fn are_apart(patches: &[Patch], end: usize) -> bool
+    ensures { IsTrue result → AreApart 0 end patches.now }
+{
+    let mut at = 0;
+    for patch in patches {
+        if patch.place < at || patch.place >= 1 << 32 {
+            return false;
+        }
+        at = patch.place + size(patch.form);
+    }
+    at <= end as u64
+}
+
+// The image's bytes with these windows filled, where its parts lie in the files and the windows lie apart.
+fn filled<R: Threads + Sync>(
+    rt: &R,
+    alloc: Global,
+    image: &Image,
+    files: &[Seq<u8>],
+    patches: &Patches,
+    workers: u32,
+) -> Option<Vec<u8>> {
+    let workers = Workers::new(workers)?;
+    if !lie_in(files, image) {
+        return None;
+    }
+    let Ok(m) = measure(alloc, image) else {
+        return None;
+    };
+    let mut out = vec![in alloc; 0u8; m.len as usize].ok()?;
+    emit(rt, image, &m, files, out.as_mut_slice(), workers, &OpenGate);
+    if !are_apart(patches.patches.as_slice(), out.len()) {
+        return None;
+    }
+    fill(rt, patches, out.as_mut_slice(), workers, &OpenGate);
+    Some(out)
+}
+
+// A body of a file, and two blocks of data with a gap of two bytes between them.
+fn image_of(alloc: Global) -> Result<Image, OutOfMemory> {
+    let mut bodies = Seq::new(alloc);
+    bodies.push(Source::File(FileSpan {
+        file: 0,
+        span: Span { start: 1, len: 8 },
+    }))?;
+    let mut blocks = Seq::new(alloc);
+    for (address, bytes) in [
+        (1024u32, b"\0\0\0\0".as_slice()),
+        (1030, b"\x01\x02\x03\0\0\0\0".as_slice()),
+    ] {
+        blocks.push(PlacedSource {
+            address,
+            source: Source::Own(Seq::from_slice(alloc, bytes)?),
+        })?;
+    }
+    Ok(Image {
+        custom: None,
+        types: Seq::new(alloc),
+        imports: Seq::new(alloc),
+        functions: Seq::new(alloc),
+        tables: Seq::new(alloc),
+        memories: Seq::new(alloc),
+        globals: Seq::new(alloc),
+        exports: Seq::new(alloc),
+        elements: Seq::new(alloc),
+        bodies,
+        data_offset: ConstExpr::I32(1024),
+        blocks,
+    })
+}
+
+// The call in the body, the first block as a whole, and the end of the second.
+fn patches_of(alloc: Global) -> Result<Patches, OutOfMemory> {
+    let windows = [
+        (14, Form::Unsigned5, 2),
+        (29, Form::Word4, 258),
+        (38, Form::Word4, 0xFFFF_FFFE),
+    ];
+    let mut patches = Seq::new(alloc);
+    for (place, form, value) in windows {
+        patches.push(Patch { place, form, value })?;
+    }
+    Ok(Patches { patches })
+}
+
+const FILLED: [u8; 42] =
+    *b"\0asm\x01\0\0\0\x0A\x0A\x01\x08\0\x10\x82\x80\x80\x80\0\x0B\x0B\x14\x01\0\x41\x80\x08\x0B\x0D\x02\x01\0\0\0\0\x01\x02\x03\xFE\xFF\xFF\xFF";
+
+#[test]
+fn windows_are_filled_in_what_was_emitted(rt: HostRuntime) -> Result<(), Fail> {
+    let alloc = rt.alloc();
+    let mut files = Seq::new(alloc);
+    files.push(Seq::from_slice(alloc, b"\xFF\0\x10\x80\x80\x80\x80\0\x0B\xFF".as_slice())?)?;
+    let image = image_of(alloc)?;
+    let patches = patches_of(alloc)?;
+    for workers in [1u32, 2, 64] {
+        let out = filled(&rt, alloc, &image, files.as_slice(), &patches, workers).ok_or("lies")?;
+        assert_eq!(rt; out.as_slice(), FILLED.as_slice());
+    }
+    Ok(())
+}
