@@ -1,5 +1,5 @@
 -- What the loader of a shared output is told, and the function that makes its addresses right (DynamicLinking.md).
-use Rattle.std.specs.Prelude.{ℕ, ◌-◌, ◌^◌, ◌==◌, nat_lt, List, [], ◌∷◌, ◌++◌, length, flat_map, if◌then◌else◌, ℤ, pos, negsuc}
+use Rattle.std.specs.Prelude.{ℕ, ◌-◌, ◌^◌, ◌==◌, nat_lt, List, [], ◌∷◌, ◌++◌, length, flat_map, if◌then◌else◌, pos, negsuc}
 use Rattle.leb_codec.specs.Shortest.{u32, u32_padded, s32_padded}
 use Rattle.image_emit.specs.Bytes.{vector, sized}
 use Rattle.dylink_out.specs.declared.dylink.Dylink.{Dylink}
