@@ -66,6 +66,6 @@ is_definition s = is_some s.name && not (is_undefined s) && not (is_local s)
 abbrev pub is_local_definition : Symbol → Bool
 is_local_definition s = is_local s && not (is_undefined s)
 
--- A reference that has to be resolved.
+-- An undefined symbol without WEAK: it is a need for which library members and lazy objects are loaded.
 abbrev pub is_strong_reference : Symbol → Bool
 is_strong_reference s = is_some s.name && is_undefined s && not (is_weak s)

@@ -47,3 +47,18 @@ fn faults_are_compared_by_all_their_fields(rt: HostRuntime) -> Result<(), Fail> 
     assert!(rt; fault != Fault::TooManyNames);
     Ok(())
 }
+
+#[test]
+fn names_have_numbers_in_the_order_in_which_they_came(rt: HostRuntime) -> Result<(), Fail> {
+    let mut names = NameTable::new(rt.alloc(), 2);
+    let [f, g, h] = [b"f".as_slice(), b"".as_slice(), b"h".as_slice()];
+    assert_eq!(rt; names.intern(f), Ok(0));
+    assert_eq!(rt; names.intern(g), Ok(1));
+    assert_eq!(rt; names.intern(f), Ok(0));
+    assert_eq!(rt; names.intern(h), Err(NameFault::TooMany));
+    assert_eq!(rt; names.intern(g), Ok(1));
+    assert_eq!(rt; names.count(), 2);
+    assert_eq!(rt; names.find(f), Some(0));
+    assert_eq!(rt; names.find(h), None);
+    Ok(())
+}
