@@ -2,6 +2,7 @@
 //! their number. Contracts see the lists of the records.
 #![tactic(auto)]
 
+mod flags;
 mod func_types;
 mod functions;
 mod imports;
