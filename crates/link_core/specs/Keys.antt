@@ -9,9 +9,9 @@ use Rattle.linking_section.specs.Flags.{kind_code}
 use Rattle.object_file.specs.Spaces.{no_type}
 use Rattle.made_symbols.specs.declared.mode.Mode.{Mode}
 use Rattle.made_symbols.specs.declared.mode.Mode.TheVariants.{Plain, Shared}
-use Rattle.weak_rules.specs.Entries.{Entry, ImportKey, SymbolType, of_function, of_global, untyped, is_kind, name_of, same_entry, same_import}
-use Rattle.weak_rules.specs.Cases.{first_entry}
-use Rattle.weak_rules.specs.Meanings.{Meaning, here, imported, null, nothing, cell_of}
+use Rattle.name_rules.specs.Entries.{Entry, ImportKey, SymbolType, of_function, of_global, untyped, is_kind, name_of, same_entry, same_import}
+use Rattle.name_rules.specs.Cases.{first_entry}
+use Rattle.name_rules.specs.Meanings.{Meaning, here, imported, null, nothing, cell_of}
 use Rattle.type_merge.specs.Types.{merged}
 use Rattle.index_layout.specs.Numbers.{number_by}
 use Rattle.link_core.specs.Program.{Program, Part, Content, function, segment, global, linker_made, Ref, types_named}

@@ -10,8 +10,8 @@ use Rattle.lib_index.specs.Reading.{library_of}
 use Rattle.made_symbols.specs.declared.mode.Mode.{Mode}
 use Rattle.made_symbols.specs.declared.mode.Mode.TheVariants.{Plain}
 use Rattle.lib_rounds.specs.Rounds.{load}
-use Rattle.weak_rules.specs.Entries.{Entry, name_of}
-use Rattle.weak_rules.specs.Cases.{clash, duplicate}
+use Rattle.name_rules.specs.Entries.{Entry, name_of}
+use Rattle.name_rules.specs.Cases.{clash, duplicate}
 use Rattle.memory_layout.specs.Memory.{Passed, memory_overflow}
 use Rattle.table_layout.specs.Slots.{table_overflow}
 use Rattle.reloc_apply.specs.declared.window.Window.{Window}

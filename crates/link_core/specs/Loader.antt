@@ -4,8 +4,8 @@ use Rattle.std.specs.List.{list_any, list_all}
 use Rattle.linking_section.specs.declared.symbol.SymbolKind.TheVariants.{Function}
 use Rattle.linking_section.specs.Flags.{is_weak}
 use Rattle.made_symbols.specs.declared.mode.Mode.{Mode}
-use Rattle.weak_rules.specs.Entries.{Entry, ImportKey, is_kind, is_entry, named, name_of, same_import}
-use Rattle.weak_rules.specs.Meanings.{Meaning, here, imported, null, nothing, cell_of}
+use Rattle.name_rules.specs.Entries.{Entry, ImportKey, is_kind, is_entry, named, name_of, same_import}
+use Rattle.name_rules.specs.Meanings.{Meaning, here, imported, null, nothing, cell_of}
 use Rattle.reloc_apply.specs.Windows.{bits32}
 use Rattle.dylink_out.specs.declared.dylink.Dylink.{Dylink}
 use Rattle.dylink_out.specs.declared.dylink.ImportInfo.{ImportInfo}

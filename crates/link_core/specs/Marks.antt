@@ -9,8 +9,8 @@ use Rattle.linking_section.specs.Flags.{is_exported, is_hidden, is_no_strip, is_
 use Rattle.object_columns.specs.declared.functions.FunctionDef.{FunctionDef}
 use Rattle.made_symbols.specs.declared.mode.Mode.{Mode}
 use Rattle.made_symbols.specs.declared.mode.Mode.TheVariants.{Plain, Shared}
-use Rattle.weak_rules.specs.Entries.{Entry, is_named, is_kind, name_of, same_entry}
-use Rattle.weak_rules.specs.Meanings.{Meaning, here, imported, null, nothing, is_nothing, Resolved}
+use Rattle.name_rules.specs.Entries.{Entry, is_named, is_kind, name_of, same_entry}
+use Rattle.name_rules.specs.Meanings.{Meaning, here, imported, null, nothing, is_nothing, Resolved}
 use Rattle.mark_bits.specs.declared.chunk.Chunk.{Chunk}
 use Rattle.live_mark.specs.Live.{reached, is_among}
 use Rattle.link_words.specs.declared.plan.Plan.{Plan}

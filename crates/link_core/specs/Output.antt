@@ -14,7 +14,7 @@ use Rattle.linking_section.specs.declared.symbol.SymbolKind.{SymbolKind}
 use Rattle.linking_section.specs.declared.symbol.SymbolKind.TheVariants.{Function, Datum, GlobalVar, Section, Table}
 use Rattle.made_symbols.specs.declared.mode.Mode.{Mode}
 use Rattle.made_symbols.specs.declared.mode.Mode.TheVariants.{Plain, Shared}
-use Rattle.weak_rules.specs.Entries.{Entry, ImportKey, SymbolType, of_function, of_global, untyped}
+use Rattle.name_rules.specs.Entries.{Entry, ImportKey, SymbolType, of_function, of_global, untyped}
 use Rattle.memory_layout.specs.Memory.{places, up}
 use Rattle.reloc_apply.specs.declared.window.Window.{Window}
 use Rattle.reloc_apply.specs.declared.window.Form.{Form}

@@ -19,8 +19,8 @@ use Rattle.object_file.specs.Spaces.{defined_type, written_type, function_import
 use Rattle.made_symbols.specs.declared.mode.Mode.{Mode}
 use Rattle.made_symbols.specs.Made.{made, MadeSymbol}
 use Rattle.lib_rounds.specs.Rounds.{Candidate}
-use Rattle.weak_rules.specs.Entries.{Entry, entries, is_kept, same_entry, name_of, made_entry}
-use Rattle.weak_rules.specs.Meanings.{Meaning, here, imported, null, nothing, Resolved, resolve, winner}
+use Rattle.name_rules.specs.Entries.{Entry, entries, is_kept, same_entry, name_of, made_entry}
+use Rattle.name_rules.specs.Meanings.{Meaning, here, imported, null, nothing, Resolved, resolve, winner}
 use Rattle.mark_bits.specs.declared.chunk.Chunk.{Chunk}
 use Rattle.link_words.specs.declared.plan.Plan.{Plan}
 

@@ -2,9 +2,9 @@
 use Rattle.std.specs.Prelude.{◌≡◌, List, ◌++◌, refl}
 use Rattle.leb_codec.specs.Shortest.{u32, u32_padded, s32, s32_padded, s64}
 use Rattle.lib_rounds.specs.Rounds.{load}
-use Rattle.weak_rules.specs.Entries.{entries}
-use Rattle.weak_rules.specs.Meanings.{resolve}
-use Rattle.weak_rules.specs.Cases.{clash, duplicate}
+use Rattle.name_rules.specs.Entries.{entries}
+use Rattle.name_rules.specs.Meanings.{resolve}
+use Rattle.name_rules.specs.Cases.{clash, duplicate}
 use Rattle.live_mark.specs.Live.{reached}
 use Rattle.memory_layout.specs.Memory.{places, memory_overflow}
 use Rattle.ctor_call.specs.Body.{ctor_body}

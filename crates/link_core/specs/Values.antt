@@ -4,8 +4,8 @@ use Rattle.std.specs.List.{list_all}
 use Rattle.linking_section.specs.declared.symbol.SymbolKind.TheVariants.{Datum}
 use Rattle.made_symbols.specs.declared.mode.Mode.{Mode}
 use Rattle.made_symbols.specs.declared.mode.Mode.TheVariants.{Plain, Shared}
-use Rattle.weak_rules.specs.Entries.{Entry, is_kind}
-use Rattle.weak_rules.specs.Meanings.{Meaning, here, imported, null, nothing}
+use Rattle.name_rules.specs.Entries.{Entry, is_kind}
+use Rattle.name_rules.specs.Meanings.{Meaning, here, imported, null, nothing}
 use Rattle.mark_bits.specs.declared.chunk.Chunk.{Chunk}
 use Rattle.memory_layout.specs.declared.rules.MemoryRules.{MemoryRules}
 use Rattle.memory_layout.specs.declared.rules.MemoryRules.TheVariants.{Absolute, Relative}

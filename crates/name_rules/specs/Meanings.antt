@@ -12,7 +12,7 @@ use Rattle.linking_section.specs.declared.symbol.SymbolKind.TheVariants.{Functio
 use Rattle.linking_section.specs.Flags.{is_weak, is_explicit, is_undefined, is_local_definition}
 use Rattle.object_file.specs.declared.object.Object.{Object}
 use Rattle.object_file.specs.Spaces.{function_imports}
-use Rattle.weak_rules.specs.Entries.{Entry, ImportKey, of_global, is_kept, name_of, named, is_kind, is_entry, same_import, same_entry, symbols_of}
+use Rattle.name_rules.specs.Entries.{Entry, ImportKey, of_global, is_kept, name_of, named, is_kind, is_entry, same_import, same_entry, symbols_of}
 
 -- ---- winners
 

@@ -3,8 +3,8 @@ use Rattle.std.specs.Prelude.{ℕ, ◌==◌, Bool, false, not, ◌&&◌, ◌||�
 use Rattle.wl_base.specs.declared.fault.Fault.{Fault}
 use Rattle.wl_base.specs.declared.fault.Fault.TheVariants.{Clash, Duplicate}
 use Rattle.linking_section.specs.Flags.{is_explicit}
-use Rattle.weak_rules.specs.Entries.{Entry, ImportKey, name_of, is_named, is_kind, same_entry, same_symbol_type}
-use Rattle.weak_rules.specs.Meanings.{where_given}
+use Rattle.name_rules.specs.Entries.{Entry, ImportKey, name_of, is_named, is_kind, same_entry, same_symbol_type}
+use Rattle.name_rules.specs.Meanings.{where_given}
 
 -- The module and field that an entry names itself, by EXPLICIT_NAME.
 abbrev pub explicit_import : Entry → Option ImportKey

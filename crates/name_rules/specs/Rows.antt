@@ -8,9 +8,9 @@ use Rattle.linking_section.specs.declared.symbol.SymbolKind.TheVariants.{Functio
 use Rattle.object_file.specs.declared.object.Object.{Object}
 use Rattle.object_file.specs.Spaces.{no_type}
 use Rattle.made_symbols.specs.declared.mode.Mode.TheVariants.{Plain}
-use Rattle.weak_rules.specs.Entries.{Entry, ImportKey, of_function, is_kept, in_kept_part}
-use Rattle.weak_rules.specs.Meanings.{Meaning, imported, null, nothing, no_uses, winner, meaning}
-use Rattle.weak_rules.specs.Cases.{clash, duplicate}
+use Rattle.name_rules.specs.Entries.{Entry, ImportKey, of_function, is_kept, in_kept_part}
+use Rattle.name_rules.specs.Meanings.{Meaning, imported, null, nothing, no_uses, winner, meaning}
+use Rattle.name_rules.specs.Cases.{clash, duplicate}
 
 -- ---- small entries, all of the name f
 

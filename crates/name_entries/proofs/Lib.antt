@@ -1,0 +1,9 @@
+pub mod Found
+pub mod Indexed
+pub mod Rows
+pub mod Held
+pub mod Numbered
+pub mod Grouped
+pub mod Few
+pub mod Each
+pub mod Added

@@ -1,0 +1,28 @@
+-- What lent entries and types tell.
+use Rattle.std.specs.Prelude.{◌≡◌, ℕ, List, Option, Some, None}
+use Rattle.object_columns.specs.Seen.{symbol_seen, func_type_seen}
+use Rattle.name_rules.specs.Entries.{Entry, SymbolType, of_function, of_global, untyped}
+use Rattle.name_entries.specs.View.{entry_number}
+use Rattle.name_entries.specs.declared.entry.EntryRef.{EntryRef}
+use Rattle.name_entries.specs.declared.entry.TypeRef.{TypeRef}
+use Rattle.name_entries.specs.declared.entry.TypeRef.TheVariants as types
+
+abbrev pub type_seen : TypeRef → SymbolType
+type_seen (types.Function t) = of_function (func_type_seen t)
+type_seen (types.GlobalVar t) = of_global t
+type_seen types.Untyped = untyped
+
+-- A lent entry tells what the entry is, but for its type, its import and its index, and the number of its name.
+pub record Shows (names : List (List ℕ)) (r : EntryRef) (e : Entry) : Type 0 where
+  pub input : r.input ≡ e.input
+  pub place : r.place ≡ e.place
+  pub symbol : symbol_seen r.symbol ≡ e.symbol
+  pub number : r.number ≡ entry_number names e
+  pub defines : r.defines ≡ e.defines
+  pub class : r.class ≡ e.class
+
+-- The same, where there is one.
+abbrev pub AreShown : List (List ℕ) → Option EntryRef → Option Entry → Type 0
+AreShown names (Some r) (Some e) = Shows names r e
+AreShown names None None = Unit {0}
+AreShown names r e = ⊥

@@ -1,0 +1,17 @@
+//! The symbols of the loaded objects as entries of names: each with the number of its name, its type, its import, and whether it
+//! defines the name, all found in constant time.
+#![tactic(auto)]
+
+mod dropping;
+mod entry;
+mod lookups;
+mod parts;
+mod spaces;
+mod table;
+#[cfg(test)]
+mod tests;
+
+pub use entry::{EntryRef, TypeRef};
+pub use lookups::Entries;
+pub use parts::ObjectParts;
+pub use table::EntryTable;

@@ -1,0 +1,157 @@
+//! What the indexes of an object name.
+ghost use Rattle.std.specs.Prelude.{◌≡◌, false, slice_get, slice_index_or, option_map};
+ghost use Rattle.wasm_types.specs.declared.value.ValType.TheVariants as values;
+ghost use Rattle.object_columns.specs.Seen.{symbol_seen, func_type_seen, import_seen};
+ghost use Rattle.object_rules.specs.Spaces.{ArePlaces, imports_of, imported_type};
+ghost use Rattle.object_file.specs.Spaces.{no_type, written_type, function_types, global_types, imported_global};
+ghost use Rattle.name_rules.specs.Entries.{type_in, import_in};
+ghost use Rattle.name_entries.specs.Shown.{type_seen};
+
+use crate::entry::TypeRef;
+use linking_section::SymbolKind;
+use object_columns::{FuncTypeRef, ImportRef, SymbolRef};
+use object_file::Object;
+use object_rules::ImportPlaces;
+use wasm_types::{GlobalType, ImportKind, ValType};
+
+/// The place of an index; `None` exactly where there is none.
+fn place_at(places: &[usize], index: u32) -> Option<usize>
+    ensures { result ≡ slice_get places.now index }
+{
+    places.get(index as usize).copied()
+}
+
+/// The import that an index of this kind names; `None` exactly where it names none.
+fn import_at<'a>(
+    from: &'a Object,
+    places: &ImportPlaces,
+    kind: SymbolKind,
+    index: u32,
+) -> Option<ImportRef<'a>>
+    requires { ArePlaces from.now.imports places.now }
+    ensures { option_map import_seen result ≡ slice_get (imports_of kind from.now.imports) index }
+{
+    let at = place_at(places.of_kind(kind), index)?;
+    from.imports.get(at)
+}
+
+/// The import that a symbol stands on.
+pub(crate) fn import_in<'a>(
+    from: &'a Object,
+    places: &ImportPlaces,
+    symbol: SymbolRef<'_>,
+) -> Option<ImportRef<'a>>
+    requires { ArePlaces from.now.imports places.now }
+    ensures { option_map import_seen result ≡ import_in from.now (symbol_seen symbol.entry) symbol.entry.kind }
+{
+    import_at(from, places, symbol.kind, symbol.index)
+}
+
+/// The function type that an index of types names, or `() to ()`.
+fn written_type(from: &Object, index: u32) -> FuncTypeRef<'_>
+    ensures { func_type_seen result ≡ written_type from.now index }
+{
+    match from.types.get(index as usize) {
+        Some(found) => found,
+        None => FuncTypeRef {
+            params: &[],
+            results: &[],
+        },
+    }
+}
+
+/// The type index of an imported function.
+fn imported_type(kind: ImportKind) -> Option<u32>
+    ensures { result ≡ imported_type kind }
+{
+    match kind {
+        ImportKind::Function(written) => Some(written),
+        ImportKind::Table(_) | ImportKind::Memory(_) | ImportKind::GlobalVar(_) => None,
+    }
+}
+
+/// The type index of a function; `None` exactly where there is no such function.
+fn type_index(from: &Object, places: &ImportPlaces, index: u32) -> Option<u32>
+    requires { ArePlaces from.now.imports places.now }
+    ensures { option_map (written_type from.now) result ≡ slice_get (function_types from.now) index }
+{
+    let imported = places.functions.len();
+    let at = index as usize;
+    if at < imported {
+        let import = import_at(from, places, SymbolKind::Function, index)?;
+        imported_type(import.kind)
+    } else {
+        let function = from.functions.get(at - imported)?;
+        Some(function.type_index)
+    }
+}
+
+/// The type of a function, by its index, or `() to ()` where there is no such function.
+fn function_type<'a>(from: &'a Object, places: &ImportPlaces, index: u32) -> FuncTypeRef<'a>
+    requires { ArePlaces from.now.imports places.now }
+    ensures { func_type_seen result ≡ slice_index_or (function_types from.now) index no_type }
+{
+    match type_index(from, places, index) {
+        Some(written) => written_type(from, written),
+        None => FuncTypeRef {
+            params: &[],
+            results: &[],
+        },
+    }
+}
+
+/// The type of an imported global.
+fn imported_global(kind: ImportKind) -> Option<GlobalType>
+    ensures { result ≡ imported_global kind }
+{
+    match kind {
+        ImportKind::GlobalVar(written) => Some(written),
+        ImportKind::Function(_) | ImportKind::Table(_) | ImportKind::Memory(_) => None,
+    }
+}
+
+/// The type of a global, by its index; `None` exactly where there is no such global.
+fn known_global(from: &Object, places: &ImportPlaces, index: u32) -> Option<GlobalType>
+    requires { ArePlaces from.now.imports places.now }
+    ensures { result ≡ slice_get (global_types from.now) index }
+{
+    let imported = places.globals.len();
+    let at = index as usize;
+    if at < imported {
+        let import = import_at(from, places, SymbolKind::GlobalVar, index)?;
+        imported_global(import.kind)
+    } else {
+        let global = from.globals.get(at - imported)?;
+        Some(global.kind)
+    }
+}
+
+/// The type of a global, by its index, or a constant i32 where there is no such global.
+fn global_type(from: &Object, places: &ImportPlaces, index: u32) -> GlobalType
+    requires { ArePlaces from.now.imports places.now }
+    ensures { result ≡ slice_index_or (global_types from.now) index (record { kind = values.I32; var = false }) }
+{
+    match known_global(from, places, index) {
+        Some(kind) => kind,
+        None => GlobalType {
+            kind: ValType::I32,
+            var: false,
+        },
+    }
+}
+
+/// The type of a symbol.
+pub(crate) fn type_in<'a>(
+    from: &'a Object,
+    places: &ImportPlaces,
+    symbol: SymbolRef<'_>,
+) -> TypeRef<'a>
+    requires { ArePlaces from.now.imports places.now }
+    ensures { type_seen result ≡ type_in from.now (symbol_seen symbol.entry) symbol.entry.kind }
+{
+    match symbol.kind {
+        SymbolKind::Function => TypeRef::Function(function_type(from, places, symbol.index)),
+        SymbolKind::GlobalVar => TypeRef::GlobalVar(global_type(from, places, symbol.index)),
+        SymbolKind::Datum | SymbolKind::Section | SymbolKind::Table => TypeRef::Untyped,
+    }
+}
