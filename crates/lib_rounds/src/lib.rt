@@ -1,8 +1,22 @@
-//! Which inputs of a link are loaded. So far the crate has the definition, in `specs/`, its laws, and the
-//! types of what the driver has read.
+//! Which inputs of a link are loaded.
 #![tactic(auto)]
 
+mod adds;
+mod begin;
+mod call;
+mod gather;
 mod given;
 pub mod laws;
+mod lies;
+mod loaded;
+mod loading;
+mod offer;
+mod running;
+mod slot;
+mod table;
+#[cfg(test)]
+mod tests;
 
+pub use call::load_rounds;
 pub use given::{Given, LibraryFile, RoundError};
+pub use loaded::Loaded;

@@ -1,5 +1,5 @@
-//! Names: who wins, what symbols mean, and the least case of a clash or a duplicate. So far the crate has the definitions, in
-//! `specs/`, and the types of their answers.
+//! The rules of names: who wins, what symbols mean, and the least case of a clash or a duplicate. The definitions stand in `specs/`, and
+//! beside them the types of their answers.
 #![tactic(auto)]
 
 mod case;

@@ -1,4 +1,4 @@
-//! Work that is divided by halves among threads. No other crate starts a thread.
+//! Work that is divided by halves among threads.
 #![tactic(auto)]
 
 mod share;

@@ -1,0 +1,90 @@
+//! Which inputs are loaded.
+ghost use Rattle.std.specs.Prelude.{◌≡◌, None, All, List};
+ghost use Rattle.lib_index.specs.Table.{shown};
+ghost use Rattle.lib_rounds.specs.Rounds.{Candidate, at_once, given_fault, load};
+ghost use Rattle.lib_rounds.specs.Inputs.{AreCandidates, IsRead};
+ghost use Rattle.lib_rounds.specs.State.{World, Knows, Shows, Defines, Answers};
+
+use crate::begin::{Start, begin};
+use crate::gather::{Sight, first_adds};
+use crate::given::{Given, LibraryFile, RoundError};
+use crate::loaded::Loaded;
+use crate::offer::Inputs;
+use crate::running::run;
+use made_symbols::Mode;
+use std::alloc::Global;
+use wl_base::{Name, Seq};
+
+/// Loads what is needed from the start on.
+fn load_needed(inputs: Inputs<'_>, start: Start, wanted: &[Name]) -> Result<Loaded, RoundError>
+    ghost w: { World }
+    requires knows { Knows w.all inputs.libraries.now inputs.files.now (shown start.lazies) }
+    requires shows { Shows w.all start.slots.items (at_once w.all) }
+    requires defines { Defines w.mode start.slots.items (shown start.definers) }
+    requires fine { given_fault w.all ≡ None }
+    ensures { Answers (λ l. l) result (load w.mode wanted.now w.all) }
+{
+    let Start {
+        mut slots,
+        mut definers,
+        lazies,
+    } = start;
+    let sight = Sight {
+        inputs,
+        lazies: &lazies,
+        definers: &definers,
+        slots: slots.as_slice(),
+    };
+    let adds = first_adds(sight, wanted)?;
+    run(inputs, &mut slots, &mut definers, &lazies, adds)?;
+    let loaded = Loaded::of(inputs.alloc, slots)?;
+    Ok(loaded)
+}
+
+/// The same, with the mode in what is shared.
+fn load_all(
+    inputs: Inputs<'_>,
+    given: Seq<Given>,
+    wanted: &[Name],
+    mode: Mode,
+) -> Result<Loaded, RoundError>
+    ghost w: { World }
+    requires same { w.mode ≡ mode }
+    requires are { AreCandidates w.all given inputs.libraries.now inputs.files.now }
+    requires read { All (IsRead inputs.files.now) inputs.libraries.now }
+    ensures { Answers (λ l. l) result (load mode wanted.now w.all) }
+{
+    let start = begin(inputs, given, mode)?;
+    load_needed(inputs, start, wanted)
+}
+
+/// Loads the inputs that a link needs, and answers their objects by rising input.
+///
+/// Loaded are the objects that aren't lazy and the members of whole libraries; and then, round after
+/// round, for each name that the words ask for or a loaded object refers to without WEAK, and that
+/// neither the linker makes nor a loaded object defines, the least input that offers it.
+///
+/// It is `Refused` by the first fault: that of the least member of a whole library that is no
+/// object; else, of the first round that has any, that of the least input that the round adds, which
+/// is no object, or doesn't define a name for which it is added (`IndexLies`, with the least such
+/// name). `all` are the inputs as candidates, by which the call is defined.
+pub fn load_rounds(
+    alloc: Global,
+    given: Seq<Given>,
+    libraries: &[LibraryFile],
+    files: &[Seq<u8>],
+    wanted: &[Name],
+    mode: Mode,
+) -> Result<Loaded, RoundError>
+    ghost all: { List Candidate }
+    requires are { AreCandidates all given libraries.now files.now }
+    requires read { All (IsRead files.now) libraries.now }
+    ensures { Answers (λ l. l) result (load mode wanted.now all) }
+{
+    let inputs = Inputs {
+        alloc,
+        libraries,
+        files,
+    };
+    load_all(inputs, given, wanted, mode)
+}

@@ -1,0 +1,97 @@
+//! What is kept of an input.
+ghost use Rattle.std.specs.Prelude.{◌≡◌, Bool, option_copied, IfOk};
+ghost use Rattle.lib_rounds.specs.Held.{absent, holding, is_loaded_slot, is_waiting_slot, object_held, loaded_in, as_loaded};
+
+use object_file::Object;
+use std::alloc::Global;
+use std::marker::Model;
+use wl_base::OutOfMemory;
+
+/// The object of an input, where it is read, and whether the input is loaded.
+#[derive(Drop)]
+pub struct Slot {
+    object: Option<Box<Object>>,
+    loaded: bool,
+}
+
+impl Model for Slot {
+    ghost use Rattle.lib_rounds.specs.Held.{Held, held_seen};
+
+    ghost Value = { Held };
+
+    ghost view = { λ s. held_seen s.loaded s.object };
+}
+
+impl Slot {
+    /// The slot of an input that isn't read.
+    pub fn absent() -> Slot
+        ensures { result ≡ absent }
+    {
+        Slot {
+            object: None,
+            loaded: false,
+        }
+    }
+
+    /// The slot of an input that is read.
+    pub fn holding(alloc: Global, object: Object, loaded: bool) -> Result<Slot, OutOfMemory>
+        ensures { IfOk result (λ s. s ≡ holding loaded object) }
+    {
+        Ok(Slot {
+            object: Some(Box::new(alloc, object)?),
+            loaded,
+        })
+    }
+
+    /// Whether the input is loaded.
+    pub fn is_loaded(&self) -> bool
+        ensures { result ≡ is_loaded_slot self.now }
+    {
+        self.object.is_some() && self.loaded
+    }
+
+    /// Whether the input is read and not loaded.
+    pub fn is_waiting(&self) -> bool
+        ensures { result ≡ is_waiting_slot self.now }
+    {
+        self.object.is_some() && !self.loaded
+    }
+
+    /// The object, where it is read.
+    pub fn object(&self) -> Option<&Object>
+        ensures { option_copied result ≡ object_held self.now }
+    {
+        match &self.object {
+            Some(object) => Some(object),
+            None => None,
+        }
+    }
+
+    /// The object, where the input is loaded.
+    pub fn loaded(&self) -> Option<&Object>
+        ensures { option_copied result ≡ loaded_in self.now }
+    {
+        match &self.object {
+            Some(object) if self.loaded => Some(object),
+            _ => None,
+        }
+    }
+
+    /// Loads the input, if it is read.
+    pub fn load(&mut self)
+        ensures { self.new ≡ as_loaded self.old }
+    {
+        self.loaded = true;
+    }
+
+    /// The object, where the input is loaded.
+    pub fn into_loaded(self) -> Option<Object>
+        ensures { result ≡ loaded_in self }
+    {
+        let Slot { object, loaded } = self;
+        match object {
+            Some(object) if loaded => Some(Box::into_inner(object)),
+            _ => None,
+        }
+    }
+}

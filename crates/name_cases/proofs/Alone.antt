@@ -1,0 +1,42 @@
+-- An entry can stand beside itself.
+use Rattle.std.proofs.Common.{◌≡◌, ℕ, Bool, true, false, List, [], ◌∷◌, Option, Some, None, refl, eq-eqb}
+use Rattle.std.specs.Str.{bytes_eq}
+use Rattle.std.specs.Cmp.Lexicographic.{pointwise}
+use Rattle.std.proofs.lemmas.Slice.Eq.{bytes_eq-Decides}
+use Rattle.wasm_types.specs.Same.{same_val, same_bool}
+use Rattle.wasm_types.specs.Types.{val_byte}
+use Rattle.wasm_types.specs.declared.value.ValType.{ValType}
+use Rattle.name_rules.specs.Entries.{Entry, ImportKey, SymbolType, of_function, of_global, untyped, is_kind, same_symbol_type}
+use Rattle.name_rules.specs.Cases.{differ, explicit_import}
+use Rattle.name_cases.specs.declared.question.Question.{Question}
+use Rattle.name_cases.specs.declared.question.Question.TheVariants.{Clashes, Duplicates}
+use Rattle.name_cases.specs.Search.{contradicts}
+
+-- types
+same_values : (xs : List ValType) → pointwise same_val xs xs ≡ true
+same_values [] = refl
+same_values (x ∷ xs) = rw (eq-eqb (val_byte x) (val_byte x) refl) (same_values xs)
+
+same_flag : (b : Bool) → same_bool b b ≡ true
+same_flag true = refl
+same_flag false = refl
+
+same_type_of : (t : SymbolType) → same_symbol_type t t ≡ true
+same_type_of (of_function t) = rw (same_values t.params) (same_values t.results)
+same_type_of (of_global t) = rw (eq-eqb (val_byte t.kind) (val_byte t.kind) refl) (same_flag t.var)
+same_type_of untyped = refl
+
+-- entries
+same_bytes : (xs : List ℕ) → bytes_eq xs xs ≡ true
+same_bytes xs = (bytes_eq-Decides xs xs).1 refl
+
+same_key : (k : Option ImportKey) → differ k k ≡ false
+same_key None = refl
+same_key (Some k) = rw (same_bytes k.place, same_bytes k.field) refl
+
+kind_of : (e : Entry) → is_kind e.symbol.kind e ≡ true
+kind_of e = eq-eqb _ _ refl
+
+pub stands_alone : (q : Question) (e : Entry) → contradicts q e e ≡ false
+stands_alone Clashes e = rw (kind_of e, same_type_of e.type) (same_key (explicit_import e))
+stands_alone Duplicates e = rw (eq-eqb e.input e.input refl, eq-eqb e.place e.place refl) refl

@@ -1,0 +1,27 @@
+-- The least case, in the words of the code's rows.
+use Rattle.std.specs.Prelude.{ℕ, List, [], map, slice_index_or, Option}
+use Rattle.wl_base.specs.Choice.{first_some}
+use Rattle.name_rules.specs.declared.case.PairCase.{PairCase}
+use Rattle.name_cases.specs.declared.cases.Comparison.{Comparison}
+use Rattle.name_cases.specs.declared.question.Question.{Question}
+use Rattle.name_cases.specs.declared.rows.Rows.{Rows}
+use Rattle.name_cases.specs.declared.rows.Spot.{Spot}
+use Rattle.name_cases.specs.Firsts.{AreFirsts}
+use Rattle.name_cases.specs.Rows.{RowsFit, entries_in, names_shown, rows_shown}
+use Rattle.name_cases.specs.Search.{case_in}
+
+-- The least case of a row.
+abbrev pub row_case : Question → Rows → ℕ → Option PairCase
+row_case q rows row = case_in q (names_shown rows) (entries_in (rows_shown rows)) (slice_index_or (rows_shown rows) row [])
+
+-- The least case of all rows.
+abbrev pub least_case : Question → Rows → Option PairCase
+least_case q rows = first_some (map (case_in q (names_shown rows) (entries_in (rows_shown rows))) (rows_shown rows))
+
+-- The column tells the least entries of all rows.
+abbrev pub HasFirsts : Question → Rows → List (Option Spot) → Type 0
+HasFirsts q rows column = AreFirsts q (names_shown rows) (rows_shown rows) (entries_in (rows_shown rows)) column
+
+pub record IsReady (c : Comparison) : Type 0 where
+  pub fits : RowsFit c.rows
+  pub firsts : HasFirsts c.question c.rows c.firsts.now

@@ -1,0 +1,30 @@
+-- What two entries of a name are compared by.
+use Rattle.std.specs.Prelude.{◌≡◌, Bool, false, not, ◌&&◌, ◌||◌, ◌==◌, Option, Some, None, option_map, bytes_eq}
+use Rattle.linking_section.specs.Flags.{kind_code}
+use Rattle.object_columns.specs.declared.imports.ImportRef.{ImportRef}
+use Rattle.object_columns.specs.Seen.{import_seen}
+use Rattle.name_rules.specs.Entries.{Entry, key_of, same_symbol_type}
+use Rattle.name_rules.specs.Cases.{explicit_import}
+use Rattle.name_entries.specs.Shown.{type_seen}
+use Rattle.name_cases.specs.declared.look.Look.{Look}
+
+-- whether both imports are there and have different modules or fields
+abbrev pub imports_differ : Option ImportRef → Option ImportRef → Bool
+imports_differ None b = false
+imports_differ (Some a) None = false
+imports_differ (Some a) (Some b) = not (bytes_eq a.«module».now b.«module».now && bytes_eq a.field.now b.field.now)
+
+abbrev pub looks_clash : Look → Look → Bool
+looks_clash a b = not ((kind_code b.kind == kind_code a.kind) && same_symbol_type (type_seen a.of_type) (type_seen b.of_type)) || imports_differ a.explicit b.explicit
+
+-- This is what is compared of the entry.
+pub record IsLook (l : Look) (e : Entry) : Type 0 where
+  pub kind : l.kind ≡ e.symbol.kind
+  pub of_type : type_seen l.of_type ≡ e.type
+  pub explicit : option_map (λ i. key_of e.type (import_seen i)) l.explicit ≡ explicit_import e
+
+abbrev pub AreLook : Option Look → Option Entry → Type 0
+AreLook (Some l) (Some e) = IsLook l e
+AreLook None None = Unit {0}
+AreLook (Some l) None = ⊥
+AreLook None (Some e) = ⊥

@@ -1,0 +1,15 @@
+-- What a case tells.
+use Rattle.std.specs.Prelude.{ℕ, List, [], slice_index_or}
+use Rattle.wl_base.specs.declared.fault.Fault.{Fault}
+use Rattle.wl_base.specs.declared.fault.Fault.TheVariants.{Clash, Duplicate}
+use Rattle.name_rules.specs.declared.case.PairCase.{PairCase}
+
+-- The name of a case, by its number.
+abbrev pub name_in : List (List ℕ) → PairCase → List ℕ
+name_in names c = slice_index_or names c.name []
+
+abbrev pub clash_told : List (List ℕ) → PairCase → Fault
+clash_told names c = Clash (name_in names c) c.first c.other
+
+abbrev pub duplicate_told : List (List ℕ) → PairCase → Fault
+duplicate_told names c = Duplicate (name_in names c) c.first c.other

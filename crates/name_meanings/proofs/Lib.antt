@@ -1,0 +1,11 @@
+mod Filters
+mod SameImport
+mod Noted
+mod Flattened
+pub mod ByNumber
+mod Ruled
+mod Placed
+mod Finding
+mod Rowed
+mod Rows
+mod Whole

@@ -1,0 +1,18 @@
+-- Worked imports: one where module, field and type are equal.
+use Rattle.std.specs.Prelude.{◌≡◌, [], ◌∷◌, refl, codes}
+use Rattle.name_rules.specs.Entries.{ImportKey, untyped}
+use Rattle.name_rules.specs.Meanings.{imported, null}
+use Rattle.name_rules.specs.Rows.{f, key}
+use Rattle.name_meanings.specs.Means.{imports_meant}
+
+abbrev other_module : ImportKey
+other_module = record (key f) { place = codes "n" }
+
+abbrev other_type : ImportKey
+other_type = record (key f) { type = untyped }
+
+equal_are_one : imports_meant (imported (key f) ∷ null ∷ imported (key f) ∷ []) ≡ key f ∷ []
+equal_are_one = refl
+
+others_are_others : imports_meant (imported (key f) ∷ imported other_module ∷ imported other_type ∷ []) ≡ key f ∷ other_module ∷ other_type ∷ []
+others_are_others = refl

@@ -1,0 +1,5 @@
+pub mod Means
+pub mod Kept
+pub mod Columns
+pub mod Known
+mod Examples

@@ -1,0 +1,49 @@
+-- What a symbol's answer tells, with imports by number.
+use Rattle.std.specs.Prelude.{◌≡◌, ℕ, ◌<◌, List, [], filter_map, flat_map, Option, Some, None, slice_get, slice_index_or}
+use Rattle.std.specs.List.{All, AllZip}
+use Rattle.wl_base.specs.Choice.{distinct}
+use Rattle.name_rules.specs.declared.meaning.Meaning.{Meaning as Told}
+use Rattle.name_rules.specs.declared.meaning.Meaning.TheVariants.{Here, Made, Import, Null, Nothing}
+use Rattle.name_rules.specs.Entries.{ImportKey, same_import}
+use Rattle.name_rules.specs.Meanings.{Meaning, here, imported, null, nothing, Resolved}
+
+-- The answer tells what the symbol means: a definition of an object by its input and place, one of the linker by its number, an import by
+-- its number among the imports.
+abbrev pub Means : List ImportKey → Told → Meaning → Type 0
+Means imports (Here input symbol) (here e) = (e.input ≡ input) × (e.place ≡ symbol) × (0 < input)
+Means imports (Made number) (here e) = (e.input ≡ 0) × (e.place ≡ number)
+Means imports (Import number) (imported key) = slice_get imports number ≡ Some key
+Means imports Null null = Unit {0}
+Means imports Nothing nothing = Unit {0}
+Means imports told meaning = ⊥
+
+-- ---- the imports
+
+abbrev pub import_meant : Meaning → Option ImportKey
+import_meant (here e) = None
+import_meant (imported key) = Some key
+import_meant null = None
+import_meant nothing = None
+
+-- The imports that symbols mean, each once, in the order of the symbols: one where module, field and type are equal.
+abbrev pub imports_meant : List Meaning → List ImportKey
+imports_meant meanings = distinct same_import (filter_map import_meant meanings)
+
+-- ---- the whole
+
+-- The answers for the symbols of each input, by place, where an input that isn't loaded has none; and the imports by number.
+pub record Answers : Type 0 where
+  pub rows : List (List Told)
+  pub imports : List ImportKey
+
+-- the answers for the symbols of an input
+abbrev pub row_of : List (List Told) → ℕ → List Told
+row_of rows input = slice_index_or rows input []
+
+abbrev pub answer_at : Answers → ℕ → ℕ → Option Told
+answer_at r input symbol = slice_get (row_of r.rows input) symbol
+
+-- Each symbol of each object has an answer, which tells what the symbol means; the imports are those that symbols mean.
+pub record IsResolution (r : Answers) (resolved : List Resolved) : Type 0 where
+  pub meanings : All (λ (x : Resolved). AllZip (Means r.imports) (row_of r.rows x.object.input) x.meanings) resolved
+  pub imports : r.imports ≡ imports_meant (flat_map (λ (x : Resolved). x.meanings) resolved)

@@ -1,0 +1,13 @@
+//! What each symbol means, by the rules in their order.
+#![tactic(auto)]
+
+mod columns;
+mod imports;
+mod naming;
+mod resolution;
+mod resolving;
+#[cfg(test)]
+mod tests;
+
+pub use resolution::Resolution;
+pub use resolving::resolve;

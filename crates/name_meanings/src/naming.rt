@@ -1,0 +1,171 @@
+//! What one symbol means.
+ghost use Rattle.std.specs.Prelude.{◌≡◌, ◌&&◌, ◌||◌, ◌<◌, List, Some, None, if◌then◌else◌, slice_get, slice_index_or, length, is_some, IsSome, IfOk};
+ghost use Rattle.symbol_race.specs.Ranks.{IsParts};
+ghost use Rattle.linking_section.specs.Flags.{is_weak};
+ghost use Rattle.linking_section.specs.declared.symbol.SymbolKind.TheVariants as kinds;
+ghost use Rattle.object_columns.specs.Seen.{symbol_seen};
+ghost use Rattle.name_rules.specs.Entries.{Entry, ImportKey, is_kind};
+ghost use Rattle.name_rules.specs.Meanings.{entry_rank, here, own_meaning, may_be_null, where_given};
+ghost use Rattle.name_rules.specs.declared.meaning.Meaning.TheVariants as told;
+ghost use Rattle.name_entries.specs.View.{entry_at};
+ghost use Rattle.name_entries.specs.Shown.{Shows};
+ghost use Rattle.name_entries.specs.Fits.{FitsObjects};
+ghost use Rattle.name_meanings.specs.Columns.{or_else, import_at, empty_column};
+ghost use Rattle.name_meanings.specs.Kept.{import_of};
+ghost use Rattle.name_meanings.specs.Means.{Means};
+ghost use Rattle.name_meanings.specs.Known.{IsKnown, FoundBy, Finds, IsNumbered, meant, name_import};
+
+use crate::columns::{At, Column};
+use crate::imports::{ImportTable, OutputImport};
+use linking_section::SymbolKind;
+use name_entries::{Entries, EntryRef};
+use name_rules::Meaning;
+use object_columns::SymbolRef;
+use std::alloc::Global;
+use symbol_race::Winners;
+use wl_base::OutOfMemory;
+
+/// What the rules look at, by the numbers of names.
+#[derive(Clone, Copy)]
+pub(crate) struct Known<'a> {
+    pub(crate) entries: Entries<'a>,
+    pub(crate) winners: &'a Winners,
+    pub(crate) columns: &'a [Column],
+    pub(crate) allow_undefined: bool,
+}
+
+/// The imports so far, and by the numbers of names those of the names' imports, once a symbol means them.
+#[derive(Drop)]
+pub(crate) struct Found {
+    pub(crate) imports: ImportTable,
+    pub(crate) numbers: Vec<Option<u32>>,
+}
+
+/// The definition of this rank.
+fn definition(rank: u64) -> Meaning
+    ensures { (e : Entry) (imports : List ImportKey) → IsParts e.class e.input e.place → rank ≡ entry_rank e → Means imports result (here e) }
+{
+    let input = (rank / (1 << 32) % (1 << 20)) as u32;
+    let place = (rank % (1 << 32)) as u32;
+    if input == 0 {
+        Meaning::Made(place)
+    } else {
+        Meaning::Here {
+            input,
+            symbol: place,
+        }
+    }
+}
+
+/// What a symbol means that is no entry of a name.
+fn itself(entry: EntryRef<'_>) -> Meaning
+    ensures { result ≡ (if entry.entry.defines then told.Here entry.entry.input entry.entry.place else told.Nothing) }
+{
+    if entry.defines {
+        Meaning::Here {
+            input: entry.input,
+            symbol: entry.place,
+        }
+    } else {
+        Meaning::Nothing
+    }
+}
+
+/// What a symbol means whose name has neither a definition nor an import.
+fn absent(symbol: SymbolRef<'_>) -> Meaning
+    ensures { (e : Entry) → e.symbol ≡ symbol_seen symbol.entry → result ≡ (if may_be_null e then told.Null else told.Nothing) }
+{
+    let may = match symbol.kind {
+        SymbolKind::Function | SymbolKind::Datum => symbol.is_weak(),
+        SymbolKind::GlobalVar | SymbolKind::Section | SymbolKind::Table => false,
+    };
+    if may { Meaning::Null } else { Meaning::Nothing }
+}
+
+/// The symbol on whose import a symbol of the name stands, in a link without a definition of it.
+fn source(column: Column, symbol: SymbolRef<'_>, allow_undefined: bool) -> Option<At>
+    ensures { (e : Entry) → e.symbol ≡ symbol_seen symbol.entry → result ≡ or_else column.explicit
+        (where_given (allow_undefined && ((is_kind kinds.Function e || is_kind kinds.GlobalVar e) && column.strong)) column.least) }
+{
+    if column.explicit.is_some() {
+        return column.explicit;
+    }
+    let may = match symbol.kind {
+        SymbolKind::Function | SymbolKind::GlobalVar => allow_undefined && column.strong,
+        SymbolKind::Datum | SymbolKind::Section | SymbolKind::Table => false,
+    };
+    if may { column.least } else { None }
+}
+
+/// The import that the symbol at a place stands on, in memory of its own.
+fn own_import(alloc: Global, entries: Entries<'_>, at: At) -> Result<OutputImport, OutOfMemory>
+    requires fits { FitsObjects entries }
+    requires stands { IsSome (import_at entries.objects.now at) }
+    ensures { IfOk result (λ i. import_at entries.entry.objects.now at ≡ Some (import_of i)) }
+{
+    let Some(kind) = entries.type_of(at.object, at.place) else {
+        unreachable!()
+    };
+    let Some(import) = entries.import_of(at.object, at.place) else {
+        unreachable!()
+    };
+    OutputImport::of(alloc, kind, import)
+}
+
+impl Found {
+    /// The number of the import of a name, on which the symbol at this place stands.
+    fn number(
+        &mut self,
+        alloc: Global,
+        known: Known<'_>,
+        name: u32,
+        at: At,
+    ) -> Result<u32, OutOfMemory>
+        requires fits { FitsObjects known.entries }
+        requires found { FoundBy known self.old }
+        requires name { name < length known.columns.now }
+        requires stands { IsSome (import_at known.entries.objects.now at) }
+        requires own { name_import known.entries.objects.now (slice_index_or known.columns.now name empty_column)
+            ≡ import_at known.entries.objects.now at }
+        ensures { IfOk result (λ number. (key : ImportKey) → import_at known.entry.entries.objects.now at ≡ Some key
+            → IsNumbered known.entry number key self.old self.new) }
+    {
+        if let Some(number) = self.numbers[name as usize] {
+            return Ok(number);
+        }
+        let import = own_import(alloc, known.entries, at)?;
+        let number = self.imports.add(import)?;
+        self.numbers[name as usize] = Some(number);
+        Ok(number)
+    }
+}
+
+/// What a symbol means.
+pub(crate) fn meaning_of(
+    alloc: Global,
+    known: Known<'_>,
+    found: &mut Found,
+    object: u32,
+    place: u32,
+) -> Result<Meaning, OutOfMemory>
+    requires known { IsKnown known }
+    requires found { FoundBy known found.old }
+    requires there { IsSome (entry_at known.entries.objects.now object place) }
+    ensures { IfOk result (λ told. (e : Entry) → entry_at known.entry.entries.objects.now object place ≡ Some e
+        → Finds known.entry told (meant known.entry e) found.old found.new) }
+{
+    let Some(entry) = known.entries.entry(object, place) else {
+        unreachable!()
+    };
+    let Some(name) = entry.number else {
+        return Ok(itself(entry));
+    };
+    if let Some(rank) = known.winners.of(name) {
+        return Ok(definition(rank));
+    }
+    let column = known.columns[name as usize];
+    match source(column, entry.symbol, known.allow_undefined) {
+        Some(at) => Ok(Meaning::Import(found.number(alloc, known, name, at)?)),
+        None => Ok(absent(entry.symbol)),
+    }
+}

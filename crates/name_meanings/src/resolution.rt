@@ -1,0 +1,80 @@
+//! What all symbols mean.
+ghost use Rattle.std.specs.Prelude.{◌≡◌, ◌<◌, [], Some, length, slice_get, slice_index_or, option_map, IsSome};
+ghost use Rattle.name_meanings.specs.Means.{row_of, answer_at};
+
+use crate::imports::ImportTable;
+use name_rules::Meaning;
+use std::alloc::Global;
+use std::marker::Model;
+use wl_base::InputId;
+use wl_lists::Lists;
+
+/// What the symbols of the loaded objects mean, with imports by number.
+#[derive(Drop)]
+pub struct Resolution {
+    /// By input, the answers for its symbols. An input that isn't loaded has none.
+    pub(crate) rows: Lists<Meaning>,
+    /// The imports that symbols mean.
+    pub(crate) imports: ImportTable,
+}
+
+impl Model for Resolution {
+    ghost use Rattle.name_meanings.specs.Means.{Answers};
+
+    ghost Value = { Answers };
+
+    ghost view = { λ r. record { rows = r.rows; imports = r.imports } };
+}
+
+/// The answers for the symbols of an input.
+#[tactic(auto, using(crate::proofs::Rowed::row_read, crate::proofs::Rowed::row_missing))]
+fn row_of(rows: &Lists<Meaning>, input: InputId) -> &[Meaning]
+    ensures { result.now ≡ row_of rows.now input }
+{
+    match rows.get(input as usize) {
+        Some(row) => row,
+        None => &[],
+    }
+}
+
+impl Resolution {
+    /// These answers by input, with no imports.
+    pub fn of_rows(alloc: Global, rows: Lists<Meaning>) -> Resolution
+        ensures rows { result.rows ≡ rows }
+        ensures imports { result.imports ≡ [] }
+    {
+        Resolution {
+            rows,
+            imports: ImportTable::new(alloc),
+        }
+    }
+
+    /// What a symbol means, by its input and its place there.
+    #[tactic(auto, using(crate::proofs::Rowed::answer_read))]
+    pub fn meaning(&self, input: InputId, symbol: u32) -> Meaning
+        requires { IsSome (answer_at self.now input symbol) }
+        ensures { answer_at self.now input symbol ≡ Some result }
+    {
+        match row_of(&self.rows, input).get(symbol as usize) {
+            Some(meaning) => *meaning,
+            None => unreachable!(),
+        }
+    }
+
+    /// How many imports there are. Those of equal module, field and type are one.
+    pub fn imports(&self) -> u32
+        ensures { result ≡ length self.now.imports }
+    {
+        self.imports.len()
+    }
+
+    /// The module and the field of an import that symbols mean.
+    pub fn import(&self, number: u32) -> (&[u8], &[u8])
+        requires { number < length self.now.imports }
+        ensures place { option_map (λ key. key.place) (slice_get self.now.imports number) ≡ Some result.0.now }
+        ensures field { option_map (λ key. key.field) (slice_get self.now.imports number) ≡ Some result.1.now }
+    {
+        let import = self.imports.get(number);
+        (import.module.as_slice(), import.field.as_slice())
+    }
+}

@@ -1,0 +1,191 @@
+//! What symbols of small objects mean.
+ghost use Rattle.std.specs.Prelude.{IsTrue};
+ghost use Rattle.made_symbols.specs.declared.mode.Mode.TheVariants.{Plain};
+ghost use Rattle.link_names.specs.Numbered.{AreNumbers};
+ghost use Rattle.name_entries.specs.View.{InputsRise};
+
+use super::*;
+use link_names::Names;
+use made_symbols::Mode;
+use name_entries::EntryTable;
+use name_jobs::{group_winners, name_winners};
+use name_rules::Meaning;
+use object_file::{Object, read_object};
+use std::alloc::Global;
+use std::thread::Threads;
+use wl_fan::Workers;
+use wl_outside::OpenGate;
+
+/// An object that calls `env.f`, and needs it.
+fn strong() -> &'static [u8] {
+    b"\0asm\x01\0\0\0\x01\x04\x01`\0\0\x02\x09\x01\x03env\x01f\0\0\0\x0f\x07linking\x02\x08\x04\x01\0\x10\0".as_slice()
+}
+
+/// The same, WEAK.
+fn weak() -> &'static [u8] {
+    b"\0asm\x01\0\0\0\x01\x04\x01`\0\0\x02\x09\x01\x03env\x01f\0\0\0\x0f\x07linking\x02\x08\x04\x01\0\x11\0".as_slice()
+}
+
+/// The same, by the name `g`, with EXPLICIT_NAME.
+fn explicit_g() -> &'static [u8] {
+    b"\0asm\x01\0\0\0\x01\x04\x01`\0\0\x02\x09\x01\x03env\x01f\0\0\0\x11\x07linking\x02\x08\x06\x01\0\x50\0\x01g".as_slice()
+}
+
+/// The same, by the name `h`.
+fn explicit_h() -> &'static [u8] {
+    b"\0asm\x01\0\0\0\x01\x04\x01`\0\0\x02\x09\x01\x03env\x01f\0\0\0\x11\x07linking\x02\x08\x06\x01\0\x50\0\x01h".as_slice()
+}
+
+/// An object with a function that is `f`, LOCAL.
+fn local() -> &'static [u8] {
+    b"\0asm\x01\0\0\0\x01\x04\x01`\0\0\x03\x02\x01\0\x0a\x04\x01\x02\0\x0b\0\x11\x07linking\x02\x08\x06\x01\0\x02\0\x01f".as_slice()
+}
+
+/// The same, strong and in the group `g`.
+fn grouped() -> &'static [u8] {
+    b"\0asm\x01\0\0\0\x01\x04\x01`\0\0\x03\x02\x01\0\x0a\x04\x01\x02\0\x0b\0\x1a\x07linking\x02\x08\x06\x01\0\0\0\x01f\x07\x07\x01\x01g\0\x01\x01\0".as_slice()
+}
+
+/// The objects that these bytes are, as the inputs from 1 on.
+fn read(alloc: Global, files: &[&[u8]]) -> Option<Vec<Object>> {
+    let mut objects = Vec::new(alloc);
+    let mut input: u32 = 1;
+    for file in files {
+        objects.push(read_object(alloc, input, file).ok()?).ok()?;
+        input = input.checked_add(1)?;
+    }
+    Some(objects)
+}
+
+/// Whether the inputs rise, from 1 to below 2^20.
+fn inputs_rise(objects: &[Object]) -> bool
+    ensures { IsTrue result → InputsRise 0 objects.now }
+{
+    let mut last = 0;
+    for object in objects {
+        if object.input <= last || object.input >= 1 << 20 {
+            return false;
+        }
+        last = object.input;
+    }
+    true
+}
+
+/// What is meant by the first symbols of the first two inputs, how many imports there are, and whether the first is of `env`.
+#[derive(Clone, Copy, Debug, PartialEq, Eq)]
+struct Meant {
+    first: Meaning,
+    second: Meaning,
+    imports: u32,
+    of_env: bool,
+}
+
+/// The first symbol of an input.
+fn own(input: u32) -> Meaning {
+    Meaning::Here { input, symbol: 0 }
+}
+
+/// What is meant by the first symbol of an input.
+fn first_of(resolution: &Resolution, input: usize) -> Option<Meaning> {
+    resolution.rows.get(input)?.first().copied()
+}
+
+/// What is compared.
+fn summary(resolution: &Resolution) -> Option<Meant> {
+    let imports = resolution.imports();
+    Some(Meant {
+        first: first_of(resolution, 1)?,
+        second: first_of(resolution, 2)?,
+        imports,
+        of_env: imports > 0 && resolution.import(0).0 == b"env".as_slice(),
+    })
+}
+
+/// What the symbols of these objects mean.
+fn resolved<R: Threads + Sync>(
+    rt: &R,
+    alloc: Global,
+    objects: &[Object],
+    names: &Names,
+    allow_undefined: bool,
+) -> Option<Meant>
+    requires inputs { InputsRise 0 objects.now }
+    requires numbers { AreNumbers Plain objects.now names.now }
+{
+    let workers = Workers::new(1)?;
+    let Ok(groups) = group_winners(rt, alloc, objects, names, workers, &OpenGate) else {
+        return None;
+    };
+    let Ok(table) = EntryTable::new(alloc, objects, names, &groups) else {
+        return None;
+    };
+    let entries = table.view(objects, names);
+    let Ok(winners) = name_winners(rt, alloc, entries, Mode::Plain, workers, &OpenGate) else {
+        return None;
+    };
+    let Ok(resolution) = resolve(alloc, entries, &winners, allow_undefined, Mode::Plain) else {
+        return None;
+    };
+    summary(&resolution)
+}
+
+/// What the symbols of these files mean.
+fn meant_by<R: Threads + Sync>(
+    rt: &R,
+    alloc: Global,
+    files: &[&[u8]],
+    allow_undefined: bool,
+) -> Option<Meant> {
+    let objects = read(alloc, files)?;
+    if !inputs_rise(objects.as_slice()) {
+        return None;
+    }
+    let Ok(names) = Names::new(alloc, Mode::Plain, &[], objects.as_slice(), 1 << 20) else {
+        return None;
+    };
+    resolved(rt, alloc, objects.as_slice(), &names, allow_undefined)
+}
+
+#[test]
+fn rules_in_their_order(rt: HostRuntime) {
+    let cases = [
+        // a strong function without a definition means nothing, a WEAK one is null
+        (
+            [strong(), weak()],
+            false,
+            Meaning::Nothing,
+            Meaning::Null,
+            0,
+        ),
+        // both are imported where undefined names are allowed, if one is strong
+        (
+            [weak(), strong()],
+            true,
+            Meaning::Import(0),
+            Meaning::Import(0),
+            1,
+        ),
+        ([weak(), weak()], true, Meaning::Null, Meaning::Null, 0),
+        // two names of one module and field are one import
+        (
+            [explicit_g(), explicit_h()],
+            false,
+            Meaning::Import(0),
+            Meaning::Import(0),
+            1,
+        ),
+        // a definition that isn't kept means the winner, a LOCAL one itself
+        ([grouped(), grouped()], false, own(1), own(1), 0),
+        ([local(), strong()], false, own(1), Meaning::Nothing, 0),
+        ([local(), grouped()], false, own(1), own(2), 0),
+    ];
+    for (files, allow, first, second, imports) in cases {
+        let meant = Meant {
+            first,
+            second,
+            imports,
+            of_env: imports > 0,
+        };
+        assert_eq!(rt; meant_by(&rt, rt.alloc(), &files, allow), Some(meant));
+    }
+}

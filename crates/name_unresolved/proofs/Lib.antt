@@ -1,0 +1,5 @@
+mod Least
+mod Places
+mod Pieces
+mod Live
+mod Meant

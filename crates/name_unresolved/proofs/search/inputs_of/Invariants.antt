@@ -1,0 +1,6 @@
+use Rattle.std.proofs.Common.{◌≡◌, map, take}
+use Rattle.object_file.specs.declared.object.Object.{Object}
+use Rattle.name_unresolved.proofs.search.inputs_of.Given as goal
+
+abbrev pub invariant-loop-object : goal.invariant-loop-object
+invariant-loop-object l = l.inputs ≡ map (λ (o : Object). o.input) (take l.object-index l.objects)

@@ -1,0 +1,14 @@
+-- What a resolution gives.
+use Rattle.std.specs.Prelude.{Bool, List}
+use Rattle.made_symbols.specs.declared.mode.Mode.{Mode}
+use Rattle.object_file.specs.declared.object.Object.{Object}
+use Rattle.name_rules.specs.Entries.{Entry}
+use Rattle.name_rules.specs.Meanings.{resolve}
+use Rattle.name_meanings.specs.Means.{Answers, IsResolution}
+use Rattle.name_unresolved.specs.Unresolved.{AreMeant}
+
+-- In a resolution of the objects each of their symbols has a meaning.
+abbrev pub ResolvedIsMeant : Type 0
+ResolvedIsMeant =
+    (mode : Mode) (allow : Bool) (all : List Entry) (objects : List Object) (r : Answers)
+    → IsResolution r (resolve mode allow all objects) → AreMeant r.rows objects

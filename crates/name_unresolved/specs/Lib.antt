@@ -1,0 +1,5 @@
+pub mod Refers
+pub mod Least
+pub mod Unresolved
+pub mod Search
+pub mod Laws
