@@ -122,15 +122,15 @@ or_false false = refl
 module _ (all : List Candidate) (numbered : (i : ℕ) (c : Candidate) → slice_get all i ≡ Some c → c.input ≡ i + 1) where
   pub slots_more : (p : Candidate → Bool) (new : List ℕ) (slots after : List Held) (i : ℕ) (c : Candidate) (o : Object)
       → slots ≡ map (held_by (or_in p new)) all → slice_get all (i - 1) ≡ Some c → c.input ≡ i → c.object ≡ Ok o → after ≡ set slots (i - 1)
-          (loaded o)
+      (loaded o)
       → after ≡ map (held_by (or_in p (new ++ i ∷ []))) all
   slots_more p new slots after i c o are at same read is =
       let q = or_in p (new ++ i ∷ []) in
       let here : held_by q c ≡ loaded o = ap (λ (b : Bool). held_as b c.is_member c.object) (or_in_more p new i c ∙ ap (λ
-          (b : Bool). or_in p new c || b) (eq-eqb i c.input (sym same)) ∙ or_true (or_in p new c)) ∙ ap (held_as true c.is_member) read in
+      (b : Bool). or_in p new c || b) (eq-eqb i c.input (sym same)) ∙ or_true (or_in p new c)) ∙ ap (held_as true c.is_member) read in
       let others : (d : Candidate) → Contains all d → d.input ≢ c.input → held_by q d ≡ held_by (or_in p new) d
       = λ d m other. ap (λ (b : Bool). held_as b d.is_member d.object) (or_in_more p new i d ∙ ap (λ (b : Bool). or_in p new d || b)
-          (ne_eqb i d.input (λ e. other (sym e ∙ sym same))) ∙ or_false (or_in p new d)) in
+      (ne_eqb i d.input (λ e. other (sym e ∙ sym same))) ∙ or_false (or_in p new d)) in
       is ∙ ap (λ (hs : List Held). set hs (i - 1) (loaded o)) are
       ∙ ap (λ (h : Held). set (map (held_by (or_in p new)) all) (i - 1) h) (sym here)
       ∙ sym (map_but_one (held_by (or_in p new)) (held_by q) all (i - 1) c (numbers_rise all numbered) at others)
@@ -153,7 +153,7 @@ holds_by all numbered slots q e =
     e ∙ sym (map_same_of (held_by q) (held_by (by_slot slots)) all (λ d m.
     let at = stands all numbered d m in
     let value : slot_at slots d.input ≡ held_by q d = get_or_from_slice_get slots (d.input - 1) (held_by q d) absent (slot_held all slots q
-        (d.input - 1) d e at) in
+    (d.input - 1) d e at) in
     ap (λ (h : Held). held_as (is_loaded_slot h) d.is_member d.object) value ∙ by_held (q d) d.is_member d.object))
 
 -- ---- definitions
@@ -180,7 +180,7 @@ or_all false b c = refl
 
 pub defines_more : (mode : Mode) (slots after : List Held) (definers defined : List (List ℕ × ℕ)) (i : ℕ) (h : Held) (o : Object)
     → Defines mode slots definers → slice_get slots (i - 1) ≡ Some h → is_loaded_slot h ≡ false → after ≡ set slots (i - 1) (loaded o)
-        → Enters o i definers defined
+    → Enters o i definers defined
     → Defines mode after defined
 defines_more mode slots after definers defined i h o d at unloaded is enters =
     let inside = slice_get_within slots (i - 1) h at in
@@ -189,9 +189,9 @@ defines_more mode slots after definers defined i h o d at unloaded is enters =
           ap (λ (x : Option ℕ). is_some x) (enters name) ∙ some_or (has_name (defined_names o) name) i (lookup (bytes_eq name) definers)
           ∙ ap (λ (b : Bool). b || has_name (defined_names o) name) (d.defined name)
           ∙ or_all (list_any (λ m. bytes_eq m.name name) (made mode)) (list_any (λ p. has_name (defined_names p) name) (loaded_objects slots))
-              (has_name (defined_names o) name)
+          (has_name (defined_names o) name)
           ∙ ap (λ (b : Bool). list_any (λ m. bytes_eq m.name name) (made mode) || b) (sym (any_set (λ p. has_name (defined_names p) name) slots
-              (i - 1) h o at unloaded))
+          (i - 1) h o at unloaded))
           ∙ ap (λ (hs : List Held). is_defined mode (loaded_objects hs) name) (sym is);
       by_loaded = λ name k e positive.
           subst (λ (hs : List Held). is_loaded_slot (slot_at hs k) ≡ true) (sym is)
@@ -219,9 +219,9 @@ not_just (Some k) i h = ne_eqb k i (h k refl)
 module _ (w : World) (numbered : (i : ℕ) (c : Candidate) → slice_get w.all i ≡ Some c → c.input ≡ i + 1) (libraries : List LibraryFile)
     (files : List (List ℕ))
     (old_slots : List Held) (hold : Hold w.all old_slots) (old : BTreeMap ℕ Wanted) (slots : List Held) (definers : List (List ℕ × ℕ))
-        (adds : BTreeMap ℕ Wanted) (new : List ℕ)
+    (adds : BTreeMap ℕ Wanted) (new : List ℕ)
     (going : Going w libraries files old_slots old slots definers adds new) (i : ℕ) (wanted : Wanted) (rest : List (ℕ × Wanted))
-        (removal : adds.entries ≡ (i, wanted) ∷ rest) where
+    (removal : adds.entries ≡ (i, wanted) ∷ rest) where
   abbrev IsOne : List Held → ℕ × Wanted → Type 0
   IsOne hs e = IsEntry w.all libraries files hs e.0 e.1
 
@@ -249,7 +249,7 @@ module _ (w : World) (numbered : (i : ℕ) (c : Candidate) → slice_get w.all i
   pub ready : IsOffer libraries files wanted.offer (candidate_at w.all wanted.offer.input)
       × (0 < wanted.offer.input)
       × (slice_get slots (wanted.offer.input - 1) ≡ Some (held_as false (candidate_at w.all wanted.offer.input).is_member
-          (candidate_at w.all wanted.offer.input).object))
+      (candidate_at w.all wanted.offer.input).object))
       × ((n : List ℕ) → is_just wanted.offer.input (lookup (bytes_eq n) definers) ≡ false)
   ready = (
     subst (λ (c : Candidate). IsOffer libraries files wanted.offer c) (sym candidate_is) here.offer,
@@ -259,7 +259,7 @@ module _ (w : World) (numbered : (i : ℕ) (c : Candidate) → slice_get w.all i
     λ n. not_just (lookup (bytes_eq n) definers) wanted.offer.input (λ k e same.
         let loaded_so : is_loaded_slot (slot_at slots k) ≡ true = going.defines.by_loaded n k e (let p = positive in omega (arith, p, same)) in
         let not_so : is_loaded_slot (slot_at slots k) ≡ false = ap (λ (j : ℕ). is_loaded_slot (slot_at slots j)) (same ∙ here.input_is)
-            ∙ here.unloaded in
+        ∙ here.unloaded in
         absurd cc),
   )
 
@@ -281,7 +281,7 @@ module _ (w : World) (numbered : (i : ℕ) (c : Candidate) → slice_get w.all i
   module _ (after : List Held) (defined : List (List ℕ × ℕ)) (o : Object) (left : BTreeMap ℕ Wanted) (entries_are : left.entries ≡ rest)
       (ordered : IsOrdered nat_cmp left) (above : All (IsLtBy nat_cmp i) (keys left))
       (no_fault : added_fault one ≡ None) (read : (candidate_at w.all wanted.offer.input).object ≡ Ok o) (set_is : after ≡ set slots
-          (wanted.offer.input - 1) (loaded o)) (enters : Enters o wanted.offer.input definers defined) where
+      (wanted.offer.input - 1) (loaded o)) (enters : Enters o wanted.offer.input definers defined) where
     after_is : after ≡ set slots (i - 1) (loaded o)
     after_is = set_is ∙ ap (λ (k : ℕ). set slots (k - 1) (loaded o)) here.input_is
 
@@ -307,7 +307,7 @@ module _ (w : World) (numbered : (i : ℕ) (c : Candidate) → slice_get w.all i
       offer = h.offer;
       unloaded = ap (λ (hs : List Held). is_loaded_slot (slot_at hs e.0)) after_is
           ∙ ap is_loaded_slot (slot_other slots (i - 1) (e.0 - 1) (loaded o) (λ same. let p = positive in let q = here.input_is in omega
-              (arith, p, q, lt, same))) ∙ h.unloaded;
+          (arith, p, q, lt, same))) ∙ h.unloaded;
       some = h.some;
     }
 
@@ -330,7 +330,7 @@ module _ (w : World) (numbered : (i : ℕ) (c : Candidate) → slice_get w.all i
       entries = all_still left.entries above (subst (λ (es : List (ℕ × Wanted)). All (IsOne slots) es) (sym entries_are) later);
       faults = ap (λ (es : List (ℕ × Wanted)). first_some (map added_fault (added_of w.all (map seen_entry es)))) entries_are
           ∙ (let s : first_some (added_fault one ∷ map added_fault (added_of w.all (map seen_entry rest))) ≡ first_some (map added_fault
-              (added_of w.all (map seen_entry rest))) = rw no_fault refl in sym s)
+          (added_of w.all (map seen_entry rest))) = rw no_fault refl in sym s)
           ∙ ap (λ (as' : List Added). first_some (map added_fault as')) (sym added_first) ∙ going.faults;
       inputs = append_assoc new (i ∷ []) (map first_of (seen_entries left))
           ∙ ap (λ (es : List (ℕ × Wanted)). new ++ i ∷ map first_of (map seen_entry es)) entries_are

@@ -61,7 +61,7 @@ pub count_more : (ls : List LibraryFile) (at : ℕ) (l : LibraryFile) → at < l
     (drop at ls) ≡ member_count l + sum_by member_count (drop (at + 1) ls)
 count_more ls at l lt is =
     ap (sum_by member_count) (drop_more ls at l lt ∙ ap (λ (x : LibraryFile). x ∷ drop (at + 1) ls) (sym is)) ∙ sum_by-cons member_count l (drop
-        (at + 1) ls)
+    (at + 1) ls)
 
 -- ---- objects of the words
 
@@ -134,7 +134,7 @@ offer_plain n g rest others e is = rw e is
 module _ (w : World) (given : List Given) (knows : KnowsGiven w.all given) (left : List Given) (g : Given) (done : List Given)
     (parts : left ++ g ∷ done ≡ given)
     (slots after : List Held) (lazies lazies_now definers definers_now : List (List ℕ × ℕ)) (before : PutsAll w done slots lazies definers)
-        (put : IsPut g slots after lazies lazies_now definers definers_now) where
+    (put : IsPut g slots after lazies lazies_now definers definers_now) where
   its_candidate : (c : Candidate) × (slice_get w.all (g.object.input - 1) ≡ Some c) × IsGivenAs c g
   its_candidate =
       let p = place_of given g (subst (λ (gs : List Given). Contains gs g) parts (Contains-append_right left (g ∷ done) g (contains_head g done))) in
@@ -161,7 +161,7 @@ module _ (w : World) (given : List Given) (knows : KnowsGiven w.all given) (left
       ∙ ap (λ (h : Held). set (map (held_of done) w.all) (g.object.input - 1) h) (sym here)
       ∙ sym (map_but_one (held_of done) (held_of (g ∷ done)) w.all (g.object.input - 1) c (numbers_rise w.all knows.numbered) its_candidate.1
       (λ d m other. ap (λ (b : Bool). cond (b || list_any (λ h. h.object.input == d.input) done) (held_by starts d) absent)
-          (ne_eqb g.object.input d.input (λ e. other (sym e ∙ sym its_candidate.2.input)))))
+      (ne_eqb g.object.input d.input (λ e. other (sym e ∙ sym its_candidate.2.input)))))
 
   by_kind : (b : Bool) → g.lazy ≡ b → MatchBool b (Enters g.object g.object.input lazies lazies_now × (definers_now ≡ definers))
       (Enters g.object g.object.input definers definers_now × (lazies_now ≡ lazies))

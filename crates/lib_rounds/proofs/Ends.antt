@@ -51,11 +51,9 @@ module _ (mode : Mode) (asked : List (List ℕ)) (all : List Candidate) where
       let k = was_kept adds_any (map (with_names loaded) fresh) m.0 m.1 in
       let n = was_mapped (with_names loaded) fresh m.0 k.0 in
       let f = was_kept (λ c. not (is_loaded loaded c)) all n.0 n.1 in
-      (n.0, (f.0, not_true (is_loaded loaded n.0) f.1, ap (λ (a : Added). a.candidate.input) n.2 ∙ m.2, subst (λ (a : Added). adds_any a ≡ true)
-          (sym n.2) k.1))
+      (n.0, (f.0, not_true (is_loaded loaded n.0) f.1, ap (λ (a : Added). a.candidate.input) n.2 ∙ m.2, subst (λ (a : Added). adds_any a ≡ true) (sym n.2) k.1))
 
-  pub new_again : (loaded : List ℕ) (c : Candidate) → Contains all c → is_loaded loaded c ≡ false → adds_any (with_names loaded c) ≡ true
-      → Contains (inputs_of (next_adds mode asked all loaded)) c.input
+  pub new_again : (loaded : List ℕ) (c : Candidate) → Contains all c → is_loaded loaded c ≡ false → adds_any (with_names loaded c) ≡ true → Contains (inputs_of (next_adds mode asked all loaded)) c.input
   new_again loaded c h f t =
       let fresh : List Candidate = filter (λ c. not (is_loaded loaded c)) all in
       let k = kept (λ c. not (is_loaded loaded c)) all c h (not_false (is_loaded loaded c) f) in
@@ -68,8 +66,7 @@ module _ (mode : Mode) (asked : List (List ℕ)) (all : List Candidate) where
   left loaded = length (filter (λ c. not (is_loaded loaded c)) all)
 
   later_loaded : (loaded more : List ℕ) (c : Candidate) → is_loaded loaded c ≡ true → is_loaded (loaded ++ more) c ≡ true
-  later_loaded loaded more c e = or_left (is_loaded loaded c) (is_loaded more c) (is_loaded (loaded ++ more) c) (list_any-append
-      (λ k. k == c.input) loaded more) e
+  later_loaded loaded more c e = or_left (is_loaded loaded c) (is_loaded more c) (is_loaded (loaded ++ more) c) (list_any-append (λ k. k == c.input) loaded more) e
 
   earlier_not : (loaded more : List ℕ) (c : Candidate) → not (is_loaded (loaded ++ more) c) ≡ true → not (is_loaded loaded c) ≡ true
   earlier_not loaded more c e = elim (cases_Bool (is_loaded loaded c)) [
@@ -77,39 +74,32 @@ module _ (mode : Mode) (asked : List (List ℕ)) (all : List Candidate) where
     | inr f ↦ not_false (is_loaded loaded c) f
   ]
 
-  shrinks : (loaded : List ℕ) (input : ℕ) → Contains (inputs_of (next_adds mode asked all loaded)) input → left
-      (next_round mode asked all loaded) < left loaded
+  shrinks : (loaded : List ℕ) (input : ℕ) → Contains (inputs_of (next_adds mode asked all loaded)) input → left (next_round mode asked all loaded) < left loaded
   shrinks loaded input h =
       let more : List ℕ = inputs_of (next_adds mode asked all loaded) in
       let n = new_from loaded input h in
       let c = n.0 in
-      let there : is_loaded (loaded ++ more) c ≡ true = contains_any c.input (loaded ++ more) (Contains-append_right loaded more c.input (subst (λ
-          (i : ℕ). Contains more i) (sym n.1.2) h)) in
+      let there : is_loaded (loaded ++ more) c ≡ true = contains_any c.input (loaded ++ more) (Contains-append_right loaded more c.input (subst (λ (i : ℕ). Contains more i) (sym n.1.2) h)) in
       fewer_by (λ c. not (is_loaded loaded c)) (λ c. not (is_loaded (loaded ++ more) c)) (earlier_not loaded more) all c n.1.0
       (not_false (is_loaded loaded c) n.1.1) (false_not (is_loaded (loaded ++ more) c) there)
 
   grows : (loaded : List ℕ) (input : ℕ) → Contains (inputs_of (next_adds mode asked all loaded)) input → Grows mode asked all loaded
   grows loaded input h =
       let n = new_from loaded input h in
-      (input, Contains-append_right loaded (inputs_of (next_adds mode asked all loaded)) input h, λ e. not_loaded loaded n.0 n.1.1 (subst (λ
-          (i : ℕ). Contains loaded i) (sym n.1.2) e))
+      (input, Contains-append_right loaded (inputs_of (next_adds mode asked all loaded)) input h, λ e. not_loaded loaded n.0 n.1.1 (subst (λ (i : ℕ). Contains loaded i) (sym n.1.2) e))
 
   -- ---- the end
 
   -- nothing is added to round k, and something to each before it
   abbrev Ends : ℕ → List ℕ → Type 0
-  Ends k loaded = (next_adds mode asked all (round_after mode asked all k loaded) ≡ []) × ((j : ℕ) → j < k → Grows mode asked all
-      (round_after mode asked all j loaded)) × (k ≤ left loaded)
+  Ends k loaded = (next_adds mode asked all (round_after mode asked all k loaded) ≡ []) × ((j : ℕ) → j < k → Grows mode asked all (round_after mode asked all j loaded)) × (k ≤ left loaded)
 
-  grow_from : (loaded : List ℕ) (k : ℕ) → Grows mode asked all loaded → ((j : ℕ) → j < k → Grows mode asked all (round_after mode asked all j
-      (next_round mode asked all loaded))) → (j : ℕ) → j < suc k → Grows mode asked all (round_after mode asked all j loaded)
+  grow_from : (loaded : List ℕ) (k : ℕ) → Grows mode asked all loaded → ((j : ℕ) → j < k → Grows mode asked all (round_after mode asked all j (next_round mode asked all loaded))) → (j : ℕ) → j < suc k → Grows mode asked all (round_after mode asked all j loaded)
   grow_from loaded k first others zero lt = first
   grow_from loaded k first others (suc j) lt = others j (omega (arith, lt))
 
-  first_added : (loaded : List ℕ) (a : Added) (as' : List Added) → next_adds mode asked all loaded ≡ a ∷ as' → Contains (inputs_of
-      (next_adds mode asked all loaded)) a.candidate.input
-  first_added loaded a as' e = subst (λ (xs : List Added). Contains (inputs_of xs) a.candidate.input) (sym e) (contains_head a.candidate.input
-      (inputs_of as'))
+  first_added : (loaded : List ℕ) (a : Added) (as' : List Added) → next_adds mode asked all loaded ≡ a ∷ as' → Contains (inputs_of (next_adds mode asked all loaded)) a.candidate.input
+  first_added loaded a as' e = subst (λ (xs : List Added). Contains (inputs_of xs) a.candidate.input) (sym e) (contains_head a.candidate.input (inputs_of as'))
 
   end_by : (n : ℕ) (loaded : List ℕ) (adds : List Added) → next_adds mode asked all loaded ≡ adds → left loaded ≤ n → (k : ℕ) × Ends k loaded
   end_by n loaded [] e l = (0, (e, λ j lt. absurd (omega (arith, lt)), omega arith))
@@ -137,18 +127,15 @@ module _ (mode : Mode) (asked : List (List ℕ)) (all : List Candidate) where
 
   one_round : (again : List ℕ → Result (List ℕ) Fault) (loaded : List ℕ) (adds : List Added) (a : Added) (as' : List Added) → adds ≡ a ∷ as'
       → go_on again loaded adds ≡ (unless (first_some (map added_fault adds)) (loaded ++ inputs_of adds) >>= again)
-  one_round again loaded adds a as' e = subst (λ (xs : List Added). go_on again loaded xs ≡ (unless (first_some (map added_fault xs))
-      (loaded ++ inputs_of xs) >>= again)) (sym e) refl
+  one_round again loaded adds a as' e = subst (λ (xs : List Added). go_on again loaded xs ≡ (unless (first_some (map added_fault xs)) (loaded ++ inputs_of xs) >>= again)) (sym e) refl
 
-  behind : (fault : Option Fault) (next : List ℕ) (again : List ℕ → Result (List ℕ) Fault) (later : Option Fault) (last : List ℕ)
-      → again next ≡ unless later last
+  behind : (fault : Option Fault) (next : List ℕ) (again : List ℕ → Result (List ℕ) Fault) (later : Option Fault) (last : List ℕ) → again next ≡ unless later last
       → (unless fault next >>= again) ≡ unless (first_some (fault ∷ later ∷ [])) last
   behind (Some x) next again later last e = refl
   behind None next again (Some y) last e = e
   behind None next again None last e = e
 
-  answer_by : (k n : ℕ) (loaded : List ℕ) (adds : List Added) → next_adds mode asked all loaded ≡ adds → next_adds mode asked all
-      (round_after mode asked all k loaded) ≡ []
+  answer_by : (k n : ℕ) (loaded : List ℕ) (adds : List Added) → next_adds mode asked all loaded ≡ adds → next_adds mode asked all (round_after mode asked all k loaded) ≡ []
       → ((j : ℕ) → j < k → Grows mode asked all (round_after mode asked all j loaded)) → k ≤ n
       → rounds mode asked all n loaded ≡ unless (fault_within mode asked all k loaded) (round_after mode asked all k loaded)
   answer_by zero zero loaded adds is last going l = refl
@@ -159,22 +146,18 @@ module _ (mode : Mode) (asked : List (List ℕ)) (all : List Candidate) where
       let next : List ℕ = next_round mode asked all loaded in
       let others = answer_by k n next (next_adds mode asked all next) refl last (λ j lt. going (suc j) (omega (arith, lt))) (omega (arith, l)) in
       one_round (rounds mode asked all n) loaded (next_adds mode asked all loaded) a as' is
-      ∙ behind (round_fault mode asked all loaded) next (rounds mode asked all n) (fault_within mode asked all k next)
-          (round_after mode asked all k next) others
+      ∙ behind (round_fault mode asked all loaded) next (rounds mode asked all n) (fault_within mode asked all k next) (round_after mode asked all k next) others
 
-  answer_of : (k n : ℕ) (loaded : List ℕ) → Ends k loaded → k ≤ n → rounds mode asked all n loaded ≡ unless (fault_within mode asked all k loaded)
-      (round_after mode asked all k loaded)
+  answer_of : (k n : ℕ) (loaded : List ℕ) → Ends k loaded → k ≤ n → rounds mode asked all n loaded ≡ unless (fault_within mode asked all k loaded) (round_after mode asked all k loaded)
   answer_of k n loaded e l = answer_by k n loaded (next_adds mode asked all loaded) refl e.0 e.1 l
 
   few : (k : ℕ) (loaded : List ℕ) → Ends k loaded → k ≤ length all
   few k loaded e = let f = fewest (λ c. not (is_loaded loaded c)) all in omega (arith, e.2, f)
 
-  loaded_of : (k : ℕ) → Ends k (at_once all) → loaded_inputs mode asked all ≡ unless (first_some (given_fault all ∷ fault_within mode asked all k
-      (at_once all) ∷ [])) (round_after mode asked all k (at_once all))
+  loaded_of : (k : ℕ) → Ends k (at_once all) → loaded_inputs mode asked all ≡ unless (first_some (given_fault all ∷ fault_within mode asked all k (at_once all) ∷ [])) (round_after mode asked all k (at_once all))
   loaded_of k e =
       let f = few k (at_once all) e in
-      behind (given_fault all) (at_once all) (rounds mode asked all (length all + 1)) (fault_within mode asked all k (at_once all))
-          (round_after mode asked all k (at_once all))
+      behind (given_fault all) (at_once all) (rounds mode asked all (length all + 1)) (fault_within mode asked all k (at_once all)) (round_after mode asked all k (at_once all))
       (answer_of k (length all + 1) (at_once all) e (omega (arith, f)))
 
   -- ---- exactly what is added
@@ -193,8 +176,7 @@ module _ (mode : Mode) (asked : List (List ℕ)) (all : List Candidate) where
   next_differ loaded h d =
       let more : List ℕ = inputs_of (next_adds mode asked all loaded) in
       pairs_joined (λ (a b : ℕ). a ≢ b) loaded more d (added_pairs (λ (a b : ℕ). a ≢ b) loaded h)
-      (λ x y in_loaded in_more e. let n = new_from loaded y in_more in not_loaded loaded n.0 n.1.1 (subst (λ (i : ℕ). Contains loaded i) (e
-          ∙ sym n.1.2) in_loaded))
+      (λ x y in_loaded in_more e. let n = new_from loaded y in_more in not_loaded loaded n.0 n.1.1 (subst (λ (i : ℕ). Contains loaded i) (e ∙ sym n.1.2) in_loaded))
 
   abbrev Inputs : List ℕ → Type 0
   Inputs loaded = All (Contains (inputs_in all)) loaded
@@ -216,8 +198,7 @@ module _ (mode : Mode) (asked : List (List ℕ)) (all : List Candidate) where
 
   onward : (k : ℕ) (loaded : List ℕ) (i : ℕ) → Contains loaded i → Contains (round_after mode asked all k loaded) i
   onward zero loaded i h = h
-  onward (suc k) loaded i h = onward k (next_round mode asked all loaded) i (Contains-append_left loaded (inputs_of
-      (next_adds mode asked all loaded)) i h)
+  onward (suc k) loaded i h = onward k (next_round mode asked all loaded) i (Contains-append_left loaded (inputs_of (next_adds mode asked all loaded)) i h)
 
   at_once_inputs : Inputs (at_once all)
   at_once_inputs = all_from (Contains (inputs_in all)) (at_once all) (λ i h.
@@ -242,12 +223,10 @@ loaded_is_first_equal mode asked all =
     let r = end_of mode asked all (at_once all) in
     (r.0, few mode asked all r.0 (at_once all) r.1, first_equal mode asked all r.0 (at_once all) r.1, loaded_of mode asked all r.0 r.1)
 
-last_is : (mode : Mode) (asked : List (List ℕ)) (all : List Candidate) (loaded : List ℕ) → loaded_inputs mode asked all ≡ Ok loaded
-    → round_after mode asked all (end_of mode asked all (at_once all)).0 (at_once all) ≡ loaded
+last_is : (mode : Mode) (asked : List (List ℕ)) (all : List Candidate) (loaded : List ℕ) → loaded_inputs mode asked all ≡ Ok loaded → round_after mode asked all (end_of mode asked all (at_once all)).0 (at_once all) ≡ loaded
 last_is mode asked all loaded e =
     let r = end_of mode asked all (at_once all) in
-    is_answer (first_some (given_fault all ∷ fault_within mode asked all r.0 (at_once all) ∷ [])) (round_after mode asked all r.0
-        (at_once all)) loaded (sym (loaded_of mode asked all r.0 r.1) ∙ e)
+    is_answer (first_some (given_fault all ∷ fault_within mode asked all r.0 (at_once all) ∷ [])) (round_after mode asked all r.0 (at_once all)) loaded (sym (loaded_of mode asked all r.0 r.1) ∙ e)
 
 pub nothing_is_left : NothingIsLeft
 nothing_is_left mode asked all loaded e =

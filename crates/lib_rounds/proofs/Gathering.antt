@@ -63,7 +63,7 @@ names_taken test [] at name e = absurd cc
 names_taken test (s ∷ ss) zero name e = named_first test s [] name e
 names_taken test (s ∷ ss) (suc at) name e =
     ap (λ (xs : List Symbol). names_in test xs) (take_step at s ss) ∙ one_named test s (take (at + 1) ss) (take at ss) name (name_if test s) refl
-        (names_taken test ss at name e)
+    (names_taken test ss at name e)
 
 pub names_untaken : (test : Symbol → Bool) (ss : List Symbol) (at : ℕ) → named_at test ss at ≡ None → at < length ss → names_in test (take
     (at + 1) ss) ≡ names_in test (take at ss)
@@ -71,7 +71,7 @@ names_untaken test [] at e lt = absurd (omega (arith, lt))
 names_untaken test (s ∷ ss) zero e lt = nameless_first test s [] e
 names_untaken test (s ∷ ss) (suc at) e lt =
     ap (λ (xs : List Symbol). names_in test xs) (take_step at s ss) ∙ one_same test s (take (at + 1) ss) (take at ss) (name_if test s) refl
-        (names_untaken test ss at e (omega (arith, lt)))
+    (names_untaken test ss at e (omega (arith, lt)))
 
 -- ---- one after another
 
@@ -83,7 +83,7 @@ module _ (w : World) (libraries : List LibraryFile) (files : List (List ℕ)) (s
       → Looks w libraries files slots ys b c → Looks w libraries files slots (xs ++ ys) a c
   looks_more xs ys a b c f g inputs names shows h =
       subst (λ (ns : List (List ℕ)). Looked w libraries files slots inputs ns c) (append_assoc names xs ys) (g inputs (names ++ xs) shows
-          (f inputs names shows h))
+      (f inputs names shows h))
 
   pub looks_same : (xs ys : List (List ℕ)) (a b : BTreeMap ℕ Wanted) → xs ≡ ys → Looks w libraries files slots xs a b
       → Looks w libraries files slots ys a b
@@ -169,7 +169,7 @@ module _ (w : World) (libraries : List LibraryFile) (files : List (List ℕ)) (l
     pub at_slot : Hold w.all slots → (h : Held) → h ≡ get_or slots (offer.input - 1) h → slot_at slots offer.input ≡ h
     at_slot hold h e =
         let inside = slice_get_within slots (offer.input - 1) (held_by (by_slot slots) c) (slot_held w.all slots (by_slot slots)
-            (offer.input - 1) c hold found.1) in
+        (offer.input - 1) c hold found.1) in
         get_or_from_slice_get slots (offer.input - 1) h absent (index_is slots (offer.input - 1) h inside e)
 
     slot_is : (inputs : List ℕ) → Shows w.all slots inputs → slot_at slots offer.input ≡ held_by (is_loaded inputs) c
@@ -192,7 +192,7 @@ module _ (w : World) (libraries : List LibraryFile) (files : List (List ℕ)) (l
     module _ (adds new : BTreeMap ℕ Wanted) (undefined : is_some (lookup (bytes_eq name) definers) ≡ false) (unloaded : is_loaded_slot
         (slot_at slots offer.input) ≡ false) (ordered : IsOrdered nat_cmp new)
         (law : (q : ℕ) → get nat_cmp new q ≡ cond (is_at (nat_cmp offer.input) q) (Some (pushed (get nat_cmp adds offer.input) offer name))
-            (get nat_cmp adds q)) where
+        (get nat_cmp adds q)) where
       abbrev IsOne : ℕ × Wanted → Type 0
       IsOne e = IsEntry w.all libraries files slots e.0 e.1
 
@@ -200,8 +200,15 @@ module _ (w : World) (libraries : List LibraryFile) (files : List (List ℕ)) (l
       pushed_entry all_are None e = record { c = c; at = found.1; input_is = refl; offer = found.2; unloaded = unloaded; some = omega arith }
       pushed_entry all_are (Some x) e =
           let h = All-contains IsOne adds.entries (offer.input, x) all_are (found_in adds.entries offer.input x e) in
-          record { c = h.c; at = h.at; input_is = h.input_is; offer = h.offer; unloaded = h.unloaded; some = let l = length-append x.names
-              (name ∷ []) in omega (arith, l) }
+          record {
+            c = h.c;
+            at = h.at;
+            input_is = h.input_is;
+            offer = h.offer;
+            unloaded = h.unloaded;
+            some = let l = length-append x.names
+                (name ∷ []) in omega (arith, l);
+          }
 
       chosen : (b : Bool) (o : Option Wanted) (x y : Wanted) → (let z : Option Wanted = cond b (Some x) o in z ≡ Some y) → ((b ≡ true) ×
           (x ≡ y)) ⊎ ((b ≡ false) × (o ≡ Some y))
@@ -211,9 +218,9 @@ module _ (w : World) (libraries : List LibraryFile) (files : List (List ℕ)) (l
       entry_is : All IsOne adds.entries → (e : ℕ × Wanted) → Contains new.entries e → IsOne e
       entry_is all_are e m =
           let g : get nat_cmp new e.0 ≡ Some e.1 = All-contains (λ (x : ℕ × Wanted). get nat_cmp new x.0 ≡ Some x.1) new.entries e
-              (All-found nat_cmp_total new ordered) m in
+          (All-found nat_cmp_total new ordered) m in
           elim (chosen (is_at (nat_cmp offer.input) e.0) (get nat_cmp adds e.0) (pushed (get nat_cmp adds offer.input) offer name) e.1 (sym
-              (law e.0) ∙ g)) [
+          (law e.0) ∙ g)) [
             | inl p ↦ subst (λ (x : Wanted). IsOne (e.0, x)) p.1 (subst (λ (k : ℕ). IsOne (k, pushed (get nat_cmp adds offer.input) offer name))
                 (same_key offer.input e.0 p.0) (pushed_entry all_are (get nat_cmp adds offer.input) refl))
             | inr p ↦ All-contains IsOne adds.entries (e.0, e.1) all_are (found_in adds.entries e.0 e.1 p.1)
@@ -243,7 +250,7 @@ module _ (w : World) (libraries : List LibraryFile) (files : List (List ℕ)) (l
             (defines.defined name) ∙ undefined)) c in_all offers_it
             (not_in inputs shows) (subst (λ (ks : List ℕ). IsStrictlySortedBy nat_cmp ks) (sym (seen_keys new.entries)) ordered)
             (subst (λ (i : ℕ). (q : ℕ) → lookup (is_at (nat_cmp q)) (seen_entries new) ≡ cond (is_at (nat_cmp i) q) (Some (unwrap_or (lookup
-                (is_at (nat_cmp i)) (seen_entries adds)) [] ++ name ∷ [])) (lookup (is_at (nat_cmp q)) (seen_entries adds))) (sym same) seen_law);
+            (is_at (nat_cmp i)) (seen_entries adds)) [] ++ name ∷ [])) (lookup (is_at (nat_cmp q)) (seen_entries adds))) (sym same) seen_law);
         ordered = ordered;
         entries = all_from IsOne new.entries (entry_is h.entries);
       }

@@ -51,8 +51,7 @@ all_kept : {X : Type 0} (p : X → Bool) (Q : X → Type 0) (xs : List X) → Al
 all_kept {X} p Q [] h = All-nil Q
 all_kept {X} p Q (x ∷ xs) h =
     let others = all_kept p Q xs (All-tail (λ (y : X). p y ≡ true → Q y) x xs h) in
-    elim (cases_Bool (p x)) [ inl is ↦ rw is (All-cons Q x (filter p xs) (All-head (λ (y : X). p y ≡ true
-        → Q y) x xs h is) others) | inr not_so ↦ rw not_so others ]
+    elim (cases_Bool (p x)) [ inl is ↦ rw is (All-cons Q x (filter p xs) (All-head (λ (y : X). p y ≡ true → Q y) x xs h is) others) | inr not_so ↦ rw not_so others ]
 
 pub was_kept : {X : Type 0} (p : X → Bool) (xs : List X) (x : X) → Contains (filter p xs) x → Contains xs x × (p x ≡ true)
 was_kept {X} p xs x h =
@@ -62,10 +61,8 @@ was_kept {X} p xs x h =
 pub kept : {X : Type 0} (p : X → Bool) (xs : List X) (x : X) → Contains xs x → p x ≡ true → Contains (filter p xs) x
 kept {X} p [] x h t = absurd (contains_none x h)
 kept {X} p (y ∷ ys) x h t = elim (contains_cases y ys x h) [
-  | inl same ↦ let is : p y ≡ true = subst (λ (z : X). p z ≡ true) (sym same) t in rw is (subst (λ (z : X). Contains (y ∷ filter p ys) z) same
-      (contains_head y (filter p ys)))
-  | inr later ↦ let others = kept p ys x later t in elim (cases_Bool (p y)) [ inl is ↦ rw is (contains_tail y
-      (filter p ys) x others) | inr not_so ↦ rw not_so others ]
+  | inl same ↦ let is : p y ≡ true = subst (λ (z : X). p z ≡ true) (sym same) t in rw is (subst (λ (z : X). Contains (y ∷ filter p ys) z) same (contains_head y (filter p ys)))
+  | inr later ↦ let others = kept p ys x later t in elim (cases_Bool (p y)) [ inl is ↦ rw is (contains_tail y (filter p ys) x others) | inr not_so ↦ rw not_so others ]
 ]
 
 pub fewer : {X : Type 0} (p q : X → Bool) → ((x : X) → q x ≡ true → p x ≡ true) → (xs : List X) → length (filter q xs) ≤ length (filter p xs)
@@ -77,8 +74,7 @@ fewer p q h (x ∷ xs) =
       | inr not_so ↦ elim (cases_Bool (p x)) [ inl is ↦ rw (not_so, is) (omega (arith, others)) | inr none ↦ rw (not_so, none) others ]
     ]
 
-pub fewer_by : {X : Type 0} (p q : X → Bool) → ((x : X) → q x ≡ true → p x ≡ true) → (xs : List X) (x : X) → Contains xs x → p x ≡ true
-    → q x ≡ false → length (filter q xs) < length (filter p xs)
+pub fewer_by : {X : Type 0} (p q : X → Bool) → ((x : X) → q x ≡ true → p x ≡ true) → (xs : List X) (x : X) → Contains xs x → p x ≡ true → q x ≡ false → length (filter q xs) < length (filter p xs)
 fewer_by {X} p q h [] x c t f = absurd (contains_none x c)
 fewer_by {X} p q h (y ∷ ys) x c t f = elim (contains_cases y ys x c) [
   | inl same ↦
@@ -95,8 +91,7 @@ fewer_by {X} p q h (y ∷ ys) x c t f = elim (contains_cases y ys x c) [
 
 pub fewest : {X : Type 0} (p : X → Bool) (xs : List X) → length (filter p xs) ≤ length xs
 fewest p [] = omega arith
-fewest p (x ∷ xs) = let others = fewest p xs in elim (cases_Bool (p x)) [ inl is ↦ rw is (omega (arith, others)) | inr not_so ↦ rw not_so (omega
-    (arith, others)) ]
+fewest p (x ∷ xs) = let others = fewest p xs in elim (cases_Bool (p x)) [ inl is ↦ rw is (omega (arith, others)) | inr not_so ↦ rw not_so (omega (arith, others)) ]
 
 -- ---- maps
 
@@ -125,8 +120,7 @@ pairs_first R x xs pairs = λ k d lt. pairs 0 (suc k) d (omega arith) (omega (ar
 pub pairs_later : {X : Type 0} (R : X → X → Type 0) (x : X) (xs : List X) → AllPairs R (x ∷ xs) → AllPairs R xs
 pairs_later R x xs pairs = λ i j d lt within. pairs (suc i) (suc j) d (omega (arith, lt)) (omega (arith, within))
 
-pub pairs_joined : {X : Type 0} (R : X → X → Type 0) (xs ys : List X) → AllPairs R xs → AllPairs R ys → ((x y : X) → Contains xs x
-    → Contains ys y → R x y) → AllPairs R (xs ++ ys)
+pub pairs_joined : {X : Type 0} (R : X → X → Type 0) (xs ys : List X) → AllPairs R xs → AllPairs R ys → ((x y : X) → Contains xs x → Contains ys y → R x y) → AllPairs R (xs ++ ys)
 pairs_joined R [] ys p q h = q
 pairs_joined {X} R (x ∷ xs) ys p q h =
     AllPairs-cons R x (xs ++ ys)
@@ -141,6 +135,5 @@ pairs_kept {X} R f p (x ∷ xs) h =
     let first = all_from (R (f x)) (map f (filter p xs)) (λ b c.
     let r = was_mapped f (filter p xs) b c in
     let k = was_kept p xs r.0 r.1 in
-    All-contains (R (f x)) (map f xs) b (pairs_first R (f x) (map f xs) h) (subst (λ (z : ℕ). Contains (map f xs) z) r.2
-        (contains_map f xs r.0 k.0))) in
+    All-contains (R (f x)) (map f xs) b (pairs_first R (f x) (map f xs) h) (subst (λ (z : ℕ). Contains (map f xs) z) r.2 (contains_map f xs r.0 k.0))) in
     elim (cases_Bool (p x)) [ inl is ↦ rw is (AllPairs-cons R (f x) (map f (filter p xs)) first others) | inr not_so ↦ rw not_so others ]

@@ -98,7 +98,7 @@ same_name a b e = (bytes_eq-Decides a b).0 e
 
 pub put_lookup : (es : List (Vec ℕ × ℕ)) (key : Vec ℕ) (k : ℕ) (n : List ℕ)
     → lookup (bytes_eq n) (map plain (insert_entry (λ a b. bytes_eq a.items b.items) es key k)) ≡ cond (bytes_eq n key.items) (Some k) (lookup
-        (bytes_eq n) (map plain es))
+    (bytes_eq n) (map plain es))
 put_lookup [] key k n = refl
 put_lookup (e ∷ es) key k n =
     elim (cases_Bool (bytes_eq key.items e.0.items)) [

@@ -35,15 +35,28 @@ module _ (all : List Candidate) (libraries : List LibraryFile) (files : List (Li
   member_found o h =
       let l = h.0 in
       let s = there l.library.members o.member h.2 in
-      let c = knows.member o.library o.member l s.0 h.1 s.1 in
-      (c.0, subst (λ (i : ℕ). slice_get all (i - 1) ≡ Some c.0) (sym h.3) c.1, subst (λ (i : ℕ). IsOffer libraries files (record { input =
-          i; library = o.library; member = o.member }) c.0) (sym h.3) c.2)
+      let c = knows.member o.library o.member l s.0 h.1 s.1 in (
+        c.0,
+        subst (λ (i : ℕ). slice_get all (i - 1) ≡ Some c.0) (sym h.3) c.1,
+        subst (λ (i : ℕ). IsOffer libraries files (record {
+          input =
+              i;
+          library = o.library;
+          member = o.member;
+        }) c.0) (sym h.3) c.2,
+      )
 
   lazy_found : (name : List ℕ) (o : Offer) → lookup (bytes_eq name) lazies ≡ Some o.input → IsFound o
   lazy_found name o e =
-      let c = knows.lazy name o.input e in
-      (c.0, c.1, record { input = c.2; from = subst (λ (b : Bool). MatchBool b (IsMember libraries files o c.0.object) ((object : Object) ×
-          (c.0.object ≡ Ok object))) (sym c.3) c.4 })
+      let c = knows.lazy name o.input e in (
+        c.0,
+        c.1,
+        record {
+          input = c.2;
+          from = subst (λ (b : Bool). MatchBool b (IsMember libraries files o c.0.object) ((object : Object) ×
+              (c.0.object ≡ Ok object))) (sym c.3) c.4;
+        },
+      )
 
   pub from_either : (name : List ℕ) (r m : Option Offer) (lazy : Option ℕ) → IfSome r (λ o. (m ≡ Some o) ⊎ (lazy ≡ Some o.input))
       → IfSome m IsAtMember → lazy ≡ lookup (bytes_eq name) lazies → IfSome r IsFound

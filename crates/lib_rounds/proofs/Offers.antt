@@ -12,16 +12,14 @@ use Rattle.lib_rounds.proofs.Ends.{wants, new_from, new_again}
 
 -- ---- the first that passes
 
-passing : (p : Candidate → Bool) (all : List Candidate) (input : ℕ) → option_map (λ (c : Candidate). c.input) (find p all) ≡ Some input →
-    (c : Candidate) × Contains all c × (c.input ≡ input) × (p c ≡ true)
+passing : (p : Candidate → Bool) (all : List Candidate) (input : ℕ) → option_map (λ (c : Candidate). c.input) (find p all) ≡ Some input → (c : Candidate) × Contains all c × (c.input ≡ input) × (p c ≡ true)
 passing p [] input e = absurd cc
 passing p (c ∷ cs) input e = elim (cases_Bool (p c)) [
   | inl is ↦ let same : c.input ≡ input = (let h = rw is at e in cc) in (c, contains_head c cs, same, is)
   | inr not_so ↦ let r = passing p cs input (rw not_so at e) in (r.0, contains_tail c cs r.0 r.1, r.2, r.3)
 ]
 
-least_passes : (p : Candidate → Bool) (all : List Candidate) (input : ℕ) → AllPairs (λ a b. a < b) (inputs_in all) → option_map (λ
-    (c : Candidate). c.input) (find p all) ≡ Some input → (c : Candidate) → Contains all c → p c ≡ true → input ≤ c.input
+least_passes : (p : Candidate → Bool) (all : List Candidate) (input : ℕ) → AllPairs (λ a b. a < b) (inputs_in all) → option_map (λ (c : Candidate). c.input) (find p all) ≡ Some input → (c : Candidate) → Contains all c → p c ≡ true → input ≤ c.input
 least_passes p [] input rise e c h t = absurd (contains_none c h)
 least_passes p (d ∷ ds) input rise e c h t = elim (cases_Bool (p d)) [
   | inl is ↦
@@ -29,8 +27,7 @@ least_passes p (d ∷ ds) input rise e c h t = elim (cases_Bool (p d)) [
       elim (contains_cases d ds c h) [
         | inl one ↦ let i : d.input ≡ c.input = ap (λ (x : Candidate). x.input) one in omega (arith, same, i)
         | inr later ↦
-            let above : d.input < c.input = All-contains (λ (b : ℕ). d.input < b) (inputs_in ds) c.input (pairs_first (λ (a b : ℕ). a < b) d.input
-                (inputs_in ds) rise) (contains_map (λ (x : Candidate). x.input) ds c later) in
+            let above : d.input < c.input = All-contains (λ (b : ℕ). d.input < b) (inputs_in ds) c.input (pairs_first (λ (a b : ℕ). a < b) d.input (inputs_in ds) rise) (contains_map (λ (x : Candidate). x.input) ds c later) in
             omega (arith, same, above)
       ]
   | inr not_so ↦
@@ -80,8 +77,7 @@ module _ (mode : Mode) (asked : List (List ℕ)) (all : List Candidate) (loaded 
       elim (cases_Bool (is_loaded loaded c.0)) [
         | inl is ↦ Contains-append_left loaded more input (subst (λ (i : ℕ). Contains loaded i) c.2 (any_contains c.0.input loaded is))
         | inr fresh ↦
-            let k = kept (λ name. is_just c.0.input (offering all name)) (wants mode asked all loaded) o.0 o.1 (that_is c.0.input
-                (offering all o.0) (o.2 ∙ ap Some (sym c.2))) in
+            let k = kept (λ name. is_just c.0.input (offering all name)) (wants mode asked all loaded) o.0 o.1 (that_is c.0.input (offering all o.0) (o.2 ∙ ap Some (sym c.2))) in
             let t = some_name (names_for all (wants mode asked all loaded) c.0) o.0 k in
             Contains-append_right loaded more input (subst (λ (i : ℕ). Contains more i) c.2 (new_again mode asked all loaded c.0 c.1 fresh t))
       ]
@@ -89,7 +85,6 @@ module _ (mode : Mode) (asked : List (List ℕ)) (all : List Candidate) (loaded 
 pub next_is : NextIs
 next_is mode asked all loaded input =
     let more : List ℕ = inputs_of (next_adds mode asked all loaded) in (
-      λ h. elim (Contains-append_cases loaded more input h) [ inl before ↦ inl before | inr added ↦ inr
-          (why_added mode asked all loaded input added) ],
+      λ h. elim (Contains-append_cases loaded more input h) [ inl before ↦ inl before | inr added ↦ inr (why_added mode asked all loaded input added) ],
       λ h. elim h [ inl before ↦ Contains-append_left loaded more input before | inr offered ↦ there mode asked all loaded input offered ],
     )

@@ -70,7 +70,7 @@ module _ (w : World) (numbered : (i : ℕ) (c : Candidate) → slice_get w.all i
     read = λ c m e.
         let by : by_slot slots c ≡ true = sym (picked w.all rise (by_slot slots) c m) ∙ e in
         let value : slot_at slots c.input ≡ held_by (by_slot slots) c = get_or_from_slice_get slots (c.input - 1) (held_by
-            (by_slot slots) c) absent (slot_held w.all slots (by_slot slots) (c.input - 1) c hold (stands w.all numbered c m)) in
+        (by_slot slots) c) absent (slot_held w.all slots (by_slot slots) (c.input - 1) c hold (stands w.all numbered c m)) in
         loaded_by (by_slot slots c) c.is_member c.object (sym (ap is_loaded_slot value) ∙ by);
   }
 
@@ -104,7 +104,7 @@ module _ (w : World) (numbered : (i : ℕ) (c : Candidate) → slice_get w.all i
       slots_are = done.slots (is_loaded inputs) shows.slots_are
           ∙ map_same_of (held_by (is_loaded after)) (held_by (or_in (is_loaded inputs) new)) w.all
           (λ d m. ap (λ (b : Bool). held_as b d.is_member d.object) (ap (λ (xs : List ℕ). is_loaded inputs d || list_any
-              (λ k. k == d.input) xs) new_is ∙ sym (list_any-append (λ k. k == d.input) inputs (inputs_of added))))
+          (λ k. k == d.input) xs) new_is ∙ sym (list_any-append (λ k. k == d.input) inputs (inputs_of added))))
 
       shows_after : Shows w.all slots after
       shows_after = record { slots_are = slots_are; read = read_after w.all rise wanted inputs shows.read no_fault }
@@ -129,7 +129,7 @@ module _ (w : World) (numbered : (i : ℕ) (c : Candidate) → slice_get w.all i
       next_is next h =
           subst (λ (ns : List (List ℕ)). AreAdds (seen_entries next) (lean_adds w.mode w.all after ns)) names_are
           (subst (λ (os : List Object). AreAdds (seen_entries next) (round_adds w.all (filter (λ n. not (is_defined w.mode os n))
-              (names_at slots new)) after)) objects_are
+          (names_at slots new)) after)) objects_are
           (entries_add w.all (filter (is_undefined w.mode slots) (names_at slots new)) after rise (seen_entries next) h.holds))
 
     pub hold_after : Hold w.all slots
@@ -154,7 +154,7 @@ module _ (w : World) (numbered : (i : ℕ) (c : Candidate) → slice_get w.all i
   pub fails_round : (old_slots : List Held) (old : BTreeMap ℕ Wanted) (e : RoundError) → FailsBy e (first_some (map added_fault (added_of w.all
       (seen_entries old))))
       → (inputs : List ℕ) (names : List (List ℕ)) → Shows w.all old_slots inputs → AreAdds (seen_entries old)
-          (lean_adds w.mode w.all inputs names) → FailsBy e (first_some (map added_fault (lean_adds w.mode w.all inputs names)))
+      (lean_adds w.mode w.all inputs names) → FailsBy e (first_some (map added_fault (lean_adds w.mode w.all inputs names)))
   fails_round old_slots old e f inputs names shows adds_are =
       subst (λ (as' : List Added). FailsBy e (first_some (map added_fault as')))
       (added_is w.all numbered (seen_entries old) (lean_adds w.mode w.all inputs names) adds_are
@@ -233,9 +233,9 @@ module _ (w : World) (libraries : List LibraryFile) (files : List (List ℕ)) (o
 
     pub fails_running : rounds ≡ length w.all + 1 → (e : RoundError)
         → ((inputs : List ℕ) (names : List (List ℕ)) → Shows w.all slots inputs → AreAdds (seen_entries adds)
-            (lean_adds w.mode w.all inputs names) → FailsBy e (first_some (map added_fault (lean_adds w.mode w.all inputs names))))
+        (lean_adds w.mode w.all inputs names) → FailsBy e (first_some (map added_fault (lean_adds w.mode w.all inputs names))))
         → (inputs : List ℕ) (names : List (List ℕ)) → Shows w.all old_slots inputs → AreAdds (seen_entries old)
-            (lean_adds w.mode w.all inputs names) → Fails e (lean w.mode w.all (length w.all + 1) inputs names)
+        (lean_adds w.mode w.all inputs names) → Fails e (lean w.mode w.all (length w.all + 1) inputs names)
     fails_running many e f inputs names shows adds_are =
         let r = running.goes inputs names shows adds_are in
         let g = fails_on (lean w.mode w.all (left - 1)) r.0 (lean_adds w.mode w.all r.0 r.1) e (f r.0 r.1 r.2 r.3) in
@@ -256,7 +256,7 @@ module _ (w : World) (libraries : List LibraryFile) (files : List (List ℕ)) (o
           let d = done.goes r.0 r.1 r.2 r.3 in
           let added = lean_adds w.mode w.all r.0 r.1 in
           let lt = some_added (seen_entries adds) (lean_adds w.mode w.all r.0 r.1) (let l = seen_length adds.entries in omega
-              (arith, l, filled)) r.3 in (
+          (arith, l, filled)) r.3 in (
             r.0 ++ inputs_of (lean_adds w.mode w.all r.0 r.1),
             names_of (lean_adds w.mode w.all r.0 r.1),
             d.1,
@@ -270,7 +270,7 @@ module _ (w : World) (libraries : List LibraryFile) (files : List (List ℕ)) (o
 pub running_first : (w : World) (libraries : List LibraryFile) (files : List (List ℕ)) (slots : List Held) (adds : BTreeMap ℕ Wanted)
     (rounds left : ℕ) (definers : List (List ℕ × ℕ)) → left ≡ rounds → Hold w.all slots → Defines w.mode slots definers
     → IsOrdered nat_cmp adds → All (λ e. IsEntry w.all libraries files slots e.0 e.1) adds.entries
-        → Running w libraries files slots adds rounds left slots definers adds
+    → Running w libraries files slots adds rounds left slots definers adds
 running_first w libraries files slots adds rounds left definers same hold defines ordered entries = record {
   hold = hold;
   defines = defines;
@@ -290,10 +290,10 @@ pub first_is : (w : World) (numbered : (i : ℕ) (c : Candidate) → slice_get w
     → AreAdds (seen_entries adds) (lean_adds w.mode w.all inputs (first_names asked (objects_of w.all inputs)))
 first_is w numbered libraries files slots inputs asked adds shows h =
     subst (λ (os : List Object). AreAdds (seen_entries adds) (round_adds w.all (filter (λ n. not (is_defined w.mode os n))
-        (first_names asked os)) inputs))
+    (first_names asked os)) inputs))
     (ap loaded_objects shows.slots_are ∙ sym (loaded_are w.all inputs))
     (entries_add w.all (filter (is_undefined w.mode slots) (first_names asked (loaded_objects slots))) inputs (numbers_rise w.all numbered)
-        (seen_entries adds) h.holds)
+    (seen_entries adds) h.holds)
 
 abbrev with_objects : List Candidate → Result (List ℕ) Fault → Result (List Object) Fault
 with_objects all r = r >>= λ loaded. Ok (objects_of all loaded)

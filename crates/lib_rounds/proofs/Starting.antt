@@ -92,12 +92,12 @@ members_at l bytes input member (x ∷ ss) zero s e =
     let p : input ≡ input + 0 = omega arith in
     let q : member ≡ member + 0 = omega arith in
     ap (λ (y : Span). Some (member_candidate l bytes input member y)) one ∙ ap (λ (n : ℕ). Some (member_candidate l bytes n member s)) p ∙ ap (λ
-        (n : ℕ). Some (member_candidate l bytes (input + 0) n s)) q
+    (n : ℕ). Some (member_candidate l bytes (input + 0) n s)) q
 members_at l bytes input member (x ∷ ss) (suc k) s e =
     let p : (input + 1) + k ≡ input + suc k = omega arith in
     let q : (member + 1) + k ≡ member + suc k = omega arith in
     members_at l bytes (input + 1) (member + 1) ss k s e ∙ ap (λ (n : ℕ). Some (member_candidate l bytes n ((member + 1) + k) s)) p ∙ ap (λ
-        (n : ℕ). Some (member_candidate l bytes (input + suc k) n s)) q
+    (n : ℕ). Some (member_candidate l bytes (input + suc k) n s)) q
 
 pub knows_members : (all : List Candidate) (given : List Given) (libraries : List LibraryFile) (files : List (List ℕ))
     → AreCandidates all given libraries files → All (IsRead files) libraries → KnowsMembers all libraries files
@@ -105,7 +105,7 @@ knows_members all given libraries files are read = record { numbered = are.numbe
   where
     one : (j k : ℕ) (l : LibraryFile) (s : Span) → slice_get libraries j ≡ Some l → slice_get l.library.members k ≡ Some s
         → (c : Candidate) × (slice_get (members_of files l) k ≡ Some c) × (slice_get all (l.first + k - 1) ≡ Some c) × IsOffer libraries files
-            (record { input = l.first + k; library = j; member = k }) c
+        (record { input = l.first + k; library = j; member = k }) c
     one j k l s at_l at_s =
         let r = All-contains (IsRead files) libraries l read (at_place libraries j l at_l) in
         let bytes_is : slice_index_or files l.file [] ≡ r.0 = get_or_from_slice_get files l.file r.0 [] r.1 in
@@ -256,8 +256,11 @@ knows_all all given libraries files lazies are read lazy = record {
 filter_two : (p q : Candidate → Bool) (cs : List Candidate) → filter p (filter q cs) ≡ filter (λ c. q c && p c) cs
 filter_two p q [] = refl
 filter_two p q (c ∷ cs) = elim (cases_Bool (q c)) [
-  | inl is ↦ elim (cases_Bool (p c)) [ inl too ↦ rw (is, too) (ap (λ (xs : List Candidate). c ∷ xs) (filter_two p q cs)) | inr other ↦ rw
-      (is, other) (filter_two p q cs) ]
+  | inl is ↦ elim (cases_Bool (p c)) [
+    | inl too ↦ rw (is, too) (ap (λ (xs : List Candidate). c ∷ xs) (filter_two p q cs))
+    | inr other ↦ rw
+        (is, other) (filter_two p q cs)
+  ]
   | inr not_so ↦ rw not_so (filter_two p q cs)
 ]
 
@@ -284,7 +287,7 @@ read_of (Err fault) e = absurd cc
 pub shows_at_once : (w : World) (given : List Given) (libraries : List LibraryFile) (files : List (List ℕ))
     → AreCandidates w.all given libraries files → (old slots : List Held) → old ≡ map (held_of given) w.all
     → ((p : Candidate → Bool) → old ≡ map (held_by p) w.all → slots ≡ map (held_by (or_in p (inputs_in (whole_members files libraries)))) w.all)
-        → given_fault w.all ≡ None → Shows w.all slots (at_once w.all)
+    → given_fault w.all ≡ None → Shows w.all slots (at_once w.all)
 shows_at_once w given libraries files are old slots puts loads no_fault = record {
   slots_are = loads starts (puts ∙ put_all w given libraries files are)
       ∙ held_alike (or_in starts (inputs_in (whole_members files libraries))) (is_loaded (at_once w.all)) w.all loaded_so;

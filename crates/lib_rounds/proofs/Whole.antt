@@ -36,7 +36,7 @@ pub held_alike : (q r : Candidate → Bool) (cs : List Candidate) → ((c : Cand
 held_alike q r [] h = refl
 held_alike q r (c ∷ cs) h =
     ap (λ (b : Bool). held_as b c.is_member c.object ∷ map (held_by q) cs) (h c (contains_head c cs)) ∙ ap (λ (hs : List Held). held_by r c ∷ hs)
-        (held_alike q r cs (λ d m. h d (contains_tail c cs d m)))
+    (held_alike q r cs (λ d m. h d (contains_tail c cs d m)))
 
 or_false : (b : Bool) → b ≡ (b || false)
 or_false true = refl
@@ -121,7 +121,7 @@ module _ (w : World) (old : List Held) (whole : List Candidate) where
     or_in_join p cs c =
         sym (or_or (p c) (list_any (λ k. k == c.input) (inputs_in done)) (list_any (λ k. k == c.input) (inputs_in cs)))
         ∙ ap (λ (b : Bool). p c || b) (sym (list_any-append (λ k. k == c.input) (inputs_in done) (inputs_in cs)) ∙ ap (list_any
-            (λ k. k == c.input)) (sym (map-append (λ (d : Candidate). d.input) done cs)))
+        (λ k. k == c.input)) (sym (map-append (λ (d : Candidate). d.input) done cs)))
 
     pub loading_many : (cs rest : List Candidate) (after : List Held) (defined : List (List ℕ × ℕ)) → left ≡ cs ++ rest
         → LoadedAll w cs slots after defined → Loading w old after defined (done ++ cs) rest whole
@@ -178,7 +178,7 @@ module _ (w : World) (old : List Held) (whole : List Candidate) where
         no_fault = first_join done (c ∷ []) now.no_fault ∙ ap (λ (o : Option Fault). first_some (o ∷ [])) (no_fault_there (or_in (by_slot old)
             (inputs_in done) c) c.is_member c.object
             (sym (ap is_loaded_slot (get_or_from_slice_get slots (i - 1) (held_by (or_in (by_slot old) (inputs_in done)) c) absent its_slot_was))
-                ∙ is));
+            ∙ is));
       }
         where
           no_fault_there : (b m : Bool) (r : Result Object Fault) → is_loaded_slot (held_as b m r) ≡ true → fault_in r ≡ None
@@ -195,13 +195,13 @@ module _ (w : World) (old : List Held) (whole : List Candidate) where
               (inputs_in (done ++ c ∷ [])) d
           stays p e d m =
               let was : or_in p (inputs_in (done ++ c ∷ [])) d ≡ (or_in p (inputs_in done) d || ((c.input == d.input) || false)) = sym
-                  (or_in_join p (c ∷ []) d) in
+              (or_in_join p (c ∷ []) d) in
               elim (cases_Bool (c.input == d.input)) [
                 | inl one ↦
                     let alike = same_input w.all (numbers_rise w.all numbered) c d (at_place w.all (i - 1) c at) m (eqb-true c.input d.input one) in
                     let there = slot_held w.all slots (or_in p (inputs_in done)) (i - 1) c (now.slots_are p e) at in
                     let t : or_in p (inputs_in done) c ≡ true = loaded_so (or_in p (inputs_in done) c) c.is_member c.object (sym
-                        (ap is_loaded_slot (get_or_from_slice_get slots (i - 1) (held_by (or_in p (inputs_in done)) c) absent there)) ∙ is) in
+                    (ap is_loaded_slot (get_or_from_slice_get slots (i - 1) (held_by (or_in p (inputs_in done)) c) absent there)) ∙ is) in
                     let td : or_in p (inputs_in done) d ≡ true = subst (λ (x : Candidate). or_in p (inputs_in done) x ≡ true) alike t in
                     td ∙ sym (was ∙ ap (λ (b : Bool). b || ((c.input == d.input) || false)) td)
                 | inr other ↦ or_false (or_in p (inputs_in done) d) ∙ sym (was ∙ ap (λ (b : Bool). or_in p (inputs_in done) d || (b || false)) other)

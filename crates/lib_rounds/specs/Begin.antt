@@ -53,7 +53,7 @@ pub record KnowsMembers (all : List Candidate) (libraries : List LibraryFile) (f
   pub few : length all < 2 ^ 20
   pub member : (j k : ℕ) (l : LibraryFile) (s : Span) → slice_get libraries j ≡ Some l → slice_get l.library.members k ≡ Some s
       → (c : Candidate) × (slice_get (members_of files l) k ≡ Some c) × (slice_get all (l.first + k - 1) ≡ Some c) × IsOffer libraries files
-          (record { input = l.first + k; library = j; member = k }) c
+      (record { input = l.first + k; library = j; member = k }) c
 
 -- These candidates are loaded, or the first fault of them is told.
 pub record LoadedAll (w : World) (cs : List Candidate) (old new : List Held) (definers : List (List ℕ × ℕ)) : Type 0 where
@@ -69,5 +69,5 @@ LoadsAll (Err e) w cs old new definers = FailsBy e (first_some (map object_fault
 abbrev pub Begins : Result Start RoundError → List Candidate → Mode → List LibraryFile → List (List ℕ) → Type 0
 Begins (Ok s) all mode libraries files =
     (given_fault all ≡ None) × Shows all s.slots.items (at_once all) × Knows all libraries files (shown s.lazies) × Defines mode s.slots.items
-        (shown s.definers)
+    (shown s.definers)
 Begins (Err e) all mode libraries files = FailsBy e (given_fault all)

@@ -56,8 +56,7 @@ RoundsEnd = (mode : Mode) (asked : List (List ℕ)) (all : List Candidate) (load
 abbrev pub LoadedIsFirstEqual : Type 0
 LoadedIsFirstEqual = (mode : Mode) (asked : List (List ℕ)) (all : List Candidate)
     → (k : ℕ) × (k ≤ length all) × IsFirstEqual mode asked all k (at_once all)
-    × (loaded_inputs mode asked all ≡ unless (first_some (given_fault all ∷ fault_within mode asked all k (at_once all) ∷ []))
-        (round_after mode asked all k (at_once all)))
+    × (loaded_inputs mode asked all ≡ unless (first_some (given_fault all ∷ fault_within mode asked all k (at_once all) ∷ [])) (round_after mode asked all k (at_once all)))
 
 -- Nothing is added to the loaded inputs.
 abbrev pub NothingIsLeft : Type 0

@@ -26,13 +26,11 @@ abbrev pub may_use : List ℕ → Symbol
 may_use name = symbol 0x11 name
 
 abbrev pub object : ℕ → List Symbol → Object
-object input symbols = record { input = input; types = []; imports = []; functions = []; globals = []; segments = []; symbols = symbols; inits =
-    []; groups = [] }
+object input symbols = record { input = input; types = []; imports = []; functions = []; globals = []; segments = []; symbols = symbols; inits = []; groups = [] }
 
 -- an object of the words
 abbrev pub plain : ℕ → List Symbol → Candidate
-plain input symbols = record { input = input; file = input; start = 0; len = 0; is_member = false; by_need = false; offers = []; object = Ok
-    (object input symbols) }
+plain input symbols = record { input = input; file = input; start = 0; len = 0; is_member = false; by_need = false; offers = []; object = Ok (object input symbols) }
 
 -- a member of a library whose index gives these names for it
 abbrev pub member : ℕ → List (List ℕ) → Result Object Fault → Candidate
@@ -43,8 +41,7 @@ holding input offers symbols = member input offers (Ok (object input symbols))
 
 -- an object between `--start-lib` and `--end-lib`, which defines these names
 abbrev pub lazy_object : ℕ → List (List ℕ) → Result Object Fault → Candidate
-lazy_object input offers read = record { input = input; file = input; start = 0; len = 0; is_member = false; by_need = true; offers =
-    offers; object = read }
+lazy_object input offers read = record { input = input; file = input; start = 0; len = 0; is_member = false; by_need = true; offers = offers; object = read }
 
 abbrev pub a : List ℕ
 a = codes "a"
@@ -55,8 +52,7 @@ b = codes "b"
 -- ---- rows
 
 -- Input 1 needs a, which input 3 defines; that needs b, which input 2 defines: it is loaded in a round of its own. Nothing needs input 4.
-two_rounds : loaded_inputs Plain [] (plain 1 (needs a ∷ []) ∷ holding 2 (b ∷ []) (defines b ∷ []) ∷ holding 3 (a ∷ [])
-    (defines a ∷ needs b ∷ []) ∷ holding 4 (codes "c" ∷ []) (defines (codes "c") ∷ []) ∷ []) ≡ Ok (1 ∷ 3 ∷ 2 ∷ [])
+two_rounds : loaded_inputs Plain [] (plain 1 (needs a ∷ []) ∷ holding 2 (b ∷ []) (defines b ∷ []) ∷ holding 3 (a ∷ []) (defines a ∷ needs b ∷ []) ∷ holding 4 (codes "c" ∷ []) (defines (codes "c") ∷ []) ∷ []) ≡ Ok (1 ∷ 3 ∷ 2 ∷ [])
 two_rounds = refl
 
 -- A WEAK reference loads nothing.
@@ -68,8 +64,7 @@ asked : loaded_inputs Plain (a ∷ []) (holding 1 (a ∷ []) (defines a ∷ []) 
 asked = refl
 
 -- A name that the linker makes loads nothing, nor does one that a loaded object defines.
-defined : loaded_inputs Plain (codes "__heap_base" ∷ a ∷ []) (plain 1 (defines a ∷ []) ∷ holding 2 (codes "__heap_base" ∷ a ∷ []) [] ∷ []) ≡ Ok
-    (1 ∷ [])
+defined : loaded_inputs Plain (codes "__heap_base" ∷ a ∷ []) (plain 1 (defines a ∷ []) ∷ holding 2 (codes "__heap_base" ∷ a ∷ []) [] ∷ []) ≡ Ok (1 ∷ [])
 defined = refl
 
 -- A WEAK definition of an object counts as one, a LOCAL one doesn't.
@@ -84,28 +79,23 @@ index_lies : loaded_inputs Plain [] (plain 1 (needs b ∷ needs a ∷ []) ∷ ho
 index_lies = refl
 
 -- A broken member is refused once a round adds it, here the second, and not where nothing needs it.
-broken : loaded_inputs Plain [] (plain 1 (needs a ∷ []) ∷ holding 2 (a ∷ []) (defines a ∷ needs b ∷ []) ∷ member 3 (b ∷ []) (Err
-    (Malformed 3 Frame)) ∷ []) ≡ Err (Malformed 3 Frame)
+broken : loaded_inputs Plain [] (plain 1 (needs a ∷ []) ∷ holding 2 (a ∷ []) (defines a ∷ needs b ∷ []) ∷ member 3 (b ∷ []) (Err (Malformed 3 Frame)) ∷ []) ≡ Err (Malformed 3 Frame)
 broken = refl
 
-broken_not_needed : loaded_inputs Plain [] (plain 1 (needs a ∷ []) ∷ holding 2 (a ∷ []) (defines a ∷ []) ∷ member 3 (b ∷ []) (Err
-    (Malformed 3 Frame)) ∷ []) ≡ Ok (1 ∷ 2 ∷ [])
+broken_not_needed : loaded_inputs Plain [] (plain 1 (needs a ∷ []) ∷ holding 2 (a ∷ []) (defines a ∷ []) ∷ member 3 (b ∷ []) (Err (Malformed 3 Frame)) ∷ []) ≡ Ok (1 ∷ 2 ∷ [])
 broken_not_needed = refl
 
 -- The index lies for input 3 in the first round: this is told before the fault of input 2, which the second would add.
-first_round_first : loaded_inputs Plain [] (plain 1 (needs a ∷ []) ∷ member 2 (b ∷ []) (Err (Malformed 2 Frame)) ∷ holding 3 (a ∷ [])
-    (needs b ∷ []) ∷ []) ≡ Err (IndexLies 3 a)
+first_round_first : loaded_inputs Plain [] (plain 1 (needs a ∷ []) ∷ member 2 (b ∷ []) (Err (Malformed 2 Frame)) ∷ holding 3 (a ∷ []) (needs b ∷ []) ∷ []) ≡ Err (IndexLies 3 a)
 first_round_first = refl
 
 -- A lazy object is loaded by need, and is read whether or not it is.
-lazy : loaded_inputs Plain [] (lazy_object 1 (a ∷ []) (Ok (object 1 (defines a ∷ []))) ∷ lazy_object 2 (b ∷ []) (Ok (object 2
-    (defines b ∷ []))) ∷ plain 3 (needs b ∷ []) ∷ []) ≡ Ok (3 ∷ 2 ∷ [])
+lazy : loaded_inputs Plain [] (lazy_object 1 (a ∷ []) (Ok (object 1 (defines a ∷ []))) ∷ lazy_object 2 (b ∷ []) (Ok (object 2 (defines b ∷ []))) ∷ plain 3 (needs b ∷ []) ∷ []) ≡ Ok (3 ∷ 2 ∷ [])
 lazy = refl
 
 broken_lazy : loaded_inputs Plain [] (plain 1 [] ∷ lazy_object 2 (a ∷ []) (Err (Malformed 2 Frame)) ∷ []) ≡ Err (Malformed 2 Frame)
 broken_lazy = refl
 
 -- The two members of a library need one another.
-each_other : loaded_inputs Plain [] (plain 1 (needs a ∷ []) ∷ holding 2 (a ∷ []) (defines a ∷ needs b ∷ []) ∷ holding 3 (b ∷ [])
-    (defines b ∷ needs a ∷ []) ∷ []) ≡ Ok (1 ∷ 2 ∷ 3 ∷ [])
+each_other : loaded_inputs Plain [] (plain 1 (needs a ∷ []) ∷ holding 2 (a ∷ []) (defines a ∷ needs b ∷ []) ∷ holding 3 (b ∷ []) (defines b ∷ needs a ∷ []) ∷ []) ≡ Ok (1 ∷ 2 ∷ 3 ∷ [])
 each_other = refl

@@ -58,8 +58,11 @@ pub record Knows (all : List Candidate) (libraries : List LibraryFile) (files : 
   pub lazy : (name : List ℕ) (input : ℕ) → lookup (bytes_eq name) lazies ≡ Some input
       → (c : Candidate) × (slice_get all (input - 1) ≡ Some c) × (c.input ≡ input) × (c.is_member ≡ false) × ((o : Object) × (c.object ≡ Ok o))
   pub member : (j k : ℕ) (l : LibraryFile) (s : Span) → slice_get libraries j ≡ Some l → slice_get l.library.members k ≡ Some s
-      → (c : Candidate) × (slice_get all (l.first + k - 1) ≡ Some c) × IsOffer libraries files (record { input = l.first + k; library = j; member =
-          k }) c
+      → (c : Candidate) × (slice_get all (l.first + k - 1) ≡ Some c) × IsOffer libraries files (record {
+        input = l.first + k;
+        library = j;
+        member = k;
+      }) c
 
 -- ---- slots
 
@@ -212,14 +215,14 @@ pub record RoundDone (w : World) (libraries : List LibraryFile) (files : List (L
       → (first_some (map added_fault (lean_adds w.mode w.all inputs names)) ≡ None)
       × Shows w.all slots (inputs ++ inputs_of (lean_adds w.mode w.all inputs names))
       × AreAdds (seen_entries adds) (lean_adds w.mode w.all (inputs ++ inputs_of (lean_adds w.mode w.all inputs names)) (names_of
-          (lean_adds w.mode w.all inputs names)))
+      (lean_adds w.mode w.all inputs names)))
 
 abbrev pub DoesRound : Result (BTreeMap ℕ Wanted) RoundError → World → List LibraryFile → List (List ℕ) → List Held → BTreeMap ℕ Wanted
     → List Held → List (List ℕ × ℕ) → Type 0
 DoesRound (Ok adds) w libraries files old_slots old slots definers = RoundDone w libraries files old_slots old slots definers adds
 DoesRound (Err e) w libraries files old_slots old slots definers = (inputs : List ℕ) (names : List (List ℕ)) → Shows w.all old_slots inputs
     → AreAdds (seen_entries old) (lean_adds w.mode w.all inputs names) → FailsBy e (first_some (map added_fault
-        (lean_adds w.mode w.all inputs names)))
+    (lean_adds w.mode w.all inputs names)))
 
 -- What the rounds give, seen by the slots.
 abbrev pub RunsTo : {A : Type 0} → Result A RoundError → Result (List ℕ) Fault → List Candidate → List Held → Type 0

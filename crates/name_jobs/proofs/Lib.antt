@@ -1,7 +1,7 @@
 mod Asked
 mod GroupOffers
 mod Items
-mod Made
+pub mod Made
 mod NameOffers
 mod Numbers
 mod Races

@@ -2,7 +2,11 @@
 //! them on.
 #![tactic(auto)]
 
+#[cfg(test)]
+mod counted;
 mod inputs;
+#[cfg(test)]
+mod tests;
 
 pub use inputs::inputs_rise;
 pub use link_names::Names;

@@ -17,14 +17,14 @@ pub count_inputs-requires : goal.count_inputs-requires
 count_inputs-requires g c =
     let are = c.requires.1.0 in
     let is = ap (λ (n : ℕ). input_count n c.args.inputs.libraries.now) c.len.ensures ∙ count_is g.w.all c.args.given c.args.inputs.libraries.now
-        c.args.inputs.files.now are in
+    c.args.inputs.files.now are in
     subst (λ (n : ℕ). n < 2 ^ 20) (sym is) are.few
 
 pub put_given-requires : goal.put_given-requires
 put_given-requires g c =
     let are = c.requires.1.0 in
     let count = c.count_inputs.ensures ∙ ap (λ (n : ℕ). input_count n c.args.inputs.libraries.now) c.len.ensures
-        ∙ count_is g.w.all c.args.given c.args.inputs.libraries.now c.args.inputs.files.now are in
+    ∙ count_is g.w.all c.args.given c.args.inputs.libraries.now c.args.inputs.files.now are in
     let slots = c.in_ok-slots.ensures ∙ ap (λ (n : ℕ). replicate n absent) count in (
       knows_given g.w.all c.args.given c.args.inputs.libraries.now c.args.inputs.files.now are,
       (
@@ -32,7 +32,7 @@ put_given-requires g c =
         (
           subst (λ (hs : List Held). Defines g.w.mode hs (shown c.in_ok-definers.definers)) (sym slots)
               (subst (λ (m : Mode). Defines m (replicate (length g.w.all) absent) (shown c.in_ok-definers.definers)) (sym c.requires.0)
-                  (start_defines c.args.mode (length g.w.all) (shown c.in_ok-definers.definers) c.in_ok-definers.ensures)),
+              (start_defines c.args.mode (length g.w.all) (shown c.in_ok-definers.definers) c.in_ok-definers.ensures)),
           λ n. ap (λ es. lookup (bytes_eq n) (map (λ e. (e.0.items, e.1)) es)) c.new-lazies.ensures.empty,
         ),
       ),
@@ -54,7 +54,7 @@ pub returns-in_err-load_whole : goal.returns-in_err-load_whole
 returns-in_err-load_whole g c =
     let p = err_from_is_err_and c.from_residual-in_err-load_whole.result c.from_residual-in_err-load_whole.ensures.1 in
     let f = subst (FailsBy c.in_err-load_whole.field-0.0) (sym (given_fault_is g.w.all c.args.given c.args.inputs.libraries.now
-        c.args.inputs.files.now c.requires.1.0)) c.in_err-load_whole.ensures in
+    c.args.inputs.files.now c.requires.1.0)) c.in_err-load_whole.ensures in
     rw (p.1, p.2) f
 
 pub returns : goal.returns

@@ -15,8 +15,11 @@ use Rattle.lib_rounds.proofs.begin.load_library.Goals.{then-not-is_loaded+in_ok-
 use Rattle.lib_rounds.proofs.begin.load_library.Goals as goal
 
 pub loop-member-init : goal.loop-member-init
-loop-member-init g c x at_x = ([], loading_start g.w c.args.slots.now.items (members_of c.args.inputs.files.now x)
-    (shown c.args.definers.now) c.requires.1.1.1)
+loop-member-init g c x at_x = (
+  [],
+  loading_start g.w c.args.slots.now.items (members_of c.args.inputs.files.now x)
+      (shown c.args.definers.now) c.requires.1.1.1,
+)
 
 pub overflow_add-input : goal.overflow_add-input
 overflow_add-input g c =
@@ -24,7 +27,7 @@ overflow_add-input g c =
     let x = get_or libraries c.args.at c.index-inputs-at.result in
     let at_x = slice_get-get_or libraries c.args.at c.index-inputs-at.result c.requires.0 in
     let f = member_fits g.w.all libraries c.args.inputs.files.now c.requires.1.0 c.args.at c.loop-member.member x at_x (omega
-        (arith, c.loop-member-test.true, c.count-member-end.ensures)) in
+    (arith, c.loop-member-test.true, c.count-member-end.ensures)) in
     omega (arith, f)
 
 pub overflow_sub-input : goal.overflow_sub-input
@@ -33,7 +36,7 @@ overflow_sub-input g c =
     let x = get_or libraries c.args.at c.index-inputs-at.result in
     let at_x = slice_get-get_or libraries c.args.at c.index-inputs-at.result c.requires.0 in
     (member_fits g.w.all libraries c.args.inputs.files.now c.requires.1.0 c.args.at c.loop-member.member x at_x (omega
-        (arith, c.loop-member-test.true, c.count-member-end.ensures))).1
+    (arith, c.loop-member-test.true, c.count-member-end.ensures))).1
 
 pub index-requires : goal.index-requires
 index-requires g c =
@@ -41,10 +44,10 @@ index-requires g c =
     let x = get_or libraries c.args.at c.index-inputs-at.result in
     let at_x = slice_get-get_or libraries c.args.at c.index-inputs-at.result c.requires.0 in
     let f = member_fits g.w.all libraries c.args.inputs.files.now c.requires.1.0 c.args.at c.loop-member.member x at_x (omega
-        (arith, c.loop-member-test.true, c.count-member-end.ensures)) in
+    (arith, c.loop-member-test.true, c.count-member-end.ensures)) in
     let going = c.loop-member.invariant x at_x in
     let long = loading_long g.w c.args.slots.now.items c.loop-member.slots.items (shown c.loop-member.definers) going.0 (drop c.loop-member.member
-        (members_of c.args.inputs.files.now x)) (members_of c.args.inputs.files.now x) going.1 c.requires.1.1.0 in
+    (members_of c.args.inputs.files.now x)) (members_of c.args.inputs.files.now x) going.1 c.requires.1.1.0 in
     omega (arith, f, long, c.loop-member.slots.ok)
 
 pub load-requires : goal.load-requires
@@ -65,7 +68,7 @@ load-requires g c =
     let read = get_or_read slots (x.first + k - 1) c.index.result.now (omega (arith, f, long)) c.index.ensures absent in
     let slot = loading_unloaded g.w c.args.slots.now.items cs slots (shown c.loop-member.definers) going.0 (drop k cs) going.1
     c.requires.1.0.numbered c.requires.1.1.0 m.0 (drop (k + 1) cs) (drop_at cs k m.0 m.1) (x.first + k) m.2 m.3.input (sym
-        (ap is_loaded_slot read) ∙ sym c.is_loaded.ensures ∙ c.if-not-is_loaded.true) in (
+    (ap is_loaded_slot read) ∙ sym c.is_loaded.ensures ∙ c.if-not-is_loaded.true) in (
       subst (IsOffer libraries files (record { input = x.first + k; library = c.args.at; member = k })) (sym is) m.3,
       (omega (arith, f), slot ∙ ap (λ (y : Candidate). Some (held_as false y.is_member y.object)) (sym is)),
     )
@@ -88,7 +91,7 @@ returns-in_err-load g c x' at_x' =
     let p = err_from_is_err_and c.from_residual.result c.from_residual.ensures.1 in
     let f = subst (λ (y : LibraryFile). FailsBy c.in_err-load.field-0.0 (first_some (map object_fault (members_of files y)))) own
     (loading_refused g.w c.args.slots.now.items cs slots (shown c.loop-member.definers) going.0 (drop k cs) going.1 c.in_err-load.field-0.0 m.0
-        (drop (k + 1) cs) (drop_at cs k m.0 m.1) (subst (λ (y : Candidate). Fails c.in_err-load.field-0.0 y.object) is c.in_err-load.ensures)) in
+    (drop (k + 1) cs) (drop_at cs k m.0 m.1) (subst (λ (y : Candidate). Fails c.in_err-load.field-0.0 y.object) is c.in_err-load.ensures)) in
     rw (p.1, p.2) f
 
 pub loop-member-preserved : goal.loop-member-preserved
@@ -109,7 +112,7 @@ loop-member-preserved g c x' at_x' =
     let read = get_or_read slots (x.first + k - 1) c.index.result.now (omega (arith, f, long)) c.index.ensures absent in
     let own = get_or_from_slice_get libraries c.args.at x' c.index-inputs-at.result at_x' in
     subst (λ (y : LibraryFile). (done : List Candidate) × Loading g.w c.args.slots.now.items c.if-not-is_loaded.slots.items
-        (shown c.if-not-is_loaded.definers) done (drop (k + 1) (members_of files y)) (members_of files y)) own (
+    (shown c.if-not-is_loaded.definers) done (drop (k + 1) (members_of files y)) (members_of files y)) own (
       going.0 ++ m.0 ∷ [],
       elim c.if-not-is_loaded.branch [
         | then-not-is_loaded+in_ok-load w ↦
@@ -117,14 +120,14 @@ loop-member-preserved g c x' at_x' =
             rw (w.slots-is, w.definers-is)
             (loading_more g.w c.args.slots.now.items cs slots (shown c.loop-member.definers) going.0 (drop k cs) going.1
             c.requires.1.0.numbered c.requires.1.1.0 m.0 (drop (k + 1) cs) (drop_at cs k m.0 m.1)
-                (x.first + k) m.2 m.3.input w.load.new.slots.items (shown w.load.new.definers) r.0
+            (x.first + k) m.2 m.3.input w.load.new.slots.items (shown w.load.new.definers) r.0
             (sym (ap is_loaded_slot read) ∙ sym c.is_loaded.ensures ∙ w.if-not-is_loaded.true) (sym (ap (λ (y : Candidate). y.object) is)
-                ∙ r.1) r.2 r.3)
+            ∙ r.1) r.2 r.3)
         | else-not-is_loaded w ↦
             rw (w.slots-is, w.definers-is)
             (loading_skip g.w c.args.slots.now.items cs slots (shown c.loop-member.definers) going.0 (drop k cs) going.1
             c.requires.1.0.numbered c.requires.1.1.0 m.0 (drop (k + 1) cs) (drop_at cs k m.0 m.1) (x.first + k) m.2 m.3.input (sym
-                (ap is_loaded_slot read) ∙ sym c.is_loaded.ensures ∙ w.if-not-is_loaded.false))
+            (ap is_loaded_slot read) ∙ sym c.is_loaded.ensures ∙ w.if-not-is_loaded.false))
       ],
     )
 
@@ -135,6 +138,6 @@ returns g c x at_x =
     let own = get_or_from_slice_get c.args.inputs.libraries.now c.args.at x c.index-inputs-at.result at_x in
     let long : length cs ≡ length x.library.members = members_long x (slice_index_or c.args.inputs.files.now x.file []) x.first 0 x.library.members in
     let count : length (get_or c.args.inputs.libraries.now c.args.at c.index-inputs-at.result).library.members ≡ length x.library.members = ap (λ
-        (y : LibraryFile). length y.library.members) own in
+    (y : LibraryFile). length y.library.members) own in
     loading_end g.w c.args.slots.now.items cs c.loop-member.slots.items (shown c.loop-member.definers) going.0 (drop c.loop-member.member cs) going.1
     (drop_all c.loop-member.member cs (omega (arith, long, count, c.loop-member-test.false, c.count-member-end.ensures)))

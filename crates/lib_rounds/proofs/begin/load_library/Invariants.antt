@@ -14,4 +14,4 @@ ghost-load g a = candidate_at g.w.all a.offer.input
 abbrev pub invariant-loop-member : goal.invariant-loop-member
 invariant-loop-member g l = (x : LibraryFile) → slice_get l.inputs.libraries.now l.at ≡ Some x
     → (done : List Candidate) × Loading g.w l.fn.slots.items l.slots.items (shown l.definers) done (drop l.member
-        (members_of l.inputs.files.now x)) (members_of l.inputs.files.now x)
+    (members_of l.inputs.files.now x)) (members_of l.inputs.files.now x)

@@ -10,8 +10,11 @@ use Rattle.lib_rounds.proofs.begin.load_whole.Goals.{then-inputs-at+in_ok-load_l
 use Rattle.lib_rounds.proofs.begin.load_whole.Goals as goal
 
 pub loop-at-init : goal.loop-at-init
-loop-at-init g c = ([], loading_start g.w c.args.slots.now.items (whole_members c.args.inputs.files.now c.args.inputs.libraries.now)
-    (shown c.args.definers.now) c.requires.1.1)
+loop-at-init g c = (
+  [],
+  loading_start g.w c.args.slots.now.items (whole_members c.args.inputs.files.now c.args.inputs.libraries.now)
+      (shown c.args.definers.now) c.requires.1.1,
+)
 
 pub load_library-requires : goal.load_library-requires
 load_library-requires g c =
@@ -38,9 +41,9 @@ returns-in_err-load_library g c =
     let going = c.loop-at.invariant in
     let p = err_from_is_err_and c.from_residual.result c.from_residual.ensures.1 in
     let f = loading_fails g.w c.args.slots.now.items (whole_members files libraries) c.loop-at.slots.items (shown c.loop-at.definers) going.0
-        (whole_members files (drop at libraries)) going.1
+    (whole_members files (drop at libraries)) going.1
     c.in_err-load_library.field-0.0 (members_of files x) (whole_members files (drop (at + 1) libraries))
-        (whole_here files libraries at x at_x c.if-inputs-at.true) (c.in_err-load_library.ensures x at_x) in
+    (whole_here files libraries at x at_x c.if-inputs-at.true) (c.in_err-load_library.ensures x at_x) in
     rw (p.1, p.2) f
 
 pub loop-at-preserved : goal.loop-at-preserved
@@ -58,7 +61,7 @@ loop-at-preserved g c =
             loading_many g.w c.args.slots.now.items (whole_members files libraries) c.loop-at.slots.items (shown c.loop-at.definers) going.0
                 (whole_members files (drop at libraries)) going.1
                 (members_of files x) (whole_members files (drop (at + 1) libraries)) w.load_library.new.slots.items
-                    (shown w.load_library.new.definers) (whole_here files libraries at x at_x w.if-inputs-at.true)
+                (shown w.load_library.new.definers) (whole_here files libraries at x at_x w.if-inputs-at.true)
                 (w.in_ok-load_library.ensures x at_x),
           )
       | else-inputs-at w ↦
@@ -77,5 +80,5 @@ returns g c =
     let at = c.loop-at.at in
     let going = c.loop-at.invariant in
     loading_end g.w c.args.slots.now.items (whole_members files libraries) c.loop-at.slots.items (shown c.loop-at.definers) going.0
-        (whole_members files (drop at libraries)) going.1
+    (whole_members files (drop at libraries)) going.1
     (ap (whole_members files) (drop_all at libraries c.loop-at-test.false))

@@ -12,5 +12,5 @@ ghost-load_library g a = g.w
 abbrev pub invariant-loop-at : goal.invariant-loop-at
 invariant-loop-at g l = (done : List Candidate)
     × Loading g.w l.fn.slots.items l.slots.items (shown l.definers) done (flat_map (members_of l.inputs.files.now) (filter (λ l. l.whole)
-        (drop l.at l.inputs.libraries.now)))
+    (drop l.at l.inputs.libraries.now)))
     (flat_map (members_of l.inputs.files.now) (filter (λ l. l.whole) l.inputs.libraries.now))

@@ -22,27 +22,27 @@ returns-in_default g c = at_none g.w c.args.sight.inputs.libraries.now c.args.si
 pub returns-then-is_loaded : goal.returns-then-is_loaded
 returns-then-is_loaded g c =
     at_loaded g.w c.args.sight.inputs.libraries.now c.args.sight.inputs.files.now (shown c.args.sight.lazies.now)
-        (shown c.args.sight.definers.now) c.args.sight.slots.now c.requires.0 c.requires.1.0 c.args.name.now c.in-Some.offer c.in-Some.ensures.from
-        (sym c.in-Some.ensures.input) c.args.adds.now
+    (shown c.args.sight.definers.now) c.args.sight.slots.now c.requires.0 c.requires.1.0 c.args.name.now c.in-Some.offer c.in-Some.ensures.from
+    (sym c.in-Some.ensures.input) c.args.adds.now
     (ap is_loaded_slot (at_slot g.w c.args.sight.inputs.libraries.now c.args.sight.inputs.files.now (shown c.args.sight.lazies.now)
-        (shown c.args.sight.definers.now) c.args.sight.slots.now c.requires.0 c.requires.1.0 c.args.name.now c.in-Some.offer c.in-Some.ensures.from
-        (sym c.in-Some.ensures.input) c.requires.1.1 c.index-sight-offer.result c.index-sight-offer.is)
-        ∙ ap is_loaded_slot c.index-sight-offer.is ∙ sym c.is_loaded.ensures ∙ c.if-is_loaded.true)
+    (shown c.args.sight.definers.now) c.args.sight.slots.now c.requires.0 c.requires.1.0 c.args.name.now c.in-Some.offer c.in-Some.ensures.from
+    (sym c.in-Some.ensures.input) c.requires.1.1 c.index-sight-offer.result c.index-sight-offer.is)
+    ∙ ap is_loaded_slot c.index-sight-offer.is ∙ sym c.is_loaded.ensures ∙ c.if-is_loaded.true)
 
 pub returns : goal.returns
 returns g c =
     on_both (IsOrdered nat_cmp c.push.new.adds)
     ((q : ℕ) → get nat_cmp c.push.new.adds q ≡ cond (is_at (nat_cmp c.in-Some.offer.input) q) (Some (pushed
-        (get nat_cmp c.args.adds.now c.in-Some.offer.input) c.in-Some.offer c.args.name.now)) (get nat_cmp c.args.adds.now q))
+    (get nat_cmp c.args.adds.now c.in-Some.offer.input) c.in-Some.offer c.args.name.now)) (get nat_cmp c.args.adds.now q))
     (Looks g.w c.args.sight.inputs.libraries.now c.args.sight.inputs.files.now c.args.sight.slots.now
-        (c.args.name.now ∷ []) c.args.adds.now c.push.new.adds)
+    (c.args.name.now ∷ []) c.args.adds.now c.push.new.adds)
     c.push.result c.push.ensures.ordered c.push.ensures.law
     (λ ordered law. at_pushed g.w c.args.sight.inputs.libraries.now c.args.sight.inputs.files.now (shown c.args.sight.lazies.now)
-        (shown c.args.sight.definers.now) c.args.sight.slots.now c.requires.0 c.requires.1.0 c.args.name.now c.in-Some.offer c.in-Some.ensures.from
-        (sym c.in-Some.ensures.input) c.args.adds.now c.push.new.adds
+    (shown c.args.sight.definers.now) c.args.sight.slots.now c.requires.0 c.requires.1.0 c.args.name.now c.in-Some.offer c.in-Some.ensures.from
+    (sym c.in-Some.ensures.input) c.args.adds.now c.push.new.adds
     (ap is_some (sym c.input_of.ensures) ∙ sym c.is_some.ensures ∙ c.if-is_some.false)
     (ap is_loaded_slot (at_slot g.w c.args.sight.inputs.libraries.now c.args.sight.inputs.files.now (shown c.args.sight.lazies.now)
-        (shown c.args.sight.definers.now) c.args.sight.slots.now c.requires.0 c.requires.1.0 c.args.name.now c.in-Some.offer c.in-Some.ensures.from
-        (sym c.in-Some.ensures.input) c.requires.1.1 c.index-sight-offer.result c.index-sight-offer.is)
-        ∙ ap is_loaded_slot c.index-sight-offer.is ∙ sym c.is_loaded.ensures ∙ c.if-is_loaded.false)
+    (shown c.args.sight.definers.now) c.args.sight.slots.now c.requires.0 c.requires.1.0 c.args.name.now c.in-Some.offer c.in-Some.ensures.from
+    (sym c.in-Some.ensures.input) c.requires.1.1 c.index-sight-offer.result c.index-sight-offer.is)
+    ∙ ap is_loaded_slot c.index-sight-offer.is ∙ sym c.is_loaded.ensures ∙ c.if-is_loaded.false)
     ordered law)

@@ -14,26 +14,26 @@ pub loop-at-preserved : goal.loop-at-preserved
 loop-at-preserved g c =
     let xs = c.args.sight.slots.now in
     let next = take_next xs c.loop-at.at c.index-sight-at.result (index_is xs c.loop-at.at c.index-sight-at.result (omega
-        (arith, c.loop-at-test.true)) c.index-sight-at.is) in
+    (arith, c.loop-at-test.true)) c.index-sight-at.is) in
     elim c.match-loaded.branch [
       | in-Some+in_ok-look_object w ↦
           subst (λ (adds : BTreeMap ℕ Wanted). Looks g.w c.args.sight.inputs.libraries.now c.args.sight.inputs.files.now c.args.sight.slots.now
-              (got loaded_in strong_names (take (c.loop-at.at + 1) (c.args.sight.slots.now))) c.args.adds.now adds) (sym w.adds-is)
+          (got loaded_in strong_names (take (c.loop-at.at + 1) (c.args.sight.slots.now))) c.args.adds.now adds) (sym w.adds-is)
           (looks_same g.w c.args.sight.inputs.libraries.now c.args.sight.inputs.files.now c.args.sight.slots.now (got loaded_in strong_names
-              (take c.loop-at.at xs) ++ strong_names w.in-Some.object.now) (got loaded_in strong_names (take
-              (c.loop-at.at + 1) xs)) c.args.adds.now w.look_object.new.adds
+          (take c.loop-at.at xs) ++ strong_names w.in-Some.object.now) (got loaded_in strong_names (take
+          (c.loop-at.at + 1) xs)) c.args.adds.now w.look_object.new.adds
           (sym (ap (got loaded_in strong_names) next ∙ got_more loaded_in strong_names (take c.loop-at.at xs) c.index-sight-at.result
-              w.in-Some.object.now (ap loaded_in c.index-sight-at.is ∙ sym w.in-Some.ensures)))
+          w.in-Some.object.now (ap loaded_in c.index-sight-at.is ∙ sym w.in-Some.ensures)))
           (looks_more g.w c.args.sight.inputs.libraries.now c.args.sight.inputs.files.now c.args.sight.slots.now (got loaded_in strong_names
-              (take c.loop-at.at xs)) (strong_names w.in-Some.object.now) c.args.adds.now c.loop-at.adds w.look_object.new.adds c.loop-at.invariant
-              w.in_ok-look_object.ensures))
+          (take c.loop-at.at xs)) (strong_names w.in-Some.object.now) c.args.adds.now c.loop-at.adds w.look_object.new.adds c.loop-at.invariant
+          w.in_ok-look_object.ensures))
       | in_default w ↦
           subst (λ (adds : BTreeMap ℕ Wanted). Looks g.w c.args.sight.inputs.libraries.now c.args.sight.inputs.files.now c.args.sight.slots.now
-              (got loaded_in strong_names (take (c.loop-at.at + 1) (c.args.sight.slots.now))) c.args.adds.now adds) (sym w.adds-is)
+          (got loaded_in strong_names (take (c.loop-at.at + 1) (c.args.sight.slots.now))) c.args.adds.now adds) (sym w.adds-is)
           (looks_same g.w c.args.sight.inputs.libraries.now c.args.sight.inputs.files.now c.args.sight.slots.now (got loaded_in strong_names
-              (take c.loop-at.at xs)) (got loaded_in strong_names (take (c.loop-at.at + 1) xs)) c.args.adds.now c.loop-at.adds
+          (take c.loop-at.at xs)) (got loaded_in strong_names (take (c.loop-at.at + 1) xs)) c.args.adds.now c.loop-at.adds
           (sym (ap (got loaded_in strong_names) next ∙ got_none loaded_in strong_names (take c.loop-at.at xs) c.index-sight-at.result
-              (ap loaded_in c.index-sight-at.is ∙ sym c.loaded.ensures ∙ ap option_copied w.in_default.is)))
+          (ap loaded_in c.index-sight-at.is ∙ sym c.loaded.ensures ∙ ap option_copied w.in_default.is)))
           c.loop-at.invariant)
     ]
 

@@ -11,13 +11,13 @@ loop-at-preserved-then-is_other c =
     c.lesser_name-least.ensures
     ∙ ap (lesser_name c.in-Some.name.now) c.loop-at.invariant
     ∙ sym (lie_more (is_other (shown c.args.definers.now) c.args.input) c.args.names.now c.loop-at.at c.in-Some.name.now (omega
-        (arith, c.loop-at-test.true)) (sym c.in-Some.ensures) (sym c.is_other.ensures ∙ c.if-is_other.true))
+    (arith, c.loop-at-test.true)) (sym c.in-Some.ensures) (sym c.is_other.ensures ∙ c.if-is_other.true))
 
 pub loop-at-preserved-else-is_other : goal.loop-at-preserved-else-is_other
 loop-at-preserved-else-is_other c =
     c.loop-at.invariant
     ∙ sym (no_lie (is_other (shown c.args.definers.now) c.args.input) c.args.names.now c.loop-at.at c.in-Some.name.now (omega
-        (arith, c.loop-at-test.true)) (sym c.in-Some.ensures) (sym c.is_other.ensures ∙ c.if-is_other.false))
+    (arith, c.loop-at-test.true)) (sym c.in-Some.ensures) (sym c.is_other.ensures ∙ c.if-is_other.false))
 
 pub loop-at-preserved : goal.loop-at-preserved
 loop-at-preserved c =

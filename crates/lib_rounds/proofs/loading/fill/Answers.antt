@@ -18,8 +18,11 @@ returns g c =
     let h = c.index.result.now in
     let is : c.index.result.now ≡ held_as false g.c.is_member g.c.object
     = c.index.ensures ∙ get_or_from_slice_get c.args.slots.now.items (c.args.offer.input - 1)
-        (held_as false g.c.is_member g.c.object) c.index.result.now c.requires.1.1 in
+    (held_as false g.c.is_member g.c.object) c.index.result.now c.requires.1.1 in
     let member = member_of (IsMember c.args.inputs.libraries.now c.args.inputs.files.now c.args.offer g.c.object) g.c.is_member g.c.object
-        c.index.result.now c.requires.0.from is (sym c.is_waiting.ensures ∙ c.if-is_waiting.false) in
-    (c.in_ok-object.object, c.in_ok-object.ensures g.c.object member, ap (slice_set c.args.slots.now.items
-        (c.args.offer.input - 1)) c.in_ok-slots.ensures)
+    c.index.result.now c.requires.0.from is (sym c.is_waiting.ensures ∙ c.if-is_waiting.false) in (
+      c.in_ok-object.object,
+      c.in_ok-object.ensures g.c.object member,
+      ap (slice_set c.args.slots.now.items
+          (c.args.offer.input - 1)) c.in_ok-slots.ensures,
+    )

@@ -20,16 +20,16 @@ next_adds-requires g c =
         subst (λ (hs : List Held). Defines g.w.mode hs (shown c.add_all.new.definers)) (sym c.as_slice.ensures.value) done.defines,
         subst (λ (hs : List Held). Hold g.w.all hs) (sym c.as_slice.ensures.value)
             (hold_after g.w c.requires.0.numbered c.args.inputs.libraries.now c.args.inputs.files.now c.args.slots.now.items c.requires.1.0
-                c.args.adds.now c.add_all.new.slots.items (shown c.add_all.new.definers) c.in_ok-new.new done),
+            c.args.adds.now c.add_all.new.slots.items (shown c.add_all.new.definers) c.in_ok-new.new done),
       ),
     )
 
 pub returns : goal.returns
 returns g c =
     round_done g.w c.requires.0.numbered c.args.inputs.libraries.now c.args.inputs.files.now c.args.slots.now.items c.requires.1.0 c.args.adds.now
-        c.add_all.new.slots.items (shown c.add_all.new.definers) c.in_ok-new.new c.in_ok-new.ensures c.in_ok-next.next
+    c.add_all.new.slots.items (shown c.add_all.new.definers) c.in_ok-new.new c.in_ok-new.ensures c.in_ok-next.next
     (subst (λ (hs : List Held). (inputs : List ℕ) → Shows g.w.all hs inputs → Looked g.w c.args.inputs.libraries.now c.args.inputs.files.now hs
-        inputs (names_at hs c.in_ok-new.new) c.in_ok-next.next) c.as_slice.ensures.value
+    inputs (names_at hs c.in_ok-new.new) c.in_ok-next.next) c.as_slice.ensures.value
     (subst (λ (new : List ℕ). (inputs : List ℕ) → Shows g.w.all c.as_slice.result.now inputs
-        → Looked g.w c.args.inputs.libraries.now c.args.inputs.files.now c.as_slice.result.now inputs
-        (names_at c.as_slice.result.now new) c.in_ok-next.next) c.as_slice-2.ensures c.in_ok-next.ensures))
+    → Looked g.w c.args.inputs.libraries.now c.args.inputs.files.now c.as_slice.result.now inputs
+    (names_at c.as_slice.result.now new) c.in_ok-next.next) c.as_slice-2.ensures c.in_ok-next.ensures))

@@ -10,4 +10,4 @@ returns c n =
     ap (λ es. lookup (bytes_eq n) (map plain es)) c.in_ok-insert.ensures.entries
     ∙ put_lookup c.args.table.now.entries c.in_ok-from_slice.field-0 c.args.input n
     ∙ ap (λ (name : List ℕ). cond (bytes_eq n name) (Some c.args.input) (lookup (bytes_eq n)
-        (shown c.args.table.now))) c.in_ok-from_slice.ensures.items
+    (shown c.args.table.now))) c.in_ok-from_slice.ensures.items
