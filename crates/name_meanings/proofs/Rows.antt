@@ -1,5 +1,5 @@
 -- Rows of answers, and one more.
-use Rattle.std.proofs.Common.{◌≡◌, ℕ, ◌+◌, ◌<◌, zero, suc, ◌∙◌, List, [], ◌∷◌, ◌++◌, refl, ap, sym, subst, arith, Some, length, get_or, take}
+use Rattle.std.proofs.Common.{◌≡◌, ℕ, ◌+◌, ◌<◌, ◌∙◌, List, [], ◌∷◌, ◌++◌, refl, ap, sym, subst, arith, Some, length, get_or, take}
 use Rattle.std.specs.Prelude.{map, filter_map, slice_get, if◌then◌else◌}
 use Rattle.std.specs.List.{AllZip, list_any}
 use Rattle.std.proofs.lemmas.List.{take_more, map-append}
@@ -12,7 +12,7 @@ use Rattle.name_rules.specs.Entries.{Entry, ImportKey, same_import}
 use Rattle.name_rules.specs.Meanings.{Meaning, here, imported, null, nothing}
 use Rattle.name_meanings.specs.declared.naming.Known.{Known}
 use Rattle.name_meanings.specs.declared.naming.Found.{Found}
-use Rattle.name_meanings.specs.Means.{Means, import_meant, row_of}
+use Rattle.name_meanings.specs.Means.{Means, import_meant}
 use Rattle.name_meanings.specs.Known.{meant, imports_with, Finds, IsRow}
 use Rattle.name_meanings.proofs.Finding.{get_onto}
 use Rattle.name_meanings.proofs.Flattened.{with_first}

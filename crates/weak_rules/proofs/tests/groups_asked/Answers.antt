@@ -1,4 +1,4 @@
-use Rattle.std.proofs.Common.{sym, ◌∙◌}
+use Rattle.std.proofs.Common.{◌∙◌}
 use Rattle.name_jobs.proofs.Made.{group_words_at, group_ranks_at}
 use Rattle.weak_rules.proofs.tests.groups_asked.Goals as goal
 
