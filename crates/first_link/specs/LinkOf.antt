@@ -6,7 +6,7 @@ use Rattle.wl_base.specs.declared.fault.Fault.TheVariants.{Malformed, Unresolved
 use Rattle.wl_base.specs.declared.fault.Part.TheVariants.{Frame}
 use Rattle.wasm_grammar.specs.declared.fault.Stop.{Stop}
 use Rattle.wasm_grammar.specs.Reading.{whole}
-use Rattle.link_words.specs.declared.plan.Plan.{Plan}
+use Rattle.first_words.specs.declared.plan.Plan.{Plan}
 use Rattle.image_emit.specs.Bytes.{tree_of, bytes_of}
 use Rattle.first_link.specs.declared.first.object.FirstSymbol.{FirstSymbol}
 use Rattle.first_link.specs.declared.first.object.FirstObject.{FirstObject}

@@ -11,7 +11,7 @@ use Rattle.image_emit.specs.Bytes.{bytes_of}
 use Rattle.image_emit.specs.Rows.{call_bytes}
 use Rattle.wl_base.specs.declared.fault.Fault.TheVariants.{Malformed, Unresolved}
 use Rattle.wl_base.specs.declared.fault.Part.TheVariants.{Frame}
-use Rattle.link_words.specs.Words.{first_plan}
+use Rattle.first_words.specs.Words.{first_plan}
 use Rattle.first_link.specs.FirstEntries.{number_is, name_is, symbol_at, reloc_at}
 use Rattle.first_link.specs.FirstBodies.{instr_at, calls_at, body_at, code_at}
 use Rattle.first_link.specs.First.{header_at, linking_at, relocs_at, linking_section_at, first_at}

@@ -5,7 +5,7 @@ use Rattle.std.specs.Str.{bytes_eq}
 use Rattle.wasm_types.specs.Types.{val_byte}
 use Rattle.wasm_types.specs.declared.value.ValType.{ValType}
 use Rattle.wasm_types.specs.declared.function.FuncType.{FuncType}
-use Rattle.link_words.specs.Words.{is_prefixed_of}
+use Rattle.first_words.specs.Words.{is_prefixed_of}
 use Rattle.first_link.specs.declared.first.object.FirstBody.{FirstBody}
 use Rattle.first_link.specs.declared.first.object.FirstCode.{FirstCode}
 use Rattle.first_link.specs.declared.first.object.FirstSymbol.{FirstSymbol}

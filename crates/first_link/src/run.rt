@@ -1,7 +1,7 @@
 //! The link.
 ghost use Rattle.std.specs.Prelude.{◌≡◌, ◌∷◌, ◌+◌, ◌≤◌, [], All, IfOk, IfSome, length, slice_index_or, Ok};
 ghost use Rattle.image_emit.specs.Bytes.{tree_of, bytes_of};
-ghost use Rattle.link_words.specs.Words.{IsFirstPlan};
+ghost use Rattle.first_words.specs.Words.{IsFirstPlan};
 ghost use Rattle.first_link.specs.Answers.{Answers};
 ghost use Rattle.first_link.specs.Sound.{start_of, relocs_of};
 ghost use Rattle.first_link.specs.Image.{named, image_of, patched_file};
@@ -12,7 +12,7 @@ use crate::first::{FirstObject, FirstSymbol, is_sound, read_first, relocs_of, st
 use crate::output::{image_of, named};
 use crate::patching::patch;
 use image_emit::join_image;
-use link_words::Plan;
+use first_words::Plan;
 use std::alloc::Global;
 use wasm_grammar::ReadFault;
 use wl_base::{Fault, OutOfMemory, Part, Seq};

@@ -1,8 +1,8 @@
 ghost use Rattle.std.specs.Prelude.{◌≡◌, IfOk, IsTrue};
-ghost use Rattle.link_words.specs.Words.{IsFirstPlan, is_name_taken_of};
+ghost use Rattle.first_words.specs.Words.{IsFirstPlan, is_name_taken_of};
 
 use super::*;
-use link_words::{InputWord, Plan};
+use first_words::{InputWord, Plan};
 use std::alloc::Global;
 use std::test::Fail;
 use wl_base::{Fault, OutOfMemory, Part, Seq, Text};

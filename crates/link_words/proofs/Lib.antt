@@ -1,0 +1,8 @@
+mod CutLaw
+mod Equals
+mod Inputs
+mod Large
+mod Placed
+mod Steps
+mod Table
+mod Whole

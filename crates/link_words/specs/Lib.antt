@@ -1,1 +1,11 @@
+pub mod Cut
+pub mod Faults
+pub mod Fields
+pub mod Items
+pub mod Kinds
+pub mod Numbers
+pub mod Options
+pub mod Rows
+pub mod Spelled
+pub mod WordLaws
 pub mod Words

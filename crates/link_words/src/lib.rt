@@ -1,10 +1,20 @@
 //! The words of the command line, and the plan that they ask for.
 #![tactic(auto)]
 
-mod plan;
+mod cut;
+mod error;
+mod faults;
+mod fields;
+mod item;
+mod kind;
+pub mod laws;
+mod numeral;
+mod options;
+mod range;
 mod reading;
 #[cfg(test)]
 mod tests;
 
-pub use plan::{InputWord, Plan, WordError};
-pub use reading::{is_prefixed, read_words};
+pub use error::WordError;
+pub use link_plan::{InputWord, Plan};
+pub use reading::read_words;

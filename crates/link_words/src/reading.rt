@@ -1,110 +1,110 @@
-//! Reading the words.
-ghost use Rattle.std.specs.Prelude.{◌≡◌, ◌<◌, ◌≤◌, ◌^◌, All, IfOk, IsTrue, length, drop, Ok};
-ghost use Rattle.link_words.specs.Words.{plan_of, first_plan, IsFirstPlan, begins_with_dash_of, is_prefixed_of, is_name_taken_of, are_taken_of, Reads};
+//! The plan of the words.
+ghost use Rattle.std.specs.Prelude.{◌≡◌, ◌<◌, ◌^◌, ℕ, length, All, IfOk, IsSome, IsNone};
+ghost use Rattle.std.specs.Option.{option_map};
+ghost use Rattle.link_plan.specs.Plan.{IsPlan};
+ghost use Rattle.link_words.specs.Fields.{entry as entry_of, usual_entry, all_exports};
+ghost use Rattle.link_words.specs.Words.{plan_from, plan_of, Reads};
 
-use crate::{InputWord, Plan, WordError};
+use crate::WordError;
+use crate::cut::cut_words;
+use crate::faults::first_fault;
+use crate::fields::{
+    add_exports, case, entry, has, initial_memory, inputs, is_on, names, numeral, small_numeral,
+    stack_size, text, threads,
+};
+use crate::item::Item;
+use crate::kind::Kind;
+use crate::range::Range;
+use link_plan::Plan;
 use std::alloc::Global;
-use wl_base::{OutOfMemory, Seq, Text, Usage};
+use wl_base::{Name, OutOfMemory, Seq, Text};
 
-/// The plan of the words, which leave out the program's name. So far the one form
-/// `INPUT -o OUTPUT --no-entry --export=NAME` is read, where the input doesn't begin with `-` and the
-/// name is not `memory` and doesn't begin with two underscores; all other words are `Usage::NotYet`.
+/// The plan of the words, which leave out the program's name. Words are read from left to right, and the first
+/// that is at fault decides; what all words together lack is judged after them.
 #[tactic(auto, unfolding(crate::specs::Words::plan_of))]
 pub fn read_words(alloc: Global, words: &[Text]) -> Result<Plan, WordError>
     requires { length words.now < 2 ^ 32 }
     // The answer is the definition's, or want of memory.
     ensures plan { Reads result (plan_of words.now) }
-    // The plan is of the one form, and its inputs are words.
-    ensures first { IfOk result IsFirstPlan }
+    // Its numbers have their forms and ranges, and its inputs are words.
+    ensures numbers { IfOk result IsPlan }
     ensures places { IfOk result (λ plan. All (λ input. input.place < length words.now) plan.inputs) }
-{
-    if words.len() != 5 {
-        return Err(WordError::Usage(Usage::NotYet));
-    }
-    let export = words[4].as_str().as_bytes();
-    if !are_taken(
-        words[0].as_str(),
-        words[1].as_str(),
-        words[3].as_str(),
-        export,
-    ) {
-        return Err(WordError::Usage(Usage::NotYet));
-    }
-    plan_for(alloc, words[2].as_str(), &export[9..])
-}
 
-// Whether the words but the output's name are of the form that is taken.
-fn are_taken(input: &str, o: &str, no_entry: &str, export: &[u8]) -> bool
-    ensures value { result ≡ are_taken_of input.now o.now no_entry.now export.now }
-    ensures long { IsTrue result → 9 ≤ length export.now }
-    ensures name { IsTrue result → IsTrue (is_name_taken_of (drop 9 export.now)) }
+    // A generated case has no input, and each other link has an input and an output.
+    ensures case { IfOk result (λ plan. IsSome plan.make_case → length plan.inputs ≡ 0) }
+    ensures input { IfOk result (λ plan. IsNone plan.make_case → 0 < length plan.inputs) }
+    ensures output { IfOk result (λ plan. IsNone plan.make_case → IsSome plan.output) }
 {
-    export.len() >= 9
-        && !begins_with_dash(input)
-        && o == "-o"
-        && no_entry == "--no-entry"
-        && &export[..9] == b"--export=".as_slice()
-        && is_name_taken(&export[9..])
-}
-
-fn begins_with_dash(word: &str) -> bool
-    ensures { result ≡ begins_with_dash_of word.now }
-{
-    match word.as_bytes() {
-        [first, ..] => *first == b'-',
-        [] => false,
+    let (items, stop) = cut_words(alloc, words)?;
+    let items = items.as_slice();
+    match first_fault(items, stop) {
+        Some(fault) => Err(WordError::Usage(fault)),
+        None => Ok(plan(alloc, items)?),
     }
 }
 
-// Whether the name is neither that of the memory's export nor one that the linker keeps for itself.
-fn is_name_taken(name: &[u8]) -> bool
-    ensures { result ≡ is_name_taken_of name.now }
+// What the items say together.
+#[tactic(auto, unfolding(crate::specs::Words::plan_from))]
+fn plan(alloc: Global, items: &[Item<'_>]) -> Result<Plan, OutOfMemory>
+    requires { length items.now < 2 ^ 32 }
+    ensures plan { IfOk result (λ plan. plan ≡ plan_from items.now) }
+    ensures numbers { IfOk result IsPlan }
+    ensures places { (bound : ℕ) → All (λ item. item.at < bound) items.now
+        → IfOk result (λ plan. All (λ input. input.place < bound) plan.inputs) }
 {
-    name != b"memory".as_slice() && !is_prefixed(name)
-}
-
-/// Whether the name begins with two underscores, as the linker's own names do.
-pub fn is_prefixed(name: &[u8]) -> bool
-    ensures { result ≡ is_prefixed_of name.now }
-{
-    match name {
-        [first, second, ..] => *first == b'_' && *second == b'_',
-        _ => false,
-    }
-}
-
-// The plan for an output and an exported name, which is taken.
-fn plan_for(alloc: Global, output: &str, name: &[u8]) -> Result<Plan, WordError>
-    requires { IsTrue (is_name_taken_of name.now) }
-    ensures plan { Reads result (Ok (first_plan output.now name.now)) }
-    ensures first { IfOk result IsFirstPlan }
-    ensures places { IfOk result (λ plan. All (λ input. input.place < 1) plan.inputs) }
-{
-    let mut inputs = Seq::new(alloc);
-    inputs.push(InputWord {
-        place: 0,
-        lazy: false,
-        whole: false,
-    })?;
-    let mut exports = Seq::new(alloc);
-    exports.push(Seq::from_slice(alloc, name)?)?;
     Ok(Plan {
-        inputs,
-        output: Some(Text::new(alloc, output)?),
-        entry: None,
-        exports,
-        exports_if: Seq::new(alloc),
-        wanted: Seq::new(alloc),
-        export_dynamic: false,
-        allow_undefined: false,
-        import_memory: false,
-        gc: false,
-        stack_first: false,
-        global_base: None,
-        stack_size: 65536,
-        initial_memory: 0,
-        max_memory: None,
-        threads: 4,
-        make_case: None,
+        inputs: inputs(alloc, items)?,
+        output: own_text(alloc, text(items, Kind::Output))?,
+        entry: entry_name(alloc, items)?,
+        exports: exports(alloc, items)?,
+        exports_if: names(alloc, items, Kind::ExportIfDefined)?,
+        wanted: names(alloc, items, Kind::Wanted)?,
+        export_dynamic: has(items, Kind::ExportDynamic),
+        allow_undefined: has(items, Kind::AllowUndefined),
+        import_memory: has(items, Kind::ImportMemory),
+        gc: is_on(items, Kind::GcSections, Kind::NoGcSections, true),
+        stack_first: has(items, Kind::StackFirst),
+        global_base: small_numeral(items, Kind::GlobalBase, Range::Address),
+        stack_size: stack_size(items),
+        initial_memory: initial_memory(items),
+        max_memory: numeral(items, Kind::MaxMemory, Range::Memory),
+        threads: threads(items),
+        make_case: case(items),
     })
+}
+
+fn own_text(alloc: Global, text: Option<&str>) -> Result<Option<Text>, OutOfMemory>
+    ensures { IfOk result (λ own. own ≡ option_map (λ t. t.now) text.entry) }
+{
+    match text {
+        Some(text) => Ok(Some(Text::new(alloc, text)?)),
+        None => Ok(None),
+    }
+}
+
+// The entry function; a generated case has none where no word tells.
+fn entry_name(alloc: Global, items: &[Item<'_>]) -> Result<Option<Name>, OutOfMemory>
+    ensures { IfOk result (λ name. name ≡ entry_of (usual_entry items.now) items.now) }
+{
+    let usual = if case(items).is_some() {
+        None
+    } else {
+        Some("_start")
+    };
+    match entry(items, usual) {
+        Some(name) => Ok(Some(Seq::from_slice(alloc, name.as_bytes())?)),
+        None => Ok(None),
+    }
+}
+
+// The names that are exported; a generated case exports its first function.
+fn exports(alloc: Global, items: &[Item<'_>]) -> Result<Seq<Name>, OutOfMemory>
+    ensures { IfOk result (λ names. names ≡ all_exports items.now) }
+{
+    let mut names = Seq::new(alloc);
+    if case(items).is_some() {
+        names.push(Seq::from_slice(alloc, b"f0")?)?;
+    }
+    add_exports(alloc, items, &mut names)?;
+    Ok(names)
 }

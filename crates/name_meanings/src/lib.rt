@@ -9,5 +9,6 @@ mod resolving;
 #[cfg(test)]
 mod tests;
 
+pub use imports::ImportType;
 pub use resolution::Resolution;
 pub use resolving::resolve;

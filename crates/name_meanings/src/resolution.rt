@@ -1,8 +1,9 @@
 //! What all symbols mean.
 ghost use Rattle.std.specs.Prelude.{◌≡◌, ◌<◌, [], Some, length, slice_get, slice_index_or, option_map, IsSome};
+ghost use Rattle.name_meanings.specs.Kept.{type_kept};
 ghost use Rattle.name_meanings.specs.Means.{row_of, answer_at};
 
-use crate::imports::ImportTable;
+use crate::imports::{ImportTable, ImportType};
 use name_rules::Meaning;
 use std::alloc::Global;
 use std::marker::Model;
@@ -76,5 +77,13 @@ impl Resolution {
     {
         let import = self.imports.get(number);
         (import.module.as_slice(), import.field.as_slice())
+    }
+
+    /// The type of an import that symbols mean.
+    pub fn import_type(&self, number: u32) -> &ImportType
+        requires { number < length self.now.imports }
+        ensures { option_map (λ key. key.type) (slice_get self.now.imports number) ≡ Some (type_kept result.now) }
+    {
+        &self.imports.get(number).kind
     }
 }

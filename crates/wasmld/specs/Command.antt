@@ -1,12 +1,12 @@
 -- What the program's answer says of the words and of the shelf before and after.
 use Rattle.std.specs.Prelude.{◌≡◌, ◌⊎◌, ℕ, List, [], ◌∷◌, IsTrue, Contains, map, Option, Some, None, IfSome, IsSomeAnd, Result, Ok, Err}
-use Rattle.link_words.specs.declared.plan.Plan.{Plan}
+use Rattle.first_words.specs.declared.plan.Plan.{Plan}
 use Rattle.first_link.specs.LinkOf.{first_link_of}
 use Rattle.wl_base.specs.declared.fault.Fault.{Fault}
 use Rattle.wasmld.specs.declared.status.Status.{Status}
 use Rattle.wasmld.specs.declared.status.Status.TheVariants.{Linked, Refused, Usage, ReadFault, WriteFault, NoMemory}
 use Rattle.wl_outside.specs.Shelf.{Shown, Same, SameBut, Holds, Torn, LoadFailed, SaveFailed}
-use Rattle.link_words.specs.Words.{word}
+use Rattle.first_words.specs.Words.{word}
 
 -- the contents of the names, where each holds any
 abbrev pub with_first : Option (List ℕ) → Option (List (List ℕ)) → Option (List (List ℕ))

@@ -2,14 +2,14 @@
 ghost use Rattle.std.specs.Prelude.{◌≡◌, ◌⊎◌, ◌<◌, ◌^◌, List, ℕ, Result, IsTrue, IsSomeAnd, IfOk, IfErr, All, Contains, Some, Ok, Err, length};
 ghost use Rattle.wl_base.specs.declared.fault.Fault.{Fault};
 ghost use Rattle.wl_base.specs.declared.usage.Usage.{Usage as UsageFault};
-ghost use Rattle.link_words.specs.declared.plan.Plan.{Plan as ThePlan};
+ghost use Rattle.first_words.specs.declared.plan.Plan.{Plan as ThePlan};
 ghost use Rattle.wl_outside.specs.Shelf.{Same, Grows, LoadFailed, SaveFailed};
-ghost use Rattle.link_words.specs.Words.{IsFirstPlan, plan_of, word};
+ghost use Rattle.first_words.specs.Words.{IsFirstPlan, plan_of, word};
 ghost use Rattle.wasmld.specs.Command.{Shows, LinkIs, LoadsWork, SaveWorks, IsUnlessMemory, Saved, Cut, contents, input_names, places};
 
 use crate::Status;
 use first_link::{LinkError, link};
-use link_words::{Plan, WordError, read_words};
+use first_words::{Plan, WordError, read_words};
 use std::alloc::Global;
 use wl_base::{OutOfMemory, Seq, Text};
 use wl_outside::{Failed, LoadFault, Shelf};

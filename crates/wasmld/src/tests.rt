@@ -132,7 +132,7 @@ fn each_status_has_its_line(rt: HostRuntime) -> Result<(), Fail> {
     let name = Seq::from_slice(alloc, b"a\\ \xffz".as_slice())?;
     let lines = [
         (Status::Linked, ""),
-        (Status::Usage(Usage::NotYet), "usage: NotYet"),
+        (Status::Usage(Usage::UnknownOption { at: 0 }), "usage: UnknownOption { at: 0 }"),
         (Status::ReadFault(7), "cannot read word 7"),
         (Status::WriteFault, "cannot write the output"),
         (Status::NoMemory, "out of memory"),
@@ -164,7 +164,7 @@ fn a_name_without_a_definition_is_unresolved(rt: HostRuntime) -> Result<(), Fail
     );
     assert_eq!(rt;
         status(alloc, &OBJECT, "--export=memory")?,
-        Status::Usage(Usage::NotYet)
+        Status::Usage(Usage::UnknownOption { at: 0 })
     );
     Ok(())
 }

@@ -20,6 +20,4 @@ pub enum Usage {
     NoInput,
     /// There is no output.
     NoOutput,
-    /// The words aren't of the one form that is read so far.
-    NotYet,
 }

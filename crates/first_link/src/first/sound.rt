@@ -8,7 +8,7 @@ use crate::first::object::{
     FirstBody, FirstCode, FirstObject, FirstReloc, FirstRelocs, FirstSymbol,
 };
 use indexmap::IndexSet;
-use link_words::is_prefixed;
+use first_words::is_prefixed;
 use std::alloc::Global;
 use wasm_types::{FuncType, ValType};
 use wl_base::{OutOfMemory, Seq};

@@ -1,8 +1,8 @@
 use Rattle.std.proofs.Common.{◌≡◌, ℕ, ◌+◌, ◌<◌, List, [], ◌∷◌, ◌++◌, length, map, take, get_or, rules, subst, sym, ap, ◌∙◌, arith, Bool, false, slice_index_or}
 use Rattle.std.proofs.lemmas.Grind.{common_steps}
 use Rattle.std.proofs.lemmas.List.{get_or_default}
-use Rattle.link_words.specs.declared.plan.InputWord.{InputWord}
-use Rattle.link_words.specs.Words.{word}
+use Rattle.first_words.specs.declared.plan.InputWord.{InputWord}
+use Rattle.first_words.specs.Words.{word}
 use Rattle.wasmld.proofs.Loads.{so_far_more, SoFar, names_more}
 use Rattle.wasmld.proofs.command.load_inputs.Goals as goal
 

@@ -1,6 +1,6 @@
 use Rattle.std.proofs.Common.{◌≡◌, ℕ, length, take, map, Some, IsTrue}
 use Rattle.wl_outside.specs.Shelf.{Same, Grows}
-use Rattle.link_words.specs.Words.{word}
+use Rattle.first_words.specs.Words.{word}
 use Rattle.wasmld.specs.Command.{contents}
 use Rattle.wasmld.proofs.Loads.{SoFar}
 use Rattle.wasmld.proofs.command.load_inputs.Given as goal

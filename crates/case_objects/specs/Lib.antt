@@ -1,0 +1,4 @@
+pub mod Parts
+pub mod Objects
+pub mod Functions
+mod Rows

@@ -1,0 +1,9 @@
+pub mod ReadAt
+pub mod Chunks
+pub mod Lists
+pub mod Ends
+pub mod Winners
+pub mod Told
+pub mod Known
+pub mod Pieces
+pub mod Whole

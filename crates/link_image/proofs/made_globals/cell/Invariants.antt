@@ -1,0 +1,4 @@
+use Rattle.link_image.proofs.made_globals.cell.Given as goal
+
+abbrev pub ghost-address : goal.ghost-address
+ghost-address g a = g.s

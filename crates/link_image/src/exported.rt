@@ -1,0 +1,103 @@
+//! The export section (Core 5.5.10).
+ghost use Rattle.std.specs.Prelude.{◌≡◌, ◌++◌, map, drop, List, All, Contains, IfOk, OnOk};
+ghost use Rattle.made_symbols.specs.declared.mode.Mode.TheVariants.{Plain};
+ghost use Rattle.name_rules.specs.Entries.{Entry};
+ghost use Rattle.link_rules.specs.Marks as marks;
+ghost use Rattle.link_rules.specs.Program as rules;
+ghost use Rattle.link_program.specs.Told.{told_definition, told_winner};
+ghost use Rattle.link_program.specs.Program.{IsProgram};
+ghost use Rattle.link_marks.specs.Names.{IsWinner};
+ghost use Rattle.link_marks.specs.About.{Exporting};
+ghost use Rattle.link_image.specs.Sections.{space_of, index_by, export_seen};
+
+use crate::keys::{function_of, index_of};
+use link_layout::Layout;
+use link_marks::export_name;
+use link_numbers::Numbering;
+use link_program::{Definition, GlobalKey, Program, Winner};
+use linking_section::SymbolKind;
+use std::alloc::Global;
+use wasm_module::Export;
+use wl_base::{Name, OutOfMemory, Seq};
+
+// What kind of export a symbol is.
+fn space_of(kind: SymbolKind) -> u8
+    ensures { result ≡ space_of kind }
+{
+    match kind {
+        SymbolKind::Function => 0,
+        SymbolKind::Datum | SymbolKind::GlobalVar => 3,
+        SymbolKind::Section | SymbolKind::Table => 1,
+    }
+}
+
+// The number of what is exported among those of its kind.
+fn index_by(numbering: &Numbering, definition: Definition, kind: SymbolKind) -> u32
+    ensures { result ≡ index_by numbering.now definition kind }
+{
+    match kind {
+        SymbolKind::Function => numbering.function_number(function_of(definition)),
+        SymbolKind::Datum => numbering.global_number(GlobalKey::Datum(definition)),
+        SymbolKind::GlobalVar => numbering.global_number(GlobalKey::Own {
+            input: definition.input,
+            index: index_of(definition),
+        }),
+        SymbolKind::Section | SymbolKind::Table => 0,
+    }
+}
+
+// An export under a name.
+fn named(
+    alloc: Global,
+    numbering: &Numbering,
+    name: &[u8],
+    definition: Definition,
+) -> Result<Export, OutOfMemory>
+    ensures { IfOk result (λ x. x ≡ export_seen numbering.now name.now definition) }
+{
+    let name = Seq::from_slice(alloc, name)?;
+    Ok(Export {
+        name,
+        kind: space_of(definition.kind),
+        index: index_by(numbering, definition, definition.kind),
+    })
+}
+
+// The export of a winner.
+fn export(
+    alloc: Global,
+    program: Program<'_>,
+    numbering: &Numbering,
+    winner: &Winner,
+) -> Result<Export, OutOfMemory>
+    ghost p: { rules.Program }
+    requires program { IsProgram Plain program p }
+    requires winner { IsWinner program.names.now.names p.winners winner.now }
+    ensures { (e : Entry) → Contains p.winners e → winner.now ≡ told_winner program.entry.names.now.names e
+        → IfOk result (λ x. x ≡ export_seen numbering.now (marks.export_name p e) (told_definition e)) }
+{
+    let name = export_name(program, winner);
+    let export = named(alloc, numbering, name, winner.definition)?;
+    Ok(export)
+}
+
+/// Adds the exported winners.
+pub(crate) fn add_winners(
+    alloc: Global,
+    program: Program<'_>,
+    numbering: &Numbering,
+    winners: &[Winner],
+    exports: &mut Seq<Export>,
+) -> Result<(), OutOfMemory>
+    ghost w: { Exporting }
+    requires program { IsProgram Plain program w.program }
+    requires winners { All (Contains w.program.winners) w.exports }
+    requires exports { winners.now ≡ map (told_winner program.names.now.names) w.exports }
+    ensures { OnOk result (exports.new ≡ exports.old ++ map (λ e. export_seen numbering.now (marks.export_name w.program e) (told_definition e)) w.exports) }
+{
+    for winner in winners {
+        let export = export(alloc, program, numbering, winner)?;
+        exports.push(export)?;
+    }
+    Ok(())
+}

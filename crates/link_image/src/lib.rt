@@ -1,0 +1,17 @@
+//! The image of the output: each section by the numbers and places of what is live.
+#![tactic(auto)]
+
+mod bodies;
+mod elements;
+mod exported;
+mod functions;
+mod imports;
+mod keys;
+mod made_globals;
+mod making;
+mod memory;
+mod parts;
+mod placed;
+mod types;
+
+pub use making::image;

@@ -1,0 +1,163 @@
+//! The global section (Core 5.5.9).
+ghost use Rattle.std.specs.Prelude.{◌≡◌, ◌++◌, ◌==◌, if◌then◌else◌, filter_map, drop, IfOk, OnOk};
+ghost use Rattle.std.specs.Option.{option_to_list};
+ghost use Rattle.made_symbols.specs.declared.mode.Mode.TheVariants.{Plain};
+ghost use Rattle.reloc_apply.specs.Windows.{signed32};
+ghost use Rattle.link_rules.specs.Program.{chunk_at};
+ghost use Rattle.link_rules.specs.Values as values;
+ghost use Rattle.link_rules.specs.Output.{layout as laid_out};
+ghost use Rattle.link_program.specs.Live.{Stage};
+ghost use Rattle.link_layout.specs.Seen.{Looked, chunk_number};
+ghost use Rattle.link_layout.specs.Layout.{looked, IsLayout};
+ghost use Rattle.link_image.specs.Sections.{constant, entry_of, cell_seen, content_seen, part_global, global_made};
+
+use crate::keys::function_of;
+use crate::parts::{number_of, part_at};
+use link_layout::Layout;
+use link_program::{Content, Definition, FunctionKey, GlobalKey, GotKey, Tables};
+use linking_section::SymbolKind;
+use mark_bits::Chunk;
+use std::alloc::Global;
+use wasm_module::ModuleGlobal;
+use wasm_types::{ConstExpr, GlobalType, ValType};
+use wl_base::{OutOfMemory, Seq};
+
+/// A number below 2^32 as the signed number of the same bits. Another one is answered as want of memory.
+pub(crate) fn signed(n: u64) -> Result<i32, OutOfMemory>
+    ensures { IfOk result (λ i. i ≡ signed32 n) }
+{
+    match u32::try_from(n) {
+        Ok(bits) => Ok(bits.cast_signed()),
+        Err(_) => Err(OutOfMemory),
+    }
+}
+
+// A global that begins as this number.
+fn constant(var: bool, n: u64) -> Result<ModuleGlobal, OutOfMemory>
+    ensures { IfOk result (λ g. g ≡ constant var n) }
+{
+    let n = signed(n)?;
+    Ok(ModuleGlobal {
+        kind: GlobalType {
+            kind: ValType::I32,
+            var,
+        },
+        value: ConstExpr::I32(n),
+    })
+}
+
+// The address of a definition.
+fn address(layout: Layout<'_>, definition: Definition) -> u64
+    ghost s: { Stage }
+    requires { IsLayout s.program s.parts s.exports layout }
+    ensures { result ≡ values.address_of Plain (laid_out Plain s.program s.parts s.exports) (entry_of definition) }
+{
+    layout.address(definition)
+}
+
+// What a cell of an address holds.
+fn cell(layout: Layout<'_>, key: GotKey) -> u64
+    ghost s: { Stage }
+    requires { IsLayout s.program s.parts s.exports layout }
+    ensures { result ≡ cell_seen (laid_out Plain s.program s.parts s.exports) layout.entry.numbering.now key }
+{
+    match key {
+        GotKey::Here(definition) => {
+            if definition.kind == SymbolKind::Datum {
+                address(layout, definition)
+            } else {
+                u64::from(layout.numbering.slot(function_of(definition)))
+            }
+        }
+        GotKey::Import(number) => u64::from(layout.numbering.slot(FunctionKey::Import(number))),
+        GotKey::Null(_) => 0,
+    }
+}
+
+// A global of an object.
+fn content(content: Content) -> Option<ModuleGlobal>
+    ensures { result ≡ content_seen content }
+{
+    match content {
+        Content::Global { kind, value } => Some(ModuleGlobal { kind, value }),
+        Content::Function(_) | Content::Segment { align: _, flags: _ } | Content::Made => None,
+    }
+}
+
+// The global of a chunk.
+fn own(tables: &Tables, chunk: Chunk) -> Option<ModuleGlobal>
+    ensures { (k : Looked) → k.tables ≡ tables.now → result ≡ part_global k (chunk_number tables.now.chunks chunk) }
+{
+    match number_of(&tables.chunks, chunk) {
+        Some(number) => content(part_at(tables, number).content),
+        None => None,
+    }
+}
+
+// The linker's global of a number: `__stack_pointer` begins at the top of the stack, the others are 0.
+fn linker_global(layout: Layout<'_>, index: u32) -> Result<ModuleGlobal, OutOfMemory>
+    ensures { IfOk result (λ g. g ≡ constant (index == 1) (if index == 1 then layout.entry.placed.now.places.stack_high else 0)) }
+{
+    let top = if index == 1 {
+        layout.placed.places.stack_high
+    } else {
+        0
+    };
+    let made = constant(index == 1, u64::from(top))?;
+    Ok(made)
+}
+
+// A global that is defined.
+fn global(layout: Layout<'_>, key: GlobalKey) -> Result<Option<ModuleGlobal>, OutOfMemory>
+    ghost s: { Stage }
+    requires { IsLayout s.program s.parts s.exports layout }
+    ensures { IfOk result (λ g. g ≡ global_made (laid_out Plain s.program s.parts s.exports) (looked layout.entry) key) }
+{
+    match key {
+        GlobalKey::Import(_) => Ok(None),
+        GlobalKey::Own { input: 0, index } => {
+            let made = linker_global(layout, index)?;
+            Ok(Some(made))
+        }
+        GlobalKey::Own { input, index } => {
+            let chunk = Chunk {
+                input,
+                kind: 2,
+                index,
+            };
+            Ok(own(layout.program.tables, chunk))
+        }
+        GlobalKey::Got(key) => {
+            let made = constant(false, cell(layout, key))?;
+            Ok(Some(made))
+        }
+        GlobalKey::Datum(definition) => {
+            let made = constant(false, address(layout, definition))?;
+            Ok(Some(made))
+        }
+    }
+}
+
+fn add(globals: &mut Seq<ModuleGlobal>, global: Option<ModuleGlobal>) -> Result<(), OutOfMemory>
+    ensures { OnOk result (globals.new ≡ globals.old ++ option_to_list global) }
+{
+    match global {
+        Some(global) => globals.push(global),
+        None => Ok(()),
+    }
+}
+
+/// The defined globals.
+pub(crate) fn globals(alloc: Global, layout: Layout<'_>) -> Result<Seq<ModuleGlobal>, OutOfMemory>
+    ghost s: { Stage }
+    requires { IsLayout s.program s.parts s.exports layout }
+    ensures { IfOk result (λ globals. globals ≡ filter_map (global_made (laid_out Plain s.program s.parts s.exports) (looked layout.entry)) layout.entry.numbering.now.globals) }
+{
+    let keys = layout.numbering.globals();
+    let mut globals = Seq::new(alloc);
+    for key in keys {
+        let global = global(layout, *key)?;
+        add(&mut globals, global)?;
+    }
+    Ok(globals)
+}

@@ -1,0 +1,13 @@
+pub mod Binds
+pub mod OpenedSteps
+pub mod Taking
+pub mod Numbers
+pub mod Files
+pub mod Cut
+pub mod Places
+pub mod Made
+pub mod Members
+pub mod Faults
+pub mod Loads
+pub mod Divided
+pub mod Sourced

@@ -1,0 +1,10 @@
+pub mod Answers
+pub mod Opened
+pub mod Words
+pub mod Sources
+pub mod Parts
+pub mod PartLaws
+pub mod Reading
+pub mod Inputs
+pub mod Loaded
+pub mod Steps

@@ -1,0 +1,341 @@
+//! Inputs over real bytes, read by real threads.
+ghost use Rattle.std.specs.Prelude.{◌≡◌, ◌<◌, ◌≤◌, ◌^◌, Some, None, length, IfSome, IfOk};
+ghost use Rattle.link_plan.specs.Plan.{IsPlan};
+
+use super::*;
+use link_plan::{InputWord, Plan};
+use std::alloc::Global;
+use std::sync::atomic::{AtomicU64, Ordering};
+use std::test::Fail;
+use std::thread::Threads;
+use wl_base::{Fault, OutOfMemory, Seq};
+use wl_outside::{Gate, OpenGate, Phase};
+
+/// An object that refers to `a`.
+fn needs_a() -> &'static [u8] {
+    b"\0asm\x01\0\0\0\0\x10\x07linking\x02\x08\x05\x01\x01\x10\x01a".as_slice()
+}
+
+/// An object that defines `a` and refers to `b`.
+fn defines_a() -> &'static [u8] {
+    b"\0asm\x01\0\0\0\x01\x04\x01`\0\0\x03\x02\x01\0\n\x04\x01\x02\0\x0b\0\x15\x07linking\x02\x08\n\x02\0\0\0\x01a\x01\x10\x01b".as_slice()
+}
+
+/// No object: its version is 2.
+fn broken() -> &'static [u8] {
+    b"\0asm\x02\0\0\0".as_slice()
+}
+
+/// A library of two members: the first defines `a` and refers to `b`, the second the other way round.
+fn library() -> &'static [u8] {
+    b"!<arch>\n/                                               16        `\n\0\0\0\x02\0\0\0T\0\0\0\xc0a\0b\0m/                                              47        `\n\0asm\x01\0\0\0\x01\x04\x01`\0\0\x03\x02\x01\0\n\x04\x01\x02\0\x0b\0\x15\x07linking\x02\x08\n\x02\0\0\0\x01a\x01\x10\x01b\nm/                                              47        `\n\0asm\x01\0\0\0\x01\x04\x01`\0\0\x03\x02\x01\0\n\x04\x01\x02\0\x0b\0\x15\x07linking\x02\x08\n\x02\0\0\0\x01b\x01\x10\x01a\n".as_slice()
+}
+
+/// A library whose one member, which its index gives for `a`, is no object.
+fn broken_library() -> &'static [u8] {
+    b"!<arch>\n/                                               10        `\n\0\0\0\x01\0\0\0Na\0m/                                              8         `\n\0asm\x02\0\0\0".as_slice()
+}
+
+/// A library without an index.
+fn no_library() -> &'static [u8] {
+    b"!<arch>\nm/                                              8         `\n\0asm\x02\0\0\0".as_slice()
+}
+
+/// What a call answers, as far as the cases tell.
+#[derive(Clone, Copy, Debug, PartialEq, Eq)]
+enum Outcome {
+    /// The first inputs that are loaded, in order, and how many there are in all.
+    Loaded([u32; 3], usize),
+    /// The input that is malformed.
+    Malformed(u32),
+    /// The file that is no library.
+    NoLibrary(u32),
+    Other,
+}
+
+/// A file, and whether its word is lazy or whole.
+#[derive(Clone, Copy)]
+struct Word {
+    bytes: &'static [u8],
+    lazy: bool,
+    whole: bool,
+}
+
+fn plain(bytes: &'static [u8]) -> Word {
+    Word {
+        bytes,
+        lazy: false,
+        whole: false,
+    }
+}
+
+fn lazy(bytes: &'static [u8]) -> Word {
+    Word {
+        bytes,
+        lazy: true,
+        whole: false,
+    }
+}
+
+fn whole(bytes: &'static [u8]) -> Word {
+    Word {
+        bytes,
+        lazy: false,
+        whole: true,
+    }
+}
+
+/// A plan of these words, or of so many generated objects.
+fn plan_of(alloc: Global, inputs: Seq<InputWord>, case: Option<u32>, threads: u32) -> Plan
+    requires words { length inputs < 2 ^ 32 }
+    requires case { IfSome case (λ n. (1 ≤ n) × (n ≤ 20000)) }
+    requires threads { (1 ≤ threads) × (threads ≤ 64) }
+    ensures plan { IsPlan result }
+    ensures inputs { result.inputs ≡ inputs }
+    ensures case { result.make_case ≡ case }
+{
+    Plan {
+        inputs,
+        output: None,
+        entry: None,
+        exports: Seq::new(alloc),
+        exports_if: Seq::new(alloc),
+        wanted: Seq::new(alloc),
+        export_dynamic: false,
+        allow_undefined: false,
+        import_memory: false,
+        gc: false,
+        stack_first: false,
+        global_base: None,
+        stack_size: 65536,
+        initial_memory: 0,
+        max_memory: None,
+        threads,
+        make_case: case,
+    }
+}
+
+fn input_word(word: Word) -> InputWord {
+    InputWord {
+        place: 0,
+        lazy: word.lazy,
+        whole: word.whole,
+    }
+}
+
+/// Two words.
+fn two_words(alloc: Global, first: Word, second: Word) -> Result<Seq<InputWord>, OutOfMemory>
+    ensures { IfOk result (λ words. length words ≡ 2) }
+{
+    let mut words = Seq::new(alloc);
+    words.push(input_word(first))?;
+    words.push(input_word(second))?;
+    Ok(words)
+}
+
+/// Two files.
+fn two_files(alloc: Global, first: Word, second: Word) -> Result<Seq<Seq<u8>>, OutOfMemory>
+    ensures { IfOk result (λ files. length files ≡ 2) }
+{
+    let mut files = Seq::new(alloc);
+    files.push(Seq::from_slice(alloc, first.bytes)?)?;
+    files.push(Seq::from_slice(alloc, second.bytes)?)?;
+    Ok(files)
+}
+
+/// The call with two files.
+fn loaded<R: Threads + Sync, G: Gate>(
+    rt: &R,
+    alloc: Global,
+    first: Word,
+    second: Word,
+    threads: u32,
+    gate: &G,
+) -> Result<Inputs, InputError>
+    requires { (1 ≤ threads) × (threads ≤ 64) }
+{
+    let words = two_words(alloc, first, second)?;
+    let files = two_files(alloc, first, second)?;
+    let plan = plan_of(alloc, words, None, threads);
+    load_inputs(rt, alloc, &plan, files.as_slice(), gate)
+}
+
+/// The call with two files in the place of generated objects.
+fn generated<R: Threads + Sync>(
+    rt: &R,
+    alloc: Global,
+    first: Word,
+    second: Word,
+) -> Result<Inputs, InputError> {
+    let files = two_files(alloc, first, second)?;
+    let plan = plan_of(alloc, Seq::new(alloc), Some(2), 2);
+    load_inputs(rt, alloc, &plan, files.as_slice(), &OpenGate)
+}
+
+/// The input of the object at this place, or 0.
+fn input_at(inputs: &Inputs, at: usize) -> u32 {
+    match inputs.objects().get(at) {
+        Some(object) => object.input,
+        None => 0,
+    }
+}
+
+/// What the call answers.
+fn told(answer: Result<Inputs, InputError>) -> Outcome {
+    match answer {
+        Ok(inputs) => Outcome::Loaded(
+            [
+                input_at(&inputs, 0),
+                input_at(&inputs, 1),
+                input_at(&inputs, 2),
+            ],
+            inputs.objects().len(),
+        ),
+        Err(InputError::Refused(Fault::Malformed { input, part: _ })) => Outcome::Malformed(input),
+        Err(InputError::Refused(Fault::Library { file, fault: _ })) => Outcome::NoLibrary(file),
+        Err(_) => Outcome::Other,
+    }
+}
+
+#[test]
+fn the_least_fault_or_what_is_needed(rt: HostRuntime) {
+    let cases = [
+        (
+            plain(needs_a()),
+            plain(library()),
+            Outcome::Loaded([1, 2, 3], 3),
+        ),
+        (
+            plain(library()),
+            plain(needs_a()),
+            Outcome::Loaded([1, 2, 3], 3),
+        ),
+        (
+            plain(needs_a()),
+            lazy(defines_a()),
+            Outcome::Loaded([1, 2, 0], 2),
+        ),
+        (
+            lazy(defines_a()),
+            whole(library()),
+            Outcome::Loaded([2, 3, 0], 2),
+        ),
+        (
+            plain(broken()),
+            whole(broken_library()),
+            Outcome::Malformed(1),
+        ),
+        (
+            whole(broken_library()),
+            plain(broken()),
+            Outcome::Malformed(1),
+        ),
+        (
+            plain(broken_library()),
+            plain(broken()),
+            Outcome::Malformed(2),
+        ),
+        (
+            plain(needs_a()),
+            plain(broken_library()),
+            Outcome::Malformed(2),
+        ),
+        (
+            plain(defines_a()),
+            plain(broken_library()),
+            Outcome::Loaded([1, 0, 0], 1),
+        ),
+        (
+            plain(defines_a()),
+            whole(broken_library()),
+            Outcome::Malformed(2),
+        ),
+        (lazy(broken()), plain(needs_a()), Outcome::Malformed(1)),
+        (plain(broken()), plain(no_library()), Outcome::NoLibrary(1)),
+    ];
+    for (first, second, outcome) in cases {
+        for threads in [1u32, 2, 64] {
+            assert_eq!(rt;
+                told(loaded(&rt, rt.alloc(), first, second, threads, &OpenGate)),
+                outcome
+            );
+        }
+    }
+}
+
+/// Where the input begins, as its file and its first byte there.
+fn home_at(inputs: &Inputs, at: usize) -> Option<(u32, u64)> {
+    let home = inputs.homes().get(at)?;
+    Some((home.file, home.start))
+}
+
+#[test]
+fn each_input_has_a_home(rt: HostRuntime) -> Result<(), Fail> {
+    let inputs = loaded(
+        &rt,
+        rt.alloc(),
+        plain(library()),
+        lazy(defines_a()),
+        2,
+        &OpenGate,
+    )
+    .ok()
+    .ok_or("inputs")?;
+    assert_eq!(rt; inputs.homes().len(), 3);
+    assert_eq!(rt; home_at(&inputs, 0), Some((0, 144)));
+    assert_eq!(rt; home_at(&inputs, 1), Some((0, 252)));
+    assert_eq!(rt; home_at(&inputs, 2), Some((1, 0)));
+    assert_eq!(rt; inputs.objects().len(), 0);
+    Ok(())
+}
+
+#[test]
+fn generated_objects_are_loaded_at_once(rt: HostRuntime) {
+    let answer = generated(&rt, rt.alloc(), lazy(defines_a()), whole(library()));
+    assert_eq!(rt; told(answer), Outcome::Loaded([1, 3, 0], 2));
+}
+
+// Holds the first job that comes until a second one has come, for a number of turns.
+#[derive(Drop)]
+struct Meeting {
+    came: AtomicU64,
+    late: AtomicU64,
+}
+
+impl Gate for Meeting {
+    fn turn(&self, phase: Phase, _worker: u32, _job: u32) {
+        if phase != Phase::Read {
+            self.late.store(1, Ordering::SeqCst);
+        }
+        if self.came.fetch_add(1, Ordering::SeqCst) > 0 {
+            return;
+        }
+        for _ in 0..100_000_000u64 {
+            if self.came.load(Ordering::SeqCst) > 1 {
+                return;
+            }
+        }
+        self.late.store(1, Ordering::SeqCst);
+    }
+}
+
+#[test]
+fn two_objects_are_read_at_once(rt: HostRuntime) {
+    for threads in [2u32, 64] {
+        let gate = Meeting {
+            came: AtomicU64::new(0),
+            late: AtomicU64::new(0),
+        };
+        let answer = loaded(
+            &rt,
+            rt.alloc(),
+            plain(needs_a()),
+            lazy(defines_a()),
+            threads,
+            &gate,
+        );
+        assert_eq!(rt; told(answer), Outcome::Loaded([1, 2, 0], 2));
+        assert_eq!(rt; gate.came.load(Ordering::SeqCst), 2);
+        assert_eq!(rt; gate.late.load(Ordering::SeqCst), 0);
+    }
+}

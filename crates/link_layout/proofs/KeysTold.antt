@@ -1,0 +1,73 @@
+-- What a symbol means as a key, as it is told.
+use Rattle.std.proofs.Common.{◌≡◌, ℕ, ◌==◌, Bool, true, false, not, List, [], ◌∷◌, map, Option, Some, None, unwrap_or, refl, sym, ap, subst, ◌∙◌, arith, ℤ, pos, eqb-true}
+use Rattle.std.specs.Prelude.{if◌then◌else◌}
+use Rattle.wl_base.specs.Names.{number_of}
+use Rattle.linking_section.specs.Flags.{kind_code}
+use Rattle.linking_section.specs.declared.symbol.SymbolKind.TheVariants.{GlobalVar}
+use Rattle.made_symbols.specs.declared.mode.Mode.TheVariants.{Plain}
+use Rattle.name_rules.specs.Entries.{Entry, ImportKey, name_of, is_entry, is_kind}
+use Rattle.name_rules.specs.Meanings.{Meaning, here, imported, null, nothing, is_nothing}
+use Rattle.name_entries.specs.View.{entry_number}
+use Rattle.link_rules.specs.Program.{Ref}
+use Rattle.link_rules.specs.Keys as keys
+use Rattle.link_rules.specs.Keys.{linker_function, own, stub, linker_global, own_global, got, is_null, ref_function, ref_global, ref_got, got_of, global_of, meant_function, meant_global}
+use Rattle.link_program.specs.declared.keys.FunctionKey.{FunctionKey}
+use Rattle.link_program.specs.declared.keys.FunctionKey.TheVariants as functions
+use Rattle.link_program.specs.declared.keys.GlobalKey.{GlobalKey}
+use Rattle.link_program.specs.declared.keys.GlobalKey.TheVariants as globals
+use Rattle.link_program.specs.Told.{told_definition, told_lead, told_symbol}
+use Rattle.link_program.specs.Keys.{told_function, told_got, told_global}
+use Rattle.link_numbers.specs.Knows.{KnowsFunction, KnowsGot}
+use Rattle.link_layout.specs.Seen.{index_of, function_of, function_meant, cell_meant, global_meant, global_named}
+
+module _ (names : List (List ℕ)) (imports : List ImportKey) where
+  own_told : (d : Entry) (r : Bool) → (d.input == 0) ≡ r → functions.Own d.input (if r then d.place else d.index) ≡ told_function names imports (if r then linker_function d.place else own d.input d.index)
+  own_told d true is = ap (λ i. functions.Own i d.place) (eqb-true d.input 0 is)
+  own_told d false is = refl
+
+  -- the function of a definition
+  pub function_told : (d : Entry) → function_of (told_definition d) ≡ told_function names imports (keys.function_of d)
+  function_told d = own_told d (d.input == 0) refl
+
+  own_known : (d : Entry) (r : Bool) → (d.input == 0) ≡ r → KnowsFunction names imports (if r then linker_function d.place else own d.input d.index)
+  own_known d true is = tt
+  own_known d false is = is
+
+  pub function_known : (d : Entry) → KnowsFunction names imports (keys.function_of d)
+  function_known d = own_known d (d.input == 0) refl
+
+  -- the function that a symbol means
+  pub meant_told : (e : Entry) (m : Meaning) → (is_null m ≡ true → is_entry e ≡ true) → is_nothing m ≡ false → function_meant (entry_number names e) (told_lead imports m) ≡ told_function names imports (meant_function (name_of e) m)
+  meant_told e (here d) named meant = function_told d
+  meant_told e (imported k) named meant = refl
+  meant_told e null named meant = ap (λ r. functions.Stub (unwrap_or (if r then number_of names (name_of e) else None) 0)) (named refl)
+  meant_told e nothing named meant = absurd cc
+
+  cell_told : (kind : ℕ) (m : Meaning) → cell_meant kind (told_lead imports m) ≡ told_got imports (got_of kind m)
+  cell_told kind (here d) = refl
+  cell_told kind (imported k) = refl
+  cell_told kind null = refl
+  cell_told kind nothing = refl
+
+  own_global_told : (d : Entry) (r : Bool) → (d.input == 0) ≡ r → globals.Own d.input (if r then d.place else d.index) ≡ told_global imports (if r then linker_global d.place else own_global d.input d.index)
+  own_global_told d true is = ap (λ i. globals.Own i d.place) (eqb-true d.input 0 is)
+  own_global_told d false is = refl
+
+  -- `null` and `nothing` are the cells of null
+  null_cell : (ref : Ref) (m : Meaning) → ref.meaning ≡ m → globals.Got (cell_meant (kind_code ref.entry.symbol.kind) (told_lead imports m)) ≡ told_global imports (got (ref_got ref))
+  null_cell ref m is = ap globals.Got (cell_told (kind_code ref.entry.symbol.kind) m) ∙ ap (λ v. told_global imports (got (got_of (kind_code ref.entry.symbol.kind) v))) (sym is)
+
+  global_meant_told : (ref : Ref) (m : Meaning) → ref.meaning ≡ m → global_meant (kind_code ref.entry.symbol.kind) (told_lead imports m) ≡ told_global imports (meant_global Plain ref m)
+  global_meant_told ref (here d) is = own_global_told d (d.input == 0) refl
+  global_meant_told ref (imported k) is = refl
+  global_meant_told ref null is = null_cell ref null is
+  global_meant_told ref nothing is = null_cell ref nothing is
+
+  by_kind : (ref : Ref) (r : Bool) → (if r then global_meant (kind_code ref.entry.symbol.kind) (told_lead imports ref.meaning) else globals.Got (cell_meant (kind_code ref.entry.symbol.kind) (told_lead imports ref.meaning)))
+      ≡ told_global imports (if r then meant_global Plain ref ref.meaning else got (ref_got ref))
+  by_kind ref true = global_meant_told ref ref.meaning refl
+  by_kind ref false = ap globals.Got (cell_told (kind_code ref.entry.symbol.kind) ref.meaning)
+
+  -- the global that a symbol means, or the cell of its address
+  pub global_told : (ref : Ref) → global_named (kind_code ref.entry.symbol.kind) (told_lead imports ref.meaning) ≡ told_global imports (ref_global Plain ref)
+  global_told ref = by_kind ref (is_kind GlobalVar ref.entry)

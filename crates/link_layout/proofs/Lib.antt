@@ -1,0 +1,12 @@
+pub mod ReadAt
+pub mod Chunks
+pub mod MadeData
+pub mod Pairs
+pub mod Steps
+pub mod Filled
+pub mod Parts
+pub mod PlacedTold
+pub mod KeysTold
+pub mod Told
+pub mod Windows
+pub mod Sources

@@ -1,0 +1,36 @@
+-- When the data are the layout of a program.
+use Rattle.std.specs.Prelude.{◌≡◌, ℕ, List, length, flat_map, Contains, All}
+use Rattle.made_symbols.specs.declared.mode.Mode.TheVariants.{Plain}
+use Rattle.name_rules.specs.Entries.{Entry}
+use Rattle.link_rules.specs.Program.{Program, Part, Named}
+use Rattle.link_rules.specs.Keys.{numbers}
+use Rattle.link_program.specs.Program.{IsProgram}
+use Rattle.link_program.specs.Seen.{NamesOne}
+use Rattle.link_program.specs.Stand.{PartsStand}
+use Rattle.link_program.specs.Live.{AreLive, AllMeant}
+use Rattle.link_numbers.specs.Numbered.{IsNumbering}
+use Rattle.link_layout.specs.declared.layout.Layout.{Layout}
+use Rattle.link_layout.specs.Placed.{IsPlaced}
+use Rattle.link_layout.specs.Seen.{Looked}
+
+-- What a layout looks up.
+abbrev pub looked : Layout → Looked
+looked d = record { numbers = d.numbering.now; tables = d.program.tables.now; placed = d.placed.now }
+
+-- What parts name is there, and each type has a number.
+pub record AreThere (d : Layout) : Type 0 where
+  pub rows : All (λ row. All (NamesOne d.program.tables.now.symbols d.program.tables.now.types) row) d.program.tables.now.named
+  pub types : length d.numbering.now.type_numbers ≡ length d.program.tables.now.types
+
+-- What one of these parts names.
+abbrev pub IsNamedBy : List Part → Named → Type 0
+IsNamedBy parts n = Contains (flat_map (λ part. part.named) parts) n
+
+-- The data are those of the program, its live parts and its exports.
+pub record IsLayout (p : Program) (parts : List Part) (es : List Entry) (d : Layout) : Type 0 where
+  pub program : IsProgram Plain d.program p
+  pub stand : PartsStand p
+  pub live : (live : List ℕ) × AreLive p live parts
+  pub meant : AllMeant parts
+  pub numbering : IsNumbering d.program.names.now.names d.program.resolution.now.imports d.program.tables.now.types p parts d.numbering.now (numbers Plain p parts es)
+  pub placed : IsPlaced p parts d.placed.now

@@ -1,0 +1,4 @@
+pub mod Segments
+pub mod Placed
+pub mod Seen
+pub mod Layout

@@ -1,0 +1,177 @@
+-- What stands in windows, as the data show it.
+use Rattle.std.specs.Prelude.{ℕ, ◌+◌, ◌==◌, Bool, true, false, not, List, [], ◌∷◌, ◌++◌, map, filter, drop, length, position, slice_index_or, if◌then◌else◌, Option, Some, None, unwrap_or, ℤ, pos}
+use Rattle.wasm_types.specs.declared.function.FuncType.{FuncType}
+use Rattle.linking_section.specs.declared.symbol.SymbolKind.{SymbolKind}
+use Rattle.linking_section.specs.declared.symbol.SymbolKind.TheVariants.{Datum, GlobalVar}
+use Rattle.linking_section.specs.Flags.{kind_code}
+use Rattle.mark_bits.specs.declared.chunk.Chunk.{Chunk}
+use Rattle.index_layout.specs.Numbers.{number_by}
+use Rattle.reloc_apply.specs.declared.window.Form.TheVariants.{Unsigned5}
+use Rattle.reloc_apply.specs.declared.window.Window.{Window}
+use Rattle.link_rules.specs.Program.{chunk_at, same_chunk}
+use Rattle.link_rules.specs.Values.{Asks, a_function, a_slot, an_address, a_global, a_table, asks, form_of, made_data}
+use Rattle.link_program.specs.declared.symbol.Definition.{Definition}
+use Rattle.link_program.specs.declared.symbol.Symbol.{Symbol}
+use Rattle.link_program.specs.declared.symbol.Lead.{Lead}
+use Rattle.link_program.specs.declared.symbol.Lead.TheVariants as leads
+use Rattle.link_program.specs.declared.keys.FunctionKey.{FunctionKey}
+use Rattle.link_program.specs.declared.keys.FunctionKey.TheVariants as functions
+use Rattle.link_program.specs.declared.keys.GotKey.{GotKey}
+use Rattle.link_program.specs.declared.keys.GotKey.TheVariants as cells
+use Rattle.link_program.specs.declared.keys.GlobalKey.{GlobalKey}
+use Rattle.link_program.specs.declared.keys.GlobalKey.TheVariants as globals
+use Rattle.link_program.specs.declared.named.Named.{Named}
+use Rattle.link_program.specs.declared.named.Named.TheVariants as names
+use Rattle.link_program.specs.declared.program.Tables.{Tables}
+use Rattle.link_program.specs.Seen.{no_symbol}
+use Rattle.link_program.specs.Keys.{same_function_key, same_global_key}
+use Rattle.link_program.specs.Moved.{moved_windows}
+use Rattle.link_numbers.specs.Numbered.{Numbered, is_import}
+use Rattle.link_layout.specs.declared.placing.Placed.{Placed}
+use Rattle.link_layout.specs.Segments.{row_at}
+
+-- What is looked up: all numbers, the tables, and where segments stand.
+pub record Looked : Type 0 where
+  pub numbers : Numbered
+  pub tables : Tables
+  pub placed : Placed
+
+-- ---- addresses
+
+-- The address of the part of a number; where there is none, that of the first segment.
+abbrev pub column_at : Placed → Option ℕ → ℕ
+column_at d None = slice_index_or d.places.addresses 0 0
+column_at d (Some n) = slice_index_or d.addresses n 0
+
+abbrev pub chunk_number : List Chunk → Chunk → Option ℕ
+chunk_number chunks c = position (same_chunk c) chunks
+
+abbrev pub address_of : Looked → Definition → ℕ
+address_of k d =
+    if d.input == 0 then slice_index_or (made_data k.placed.places) d.place 0
+    else column_at k.placed (chunk_number k.tables.chunks (chunk_at d.input 1 d.index)) + d.offset
+
+-- ---- keys
+
+-- Which of its kind a definition is; the linker's are told by their numbers.
+abbrev pub index_of : Definition → ℕ
+index_of d = if d.input == 0 then d.place else d.index
+
+abbrev pub function_of : Definition → FunctionKey
+function_of d = functions.Own d.input (index_of d)
+
+-- The function that a symbol means; a null one is a stub of its name.
+abbrev pub function_meant : Option ℕ → Lead → FunctionKey
+function_meant name (leads.Here d) = function_of d
+function_meant name (leads.Import n) = functions.Import n
+function_meant name leads.Null = functions.Stub (unwrap_or name 0)
+function_meant name leads.Nothing = functions.Stub (unwrap_or name 0)
+
+-- The cell of the address of a symbol, by the kind of the symbol.
+abbrev pub cell_meant : ℕ → Lead → GotKey
+cell_meant kind (leads.Here d) = cells.Here d
+cell_meant kind (leads.Import n) = cells.Import n
+cell_meant kind leads.Null = cells.Null kind
+cell_meant kind leads.Nothing = cells.Null kind
+
+abbrev pub global_meant : ℕ → Lead → GlobalKey
+global_meant kind (leads.Here d) = globals.Own d.input (index_of d)
+global_meant kind (leads.Import n) = globals.Import n
+global_meant kind leads.Null = globals.Got (cells.Null kind)
+global_meant kind leads.Nothing = globals.Got (cells.Null kind)
+
+-- The global that a symbol means, or the cell of the address of a function or datum.
+abbrev pub global_named : ℕ → Lead → GlobalKey
+global_named kind lead = if kind == kind_code GlobalVar then global_meant kind lead else globals.Got (cell_meant kind lead)
+
+-- ---- numbers
+
+abbrev pub slot_of : Looked → FunctionKey → ℕ
+slot_of k f = k.numbers.first_slot + number_by same_function_key k.numbers.slots f
+
+abbrev pub slot_meant : Looked → Option ℕ → Lead → ℕ
+slot_meant k name (leads.Here d) = slot_of k (function_of d)
+slot_meant k name (leads.Import n) = slot_of k (functions.Import n)
+slot_meant k name leads.Null = 0
+slot_meant k name leads.Nothing = 0
+
+abbrev pub address_meant : Looked → Lead → ℕ
+address_meant k (leads.Here d) = address_of k d
+address_meant k (leads.Import n) = 0
+address_meant k leads.Null = 0
+address_meant k leads.Nothing = 0
+
+-- What a cell of an address holds.
+abbrev pub got_value : Looked → GotKey → ℕ
+got_value k (cells.Here d) = if kind_code d.kind == kind_code Datum then address_of k d else slot_of k (function_of d)
+got_value k (cells.Import n) = slot_of k (functions.Import n)
+got_value k (cells.Null kind) = 0
+
+-- ---- windows
+
+abbrev pub target_of : Looked → Symbol → Asks → ℕ
+target_of k s a_function = number_by same_function_key k.numbers.functions (function_meant s.name s.lead)
+target_of k s a_slot = slot_meant k s.name s.lead
+target_of k s an_address = address_meant k s.lead
+target_of k s a_global = number_by same_global_key k.numbers.globals (global_named (kind_code s.kind) s.lead)
+target_of k s a_table = 0
+
+-- The addend of a null datum isn't added.
+abbrev pub addend_meant : Lead → ℤ → ℤ
+addend_meant (leads.Here d) addend = addend
+addend_meant (leads.Import n) addend = addend
+addend_meant leads.Null addend = pos 0
+addend_meant leads.Nothing addend = addend
+
+abbrev pub addend_of : Lead → ℤ → Asks → ℤ
+addend_of lead addend a_function = pos 0
+addend_of lead addend a_slot = pos 0
+addend_of lead addend an_address = addend_meant lead addend
+addend_of lead addend a_global = pos 0
+addend_of lead addend a_table = pos 0
+
+abbrev pub symbol_window : Looked → ℕ → ℕ → ℤ → Symbol → Window
+symbol_window k place kind addend s = record {
+  place = place;
+  form = form_of kind;
+  target = pos (target_of k s (asks kind));
+  addend = addend_of s.lead addend (asks kind);
+}
+
+abbrev pub type_window : ℕ → ℕ → Window
+type_window place number = record { place = place; form = Unsigned5; target = pos number; addend = pos 0 }
+
+abbrev pub window_of : Looked → Named → Window
+window_of k (names.Symbol place kind addend symbol) = symbol_window k place kind addend (slice_index_or k.tables.symbols symbol no_symbol)
+window_of k (names.Type place number) = type_window place (slice_index_or k.numbers.type_numbers number 0)
+
+-- ---- sources
+
+abbrev pub row_windows : Looked → ℕ → List Window
+row_windows k n = map (window_of k) (row_at k.tables n)
+
+abbrev pub part_windows : Looked → Option ℕ → List Window
+part_windows k None = []
+part_windows k (Some n) = row_windows k n
+
+-- The number of the part that has the body of a function. What the linker makes has its numbers already.
+abbrev pub body_number : List Chunk → FunctionKey → Option ℕ
+body_number chunks (functions.Import n) = None
+body_number chunks (functions.Own input index) = if input == 0 then None else chunk_number chunks (chunk_at input 0 index)
+body_number chunks (functions.Stub n) = None
+
+abbrev pub body_windows : Looked → FunctionKey → List Window
+body_windows k f = part_windows k (body_number k.tables.chunks f)
+
+abbrev pub is_solid_at : Looked → ℕ → Bool
+is_solid_at k n = slice_index_or k.placed.solid n false
+
+abbrev pub defined : List FunctionKey → List FunctionKey
+defined fs = drop (length (filter is_import fs)) fs
+
+-- The windows of the bodies of functions behind the imports, then of the live segments that aren't zero, each as much later as the place of
+-- its source says.
+abbrev pub moved_sources : Looked → List ℕ → List ℕ → List Window
+moved_sources k live places =
+    moved_windows places (map (body_windows k) (defined k.numbers.functions))
+    ++ moved_windows (drop (length (defined k.numbers.functions)) places) (map (row_windows k) (filter (is_solid_at k) live))

@@ -1,0 +1,288 @@
+//! What windows hold.
+ghost use Rattle.std.specs.Prelude.{◌≡◌, ◌<◌, ◌^◌, ℕ, length, slice_index_or, unwrap_or, All, IfOk};
+ghost use Rattle.made_symbols.specs.declared.mode.Mode.TheVariants.{Plain};
+ghost use Rattle.name_rules.specs.Entries.{Entry};
+ghost use Rattle.reloc_apply.specs.Windows.{IsSum};
+ghost use Rattle.link_rules.specs.Program as rules;
+ghost use Rattle.link_rules.specs.Keys as keys;
+ghost use Rattle.link_rules.specs.Values as values;
+ghost use Rattle.link_rules.specs.Values.{asks, form_of, made_data};
+ghost use Rattle.link_rules.specs.Output.{layout, source_windows};
+ghost use Rattle.link_program.specs.Told.{told_definition};
+ghost use Rattle.link_program.specs.Keys.{told_got};
+ghost use Rattle.link_program.specs.Seen.{seen_named, told_named, NamesOne, no_symbol};
+ghost use Rattle.link_program.specs.Moved.{moved_windows};
+ghost use Rattle.link_program.specs.Live.{Stage, AreLive};
+ghost use Rattle.link_numbers.specs.Knows.{KnowsGot};
+ghost use Rattle.link_layout.specs.Seen.{chunk_number, column_at, address_of, slot_meant, address_meant, got_value, target_of, addend_of, symbol_window, window_of};
+ghost use Rattle.link_layout.specs.Layout.{looked, IsLayout, IsNamedBy};
+
+use crate::Placed;
+use crate::keys::{function_meant, function_of, global_named};
+use crate::moved::all_windows;
+use link_numbers::{Numbering, keys_are_told};
+use link_program::{Definition, FunctionKey, GotKey, Lead, Named, Program, Symbol};
+use linking_section::SymbolKind;
+use mark_bits::{Chunk, ChunkTable};
+use memory_layout::Places;
+use reloc_apply::{Form, Window};
+use std::alloc::Global;
+use wl_base::{OutOfMemory, Seq};
+
+/// A program with all numbers of its output and the places of its segments, by reference.
+#[derive(Clone, Copy)]
+pub struct Layout<'a> {
+    pub program: Program<'a>,
+    pub numbering: &'a Numbering,
+    pub placed: &'a Placed,
+}
+
+/// The address of the linker-made datum of a number.
+#[tactic(auto, using(crate::proofs::MadeData::other))]
+fn made_address(places: &Places, number: u32) -> u32
+    ensures { result ≡ slice_index_or (made_data places.now) number 0 }
+{
+    match number {
+        5 => places.heap_base,
+        6 => places.data_end,
+        7 | 8 => places.base,
+        9 => places.stack_low,
+        10 => places.stack_high,
+        11 => (u64::from(places.pages) * 65_536).min(u64::from(u32::MAX)) as u32,
+        _ => 0,
+    }
+}
+
+/// The number of a chunk.
+#[tactic(auto, using(crate::proofs::Chunks::stands_at, crate::proofs::Chunks::stands_nowhere))]
+pub(crate) fn number_of(chunks: &ChunkTable, chunk: Chunk) -> Option<u32>
+    ensures { result ≡ chunk_number chunks.now chunk }
+{
+    let found = chunks.find(chunk);
+    found
+}
+
+/// The address at a place, or 0.
+#[tactic(auto, using(crate::proofs::ReadAt::read))]
+fn address_at(addresses: &[u32], at: usize) -> u32
+    ensures { result ≡ slice_index_or addresses.now at 0 }
+{
+    match addresses.get(at) {
+        Some(address) => *address,
+        None => 0,
+    }
+}
+
+/// The address of the part of a number; where there is none, that of the first segment.
+fn column_at(placed: &Placed, number: Option<u32>) -> u32
+    ensures { result ≡ column_at placed.now number }
+{
+    match number {
+        Some(number) => address_at(placed.addresses.as_slice(), number as usize),
+        None => address_at(placed.places.addresses.as_slice(), 0),
+    }
+}
+
+/// The form of a relocation's type (Linking.md, "Relocation Sections").
+fn form_of(kind: u8) -> Form
+    ensures { result ≡ form_of kind }
+{
+    match kind {
+        1 | 4 | 11 | 12 => Form::Signed5,
+        2 | 5 => Form::Word4,
+        _ => Form::Unsigned5,
+    }
+}
+
+/// The addend of a relocation's type: only addresses have one, and that of a null datum isn't added.
+fn addend_of(kind: u8, lead: Lead, addend: i32) -> i32
+    ensures { result ≡ addend_of lead addend (asks kind) }
+{
+    match (kind, lead) {
+        (3 | 4 | 5 | 11, Lead::Here(_) | Lead::Import(_) | Lead::Nothing) => addend,
+        _ => 0,
+    }
+}
+
+/// The symbol at a place.
+#[tactic(auto, using(crate::proofs::ReadAt::read))]
+fn symbol_at(symbols: &[Symbol], at: u32) -> Symbol
+    ensures { result ≡ slice_index_or symbols.now at no_symbol }
+{
+    match symbols.get(at as usize) {
+        Some(symbol) => *symbol,
+        None => Symbol {
+            kind: SymbolKind::Function,
+            name: None,
+            lead: Lead::Nothing,
+        },
+    }
+}
+
+impl<'a> Layout<'a> {
+    /// The address of a definition, by the data alone.
+    fn address_seen(self, definition: Definition) -> u64
+        ensures is { result ≡ address_of (looked self.entry) definition }
+        ensures small { result < 2 ^ 33 }
+    {
+        if definition.input == 0 {
+            return u64::from(made_address(&self.placed.places, definition.place));
+        }
+        let chunk = Chunk {
+            input: definition.input,
+            kind: 1,
+            index: definition.index,
+        };
+        let number = number_of(&self.program.tables.chunks, chunk);
+        u64::from(column_at(self.placed, number)) + u64::from(definition.offset)
+    }
+
+    /// The slot that a symbol means; that of null is 0.
+    fn slot_meant(self, symbol: Symbol) -> u32
+        ensures { result ≡ slot_meant (looked self.entry) symbol.name symbol.lead }
+    {
+        match symbol.lead {
+            Lead::Here(_) | Lead::Import(_) => self.numbering.slot(function_meant(symbol)),
+            Lead::Null | Lead::Nothing => 0,
+        }
+    }
+
+    /// The address that a symbol means; that of null is 0.
+    fn address_meant(self, lead: Lead) -> u64
+        ensures is { result ≡ address_meant (looked self.entry) lead }
+        ensures small { result < 2 ^ 33 }
+    {
+        match lead {
+            Lead::Here(definition) => self.address_seen(definition),
+            Lead::Import(_) | Lead::Null | Lead::Nothing => 0,
+        }
+    }
+
+    /// The number that a reference stands for, by its relocation's type. The table is number 0.
+    fn target_of(self, kind: u8, symbol: Symbol) -> u64
+        ensures is { result ≡ target_of (looked self.entry) symbol (asks kind) }
+        ensures small { result < 2 ^ 33 }
+    {
+        match kind {
+            0 => u64::from(self.numbering.function_number(function_meant(symbol))),
+            1 | 2 | 12 => u64::from(self.slot_meant(symbol)),
+            3 | 4 | 5 | 11 => self.address_meant(symbol.lead),
+            7 => u64::from(self.numbering.global_number(global_named(symbol))),
+            _ => 0,
+        }
+    }
+
+    /// The window of a reference to a symbol.
+    fn symbol_window(self, place: u32, kind: u8, addend: i32, symbol: Symbol) -> Window
+        ensures is { result ≡ symbol_window (looked self.entry) place kind addend symbol }
+        ensures sum { IsSum result }
+    {
+        let target = self.target_of(kind, symbol) as i64;
+        let addend = i64::from(addend_of(kind, symbol.lead, addend));
+        Window {
+            place: u64::from(place),
+            form: form_of(kind),
+            target,
+            addend,
+        }
+    }
+
+    /// A window, by the data alone.
+    pub(crate) fn window_seen(self, named: &Named) -> Window
+        requires one { NamesOne self.program.tables.now.symbols self.program.tables.now.types named.now }
+        requires types { length self.numbering.now.type_numbers ≡ length self.program.tables.now.types }
+        ensures is { result ≡ window_of (looked self.entry) named.now }
+        ensures sum { IsSum result }
+    {
+        match *named {
+            Named::Symbol {
+                place,
+                kind,
+                addend,
+                symbol,
+            } => {
+                let symbol = symbol_at(self.program.tables.symbols.as_slice(), symbol);
+                self.symbol_window(place, kind, addend, symbol)
+            }
+            Named::Type { place, number } => Window {
+                place: u64::from(place),
+                form: Form::Unsigned5,
+                target: i64::from(self.numbering.type_number(number)),
+                addend: 0,
+            },
+        }
+    }
+
+    /// What a cell of an address holds, by the data alone.
+    fn got_seen(self, key: GotKey) -> u64
+        ensures { result ≡ got_value (looked self.entry) key }
+    {
+        match key {
+            GotKey::Here(definition) => {
+                if definition.kind == SymbolKind::Datum {
+                    self.address_seen(definition)
+                } else {
+                    u64::from(self.numbering.slot(function_of(definition)))
+                }
+            }
+            GotKey::Import(number) => {
+                u64::from(self.numbering.slot(FunctionKey::Import(number)))
+            }
+            GotKey::Null(_) => 0,
+        }
+    }
+
+    /// The address of a datum: that of its segment and its offset there, or of the linker's own.
+    pub fn address(self, definition: Definition) -> u64
+        ghost s: { Stage }
+        requires { IsLayout s.program s.parts s.exports self }
+        ensures { (e : Entry) → definition ≡ told_definition e → result ≡ values.address_of Plain (layout Plain s.program s.parts s.exports) e }
+    {
+        keys_are_told();
+        self.address_seen(definition)
+    }
+
+    /// What a cell of an address holds: the address of a datum, the slot of a function, 0 of null.
+    pub fn got_value(self, key: GotKey) -> u64
+        ghost s: { Stage }
+        requires { IsLayout s.program s.parts s.exports self }
+        ensures { (told : keys.GotKey) → KnowsGot self.entry.program.resolution.now.imports told → key ≡ told_got self.entry.program.resolution.now.imports told
+            → result ≡ values.got_value Plain (layout Plain s.program s.parts s.exports) told }
+    {
+        keys_are_told();
+        self.got_seen(key)
+    }
+
+    /// The window of what a live part names, by its place in the part (Linking.md, "Relocation Sections").
+    pub fn window(self, named: &Named) -> Window
+        ghost s: { Stage }
+        requires is { IsLayout s.program s.parts s.exports self }
+        requires one { NamesOne self.program.tables.now.symbols self.program.tables.now.types named.now }
+        ensures is { (n : rules.Named) → IsNamedBy s.parts n
+            → seen_named self.entry.program.tables.now.symbols self.entry.program.tables.now.types named.now ≡ told_named self.entry.program.names.now.names self.entry.program.resolution.now.imports n
+            → result ≡ values.named_window Plain (layout Plain s.program s.parts s.exports) n }
+        ensures sum { IsSum result }
+    {
+        keys_are_told();
+        self.window_seen(named)
+    }
+
+    /// The windows of all sources of the output by their places there: of the bodies of functions, then of the live segments that
+    /// aren't zero. `places` has the place of each source. A place of 2^64 and more is answered as want of memory.
+    pub fn windows(
+        self,
+        alloc: Global,
+        live: &[u32],
+        places: &[u64],
+    ) -> Result<Seq<Window>, OutOfMemory>
+        ghost s: { Stage }
+        requires is { IsLayout s.program s.parts s.exports self }
+        requires live { AreLive s.program live.now s.parts }
+        ensures is { IfOk result (λ ws. ws ≡ moved_windows places.now (source_windows Plain s.program s.parts s.exports (layout Plain s.program s.parts s.exports))) }
+        ensures sums { IfOk result (λ ws. All IsSum ws) }
+    {
+        keys_are_told();
+        let windows = all_windows(alloc, self, live, places)?;
+        Ok(windows)
+    }
+}

@@ -1,0 +1,199 @@
+//! The windows of all sources.
+ghost use Rattle.std.specs.Prelude.{◌≡◌, ◌==◌, ◌++◌, ◌∷◌, [], false, map, filter, drop, length, slice_index_or, All, IfOk, OnOk};
+ghost use Rattle.reloc_apply.specs.Windows.{IsSum};
+ghost use Rattle.link_program.specs.Moved.{moved_window, moved_windows};
+ghost use Rattle.link_layout.specs.Seen.{body_number, row_windows, body_windows, moved_sources};
+ghost use Rattle.link_layout.specs.Layout.{looked, AreThere};
+
+use crate::layout::number_of;
+use crate::segments::row_at;
+use crate::{Layout, Placed};
+use link_program::{FunctionKey, Tables};
+use mark_bits::{Chunk, ChunkTable};
+use reloc_apply::Window;
+use std::alloc::Global;
+use wl_base::{OutOfMemory, Seq};
+
+/// The number of the part that has the body of a function. What the linker makes has its numbers already.
+fn body_number(chunks: &ChunkTable, key: FunctionKey) -> Option<u32>
+    ensures { result ≡ body_number chunks.now key }
+{
+    match key {
+        FunctionKey::Own { input, index } if input != 0 => number_of(
+            chunks,
+            Chunk {
+                input,
+                kind: 0,
+                index,
+            },
+        ),
+        _ => None,
+    }
+}
+
+/// Puts a window behind the others, so much later.
+fn push_window(windows: &mut Vec<Window>, window: Window, by: u64) -> Result<(), OutOfMemory>
+    requires { IsSum window }
+    ensures is { OnOk result (windows.new.items ≡ windows.old.items ++ moved_window by window ∷ []) }
+    ensures sums { OnOk result (All IsSum windows.old.items → All IsSum windows.new.items) }
+{
+    let Some(place) = by.checked_add(window.place) else {
+        return Err(OutOfMemory);
+    };
+    windows.push(Window { place, ..window })?;
+    Ok(())
+}
+
+/// Puts the windows of a part behind the others, so much later.
+fn push_part(
+    windows: &mut Vec<Window>,
+    layout: Layout<'_>,
+    number: u32,
+    place: u64,
+) -> Result<(), OutOfMemory>
+    requires { AreThere layout }
+    ensures is { OnOk result (windows.new.items ≡ windows.old.items ++ map (moved_window place) (row_windows (looked layout.entry) number)) }
+    ensures sums { OnOk result (All IsSum windows.old.items → All IsSum windows.new.items) }
+{
+    let row = row_at(layout.program.tables, number);
+    for named in row {
+        let window = layout.window_seen(named);
+        push_window(windows, window, place)?;
+    }
+    Ok(())
+}
+
+/// Puts the windows of the body of a function behind the others, so much later.
+fn push_body(
+    windows: &mut Vec<Window>,
+    layout: Layout<'_>,
+    key: FunctionKey,
+    place: u64,
+) -> Result<(), OutOfMemory>
+    requires { AreThere layout }
+    ensures is { OnOk result (windows.new.items ≡ windows.old.items ++ map (moved_window place) (body_windows (looked layout.entry) key)) }
+    ensures sums { OnOk result (All IsSum windows.old.items → All IsSum windows.new.items) }
+{
+    if let Some(number) = body_number(&layout.program.tables.chunks, key) {
+        push_part(windows, layout, number, place)?;
+    }
+    Ok(())
+}
+
+/// Puts the windows of the bodies of functions behind the others, each as much later as its place says.
+fn push_bodies(
+    windows: &mut Vec<Window>,
+    layout: Layout<'_>,
+    keys: &[FunctionKey],
+    places: &[u64],
+) -> Result<(), OutOfMemory>
+    requires { AreThere layout }
+    ensures is { OnOk result (windows.new.items ≡ windows.old.items ++ moved_windows places.now (map (body_windows (looked layout.entry)) keys.now)) }
+    ensures sums { OnOk result (All IsSum windows.old.items → All IsSum windows.new.items) }
+{
+    for (i, key) in keys.iter().enumerate() {
+        if let Some(place) = places.get(i) {
+            push_body(windows, layout, *key, *place)?;
+        }
+    }
+    Ok(())
+}
+
+/// Whether the part of a number is a live segment that isn't zero.
+#[tactic(auto, using(crate::proofs::ReadAt::read))]
+fn is_solid_at(placed: &Placed, number: u32) -> bool
+    ensures { result ≡ slice_index_or placed.now.solid number false }
+{
+    match placed.solid.get(number as usize) {
+        Some(solid) => *solid,
+        None => false,
+    }
+}
+
+/// The numbers of the live segments that aren't zero.
+fn solid_numbers(alloc: Global, placed: &Placed, live: &[u32]) -> Result<Vec<u32>, OutOfMemory>
+    ensures { IfOk result (λ numbers. numbers.items ≡ filter (λ n. slice_index_or placed.now.solid n false) live.now) }
+{
+    let mut numbers = Vec::new(alloc);
+    for number in live {
+        if is_solid_at(placed, *number) {
+            numbers.push(*number)?;
+        }
+    }
+    Ok(numbers)
+}
+
+/// Puts the windows of segments behind the others, each as much later as its place says.
+fn push_segments(
+    windows: &mut Vec<Window>,
+    layout: Layout<'_>,
+    numbers: &[u32],
+    places: &[u64],
+) -> Result<(), OutOfMemory>
+    requires { AreThere layout }
+    ensures is { OnOk result (windows.new.items ≡ windows.old.items ++ moved_windows places.now (map (row_windows (looked layout.entry)) numbers.now)) }
+    ensures sums { OnOk result (All IsSum windows.old.items → All IsSum windows.new.items) }
+{
+    for (i, number) in numbers.iter().enumerate() {
+        if let Some(place) = places.get(i) {
+            push_part(windows, layout, *number, *place)?;
+        }
+    }
+    Ok(())
+}
+
+/// How many windows the bodies and the segments have.
+fn count_windows(tables: &Tables, keys: &[FunctionKey], segments: &[u32]) -> usize {
+    let mut count = 0usize;
+    for key in keys {
+        if let Some(number) = body_number(&tables.chunks, *key) {
+            count = count.saturating_add(row_at(tables, number).len());
+        }
+    }
+    for number in segments {
+        count = count.saturating_add(row_at(tables, *number).len());
+    }
+    count
+}
+
+/// The windows of all sources, by the data alone.
+pub(crate) fn all_windows(
+    alloc: Global,
+    layout: Layout<'_>,
+    live: &[u32],
+    places: &[u64],
+) -> Result<Seq<Window>, OutOfMemory>
+    requires { AreThere layout }
+    ensures is { IfOk result (λ ws. ws ≡ moved_sources (looked layout.entry) live.now places.now) }
+    ensures sums { IfOk result (λ ws. All IsSum ws) }
+{
+    let numbering = layout.numbering;
+    let keys = keys_behind(numbering.functions(), numbering.imported());
+    let segments = solid_numbers(alloc, layout.placed, live)?;
+    let count = count_windows(layout.program.tables, keys, &segments);
+    let mut windows = Vec::with_capacity(alloc, count)?;
+    push_bodies(&mut windows, layout, keys, places)?;
+    push_segments(
+        &mut windows,
+        layout,
+        &segments,
+        places_behind(places, keys.len()),
+    )?;
+    Ok(Seq::from_vec(windows))
+}
+
+/// The keys behind so many.
+#[tactic(auto, using(crate::proofs::ReadAt::dropped_less))]
+fn keys_behind(keys: &[FunctionKey], count: usize) -> &[FunctionKey]
+    ensures { result.now ≡ drop count keys.now }
+{
+    &keys[count.min(keys.len())..]
+}
+
+/// The places behind so many.
+#[tactic(auto, using(crate::proofs::ReadAt::dropped_less))]
+fn places_behind(places: &[u64], count: usize) -> &[u64]
+    ensures { result.now ≡ drop count places.now }
+{
+    &places[count.min(places.len())..]
+}

@@ -1,0 +1,58 @@
+-- The line of each fault.
+use Rattle.std.specs.Prelude.{ℕ, List, [], ◌∷◌, ◌++◌, codes, decimal}
+use Rattle.std.specs.Fmt.{signed_decimal}
+use Rattle.wl_base.specs.declared.fault.Fault.{Fault}
+use Rattle.wl_base.specs.declared.fault.Fault.TheVariants.{TooMuchInput, Library, TooManyInputs, TooLong, Malformed, Unsupported, IndexLies, TooManyNames, Clash, Duplicate, NotPic, Unresolved, Overflow}
+use Rattle.wl_base.specs.declared.fault.Part.{Part}
+use Rattle.wl_base.specs.declared.fault.Part.TheVariants.{Frame, Section, Cross}
+use Rattle.link_lines.specs.Pieces.{printed, joined}
+use Rattle.link_lines.specs.Labels.{library_label, item_label, what_name}
+
+-- ---- the forms of lines
+
+-- a number between two texts
+unfoldable pub number_line : List ℕ → List ℕ → List ℕ → List ℕ
+number_line head n tail = joined (head ∷ n ∷ tail ∷ [])
+
+-- a number or a name of an input
+unfoldable pub input_line : ℕ → List ℕ → List ℕ → List ℕ → List ℕ
+input_line input middle told tail = joined (codes "wasmld: input " ∷ decimal input ∷ middle ∷ told ∷ tail ∷ [])
+
+-- a name of two inputs
+unfoldable pub pair_line : List ℕ → List ℕ → ℕ → ℕ → List ℕ
+pair_line head name first other =
+    joined (head ∷ printed name ∷ codes ": input " ∷ decimal first ∷ codes " and input " ∷ decimal other ∷ codes "\n" ∷ [])
+
+-- a label of a file or an input
+unfoldable pub label_line : List ℕ → ℕ → List ℕ → List (List ℕ) → List ℕ
+label_line head place middle label = joined (head ∷ decimal place ∷ middle ∷ (label ++ codes "\n" ∷ []))
+
+unfoldable pub not_pic_line : ℕ → ℕ → ℕ → List ℕ
+not_pic_line input symbol kind =
+    joined (codes "wasmld: input " ∷ decimal input ∷ codes ": symbol " ∷ decimal symbol ∷ codes ": relocation " ∷ decimal kind
+    ∷ codes " is not position-independent\n" ∷ [])
+
+unfoldable pub overflow_line : List ℕ → List ℕ → List ℕ
+overflow_line what needed = joined (codes "wasmld: overflow: " ∷ what ∷ codes " needs " ∷ needed ∷ codes "\n" ∷ [])
+
+-- ---- the lines
+
+abbrev pub part_line : ℕ → Part → List ℕ
+part_line input Frame = number_line (codes "wasmld: input ") (decimal input) (codes ": malformed: frame\n")
+part_line input (Section place) = input_line input (codes ": malformed: section ") (decimal place) (codes "\n")
+part_line input (Cross rule) = input_line input (codes ": malformed: rule ") (decimal rule) (codes "\n")
+
+abbrev pub fault_line : Fault → List ℕ
+fault_line (TooMuchInput len) = number_line (codes "wasmld: too much input: ") (decimal len) (codes " bytes\n")
+fault_line (Library file fault) = label_line (codes "wasmld: file ") file (codes ": bad library: ") (library_label fault)
+fault_line (TooManyInputs count) = number_line (codes "wasmld: too many inputs: ") (decimal count) (codes "\n")
+fault_line (TooLong input len) = input_line input (codes ": too long: ") (decimal len) (codes " bytes\n")
+fault_line (Malformed input part) = part_line input part
+fault_line (Unsupported input item) = label_line (codes "wasmld: input ") input (codes ": unsupported: ") (item_label item)
+fault_line (IndexLies input name) = input_line input (codes ": index names ") (printed name) (codes ", which is not defined\n")
+fault_line TooManyNames = codes "wasmld: too many names\n"
+fault_line (Clash name first other) = pair_line (codes "wasmld: clash of ") name first other
+fault_line (Duplicate name first other) = pair_line (codes "wasmld: duplicate ") name first other
+fault_line (NotPic input symbol kind) = not_pic_line input symbol kind
+fault_line (Unresolved name input) = input_line input (codes ": unresolved ") (printed name) (codes "\n")
+fault_line (Overflow what needed) = overflow_line (what_name what) (signed_decimal needed)

@@ -1,0 +1,54 @@
+//! Lines in a sink in memory, and what a sink has where a write fails.
+
+use crate::{CaseSummary, say_case, say_fault, say_read_fault, say_usage};
+use std::alloc::Global;
+use std::test::Fail;
+use wl_base::{Fault, OutOfMemory, Seq, Usage};
+use wl_outside::{Failed, MemSink, Sink};
+
+// A line of each kind, up to the first write that fails.
+fn say_all<E: Sink>(fault: &Fault, say: &mut E) -> Result<(), Failed> {
+    say_fault(fault, say)?;
+    say_usage(Usage::MissingValue { at: 3 }, say)?;
+    say_read_fault(0, say)?;
+    let case = CaseSummary {
+        objects: 2,
+        functions: 3,
+        segments: 2,
+        bytes: 124,
+        sum: 5691,
+    };
+    say_case(case, say)
+}
+
+fn duplicate(alloc: Global) -> Result<Fault, OutOfMemory> {
+    Ok(Fault::Duplicate {
+        name: Seq::from_slice(alloc, b"f\\ \xff".as_slice())?,
+        first: 2,
+        other: 5,
+    })
+}
+
+#[test]
+fn lines_come_letter_for_letter(rt: HostRuntime) -> Result<(), Fail> {
+    let alloc = rt.alloc();
+    let mut sink = MemSink::new(alloc, Seq::new(alloc));
+    say_all(&duplicate(alloc)?, &mut sink)?;
+    assert_eq!(rt;
+        sink.bytes(),
+        b"wasmld: duplicate f\\x5C\\x20\\xFF: input 2 and input 5\nwasmld: usage: MissingValue at word 3\nwasmld: cannot read word 0\ncase 2: functions 3 segments 2 bytes 124 sum 5691\n".as_slice()
+    );
+    Ok(())
+}
+
+#[test]
+fn a_failing_write_ends_the_line(rt: HostRuntime) -> Result<(), Fail> {
+    let alloc = rt.alloc();
+    let mut sink = MemSink::new(alloc, Seq::from_slice(alloc, &[6])?);
+    assert!(rt; say_all(&duplicate(alloc)?, &mut sink).is_err());
+    assert_eq!(rt;
+        sink.bytes(),
+        b"wasmld: duplicate f\\x5C\\x20\\xFF".as_slice()
+    );
+    Ok(())
+}

@@ -1,0 +1,15 @@
+mod Columns
+mod Places
+mod Tables
+mod Mapped
+mod Members
+mod Held
+mod Steps
+mod Winning
+mod Targets
+mod Marked
+mod Leasts
+mod Known
+mod Opened
+mod Whole
+mod AllMeant

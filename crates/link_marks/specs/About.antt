@@ -1,0 +1,14 @@
+-- What the calls are about, which the code never has.
+use Rattle.std.specs.Prelude.{List}
+use Rattle.name_rules.specs.Entries.{Entry}
+use Rattle.link_rules.specs.Program.{Program, Part}
+
+-- a program and its exports
+pub record Exporting : Type 0 where
+  pub program : Program
+  pub exports : List Entry
+
+-- a program and its live parts
+pub record Living : Type 0 where
+  pub program : Program
+  pub parts : List Part

@@ -1,0 +1,104 @@
+//! What is exported, and by which names.
+ghost use Rattle.std.specs.Prelude.{◌≡◌, ◌<◌, filter, map, length, option_copied, Contains, IfOk};
+ghost use Rattle.made_symbols.specs.declared.mode.Mode.TheVariants.{Plain};
+ghost use Rattle.link_rules.specs.Program as rules;
+ghost use Rattle.link_rules.specs.Marks as marks;
+ghost use Rattle.name_rules.specs.Entries.{Entry};
+ghost use Rattle.name_entries.specs.View.{InputsRise};
+ghost use Rattle.link_program.specs.Told.{told_winner};
+ghost use Rattle.link_program.specs.Program.{IsProgram};
+ghost use Rattle.link_marks.specs.Seen.{is_export};
+ghost use Rattle.link_marks.specs.Names.{own_name, name_seen, IsWinner};
+
+use crate::asked::asked_names;
+use crate::objects::object_of;
+use link_names::Names;
+use link_program::{Definition, Program, Winner};
+use linking_section::{EXPORTED, HIDDEN, SymbolKind};
+use object_file::Object;
+use std::alloc::Global;
+use wl_base::{OutOfMemory, Seq};
+
+/// Whether a winner is exported.
+fn is_export(asked: &[bool], dynamic: bool, winner: &Winner) -> bool
+    ensures { result ≡ is_export asked.now dynamic winner.now }
+{
+    let is_asked = match asked.get(winner.name as usize) {
+        Some(flag) => *flag,
+        None => false,
+    };
+    is_asked
+        || winner.definition.input != 0
+            && (winner.flags & EXPORTED != 0 || dynamic && winner.flags & HIDDEN == 0)
+}
+
+/// Those of the winners that are exported.
+pub(crate) fn chosen(
+    alloc: Global,
+    asked: &[bool],
+    dynamic: bool,
+    winners: &[Winner],
+) -> Result<Seq<Winner>, OutOfMemory>
+    ensures { IfOk result (λ es. es ≡ filter (is_export asked.now dynamic) winners.now) }
+{
+    let mut exports = Seq::new(alloc);
+    for winner in winners {
+        if is_export(asked, dynamic, winner) {
+            exports.push(*winner)?;
+        }
+    }
+    Ok(exports)
+}
+
+/// The exported winners, by input and place: those that the words name, those of objects' symbols with EXPORTED, and with
+/// `--export-dynamic` those of objects' symbols that aren't HIDDEN (Linking.md, "Symbol Table Subsection").
+pub fn exports(alloc: Global, program: Program<'_>) -> Result<Seq<Winner>, OutOfMemory>
+    ghost p: { rules.Program }
+    requires { IsProgram Plain program p }
+    ensures { IfOk result (λ es. es ≡ map (told_winner program.entry.names.now.names) (marks.exported Plain p)) }
+{
+    let asked = asked_names(alloc, program.names, program.plan)?;
+    let winners = program.tables.winners.as_slice();
+    let exports = chosen(alloc, &asked, program.plan.export_dynamic, winners)?;
+    Ok(exports)
+}
+
+/// The name under which the object exports the function of a definition.
+fn own_name(objects: &[Object], definition: Definition) -> Option<&[u8]>
+    requires { InputsRise 0 objects.now }
+    ensures { option_copied result ≡ own_name objects.now definition }
+{
+    if definition.kind != SymbolKind::Function {
+        return None;
+    }
+    let Some(object) = object_of(objects, definition.input) else {
+        return None;
+    };
+    let Some(function) = object.functions.get(definition.index as usize) else {
+        return None;
+    };
+    function.export_name
+}
+
+/// The name under which a winner is exported.
+pub(crate) fn name_seen<'a>(objects: &'a [Object], names: &'a Names, winner: &Winner) -> &'a [u8]
+    requires inputs { InputsRise 0 objects.now }
+    requires name { winner.now.name < length names.now.names }
+    ensures { result.now ≡ name_seen objects.now names.now.names winner.now }
+{
+    match own_name(objects, winner.definition) {
+        Some(name) => name,
+        None => names.name(winner.name),
+    }
+}
+
+/// The name under which a winner is exported: that of its symbol, but a function that its own object exports has the name that it has
+/// there.
+pub fn export_name<'a>(program: Program<'a>, winner: &Winner) -> &'a [u8]
+    ghost p: { rules.Program }
+    requires program { IsProgram Plain program p }
+    requires winner { IsWinner program.names.now.names p.winners winner.now }
+    ensures { (e : Entry) → Contains p.winners e → winner.now ≡ told_winner program.entry.names.now.names e → result.now ≡ marks.export_name p e }
+{
+    name_seen(program.objects, program.names, winner)
+}

@@ -1,0 +1,22 @@
+//! Which names are exported, which parts are live, and which names stay unresolved.
+#![tactic(auto)]
+
+mod asked;
+mod chunks;
+mod edges;
+mod exported;
+mod laws;
+mod live;
+mod numbers;
+mod objects;
+mod open;
+mod repeated;
+mod roots;
+#[cfg(test)]
+mod tests;
+
+pub use exported::{export_name, exports};
+pub use laws::all_are_meant;
+pub use live::{Live, live_parts};
+pub use open::unresolved;
+pub use repeated::repeated_export;

@@ -1,0 +1,46 @@
+-- What a program that is told gives.
+use Rattle.std.proofs.Common.{◌≡◌, ℕ, ◌++◌, List, map, length, Option, ap, sym, subst, ◌∙◌}
+use Rattle.std.proofs.lemmas.List.{length-map}
+use Rattle.object_file.specs.declared.object.Object.{Object}
+use Rattle.made_symbols.specs.declared.mode.Mode.TheVariants.{Plain}
+use Rattle.name_rules.specs.Entries.{Entry}
+use Rattle.table_layout.specs.Slots.{table_overflow}
+use Rattle.link_rules.specs.Program as rules
+use Rattle.link_rules.specs.LinkOf.{asked_names}
+use Rattle.link_rules.specs.Keys.{numbers}
+use Rattle.link_program.specs.declared.program.Program.{Program}
+use Rattle.link_program.specs.declared.symbol.Winner.{Winner}
+use Rattle.link_program.specs.Told.{told_winner}
+use Rattle.link_program.specs.Keys.{told_function}
+use Rattle.link_program.specs.Program.{IsProgram}
+use Rattle.link_program.specs.Stand.{PartsStand}
+use Rattle.link_program.specs.Live.{AreLive, AllMeant}
+use Rattle.link_numbers.specs.Numbered.{Numbered, IsNumbering, numbered}
+use Rattle.link_numbers.proofs.Whole.{Given, numbering_is}
+
+module _ (d : Program) (p : rules.Program) (live : List ℕ) (parts : List rules.Part) (is : IsProgram Plain d p) (stand : PartsStand p) (are : AreLive p live parts) (meant : AllMeant parts) where
+  pub given_of : Given d.names.now.names (asked_names p.plan ++ p.plan.exports_if) d.resolution.now.imports d.tables.now d.names.now.symbols p live parts
+  given_of = record {
+    tables = is.tables;
+    from = is.entries;
+    means = is.resolved;
+    order = is.order;
+    all_imports = is.imports;
+    numbers = is.numbers.symbols;
+    are = are.are;
+    stand = stand;
+    meant = meant;
+  }
+
+  -- The numbers that the data give, for these objects and exports.
+  pub numbered_is : (objects : List Object) (exports : List Winner) (es : List Entry) → objects ≡ d.objects.now → exports ≡ map (told_winner d.names.now.names) es
+      → IsNumbering d.names.now.names d.resolution.now.imports d.tables.now.types p parts (numbered d.resolution.now.imports (length d.names.now.names) d.tables.now objects d.names.now.symbols exports live) (numbers Plain p parts es)
+  numbered_is objects exports es same told =
+      subst (λ os. IsNumbering d.names.now.names d.resolution.now.imports d.tables.now.types p parts (numbered d.resolution.now.imports (length d.names.now.names) d.tables.now os d.names.now.symbols exports live) (numbers Plain p parts es))
+      (sym (same ∙ is.objects)) (numbering_is given_of exports es told)
+
+  pub overflow_is : (objects : List Object) (exports : List Winner) (es : List Entry) → objects ≡ d.objects.now → exports ≡ map (told_winner d.names.now.names) es
+      → table_overflow 1 (length (numbered d.resolution.now.imports (length d.names.now.names) d.tables.now objects d.names.now.symbols exports live).slots) ≡ table_overflow (numbers Plain p parts es).first_slot (length (numbers Plain p parts es).slots)
+  overflow_is objects exports es same told =
+      let n = numbered_is objects exports es same told in
+      ap (table_overflow 1) (ap length n.slots ∙ length-map (numbers Plain p parts es).slots (told_function d.names.now.names d.resolution.now.imports))

@@ -1,0 +1,470 @@
+-- The numbers that the data give are those of the definition, ws they are told.
+use Rattle.std.proofs.Common.{◌≡◌, ℕ, ◌==◌, Bool, true, false, ◌&&◌, List, [], ◌∷◌, ◌++◌, map, filter, filter_map, flat_map, fold, replicate, length, slice_get, get_or, not, cond, Option, Some, None, refl, sym, ap, subst, ◌∙◌, arith, append_assoc}
+use Rattle.std.specs.Prelude.{bytes_eq, if◌then◌else◌}
+use Rattle.std.specs.List.{list_any, All, cons_option}
+use Rattle.std.proofs.lemmas.List.{map-append}
+use Rattle.std.proofs.lemmas.List.Sums.{fold-append}
+use Rattle.std.proofs.lemmas.List.Elements.{All-append, All-head, All-tail, All-cons}
+use Rattle.std.proofs.lemmas.Option.{slice_get-get_or}
+use Rattle.wl_base.specs.Choice.{distinct, distinct_onto, given}
+use Rattle.wasm_types.specs.declared.function.FuncType.{FuncType}
+use Rattle.object_file.specs.declared.object.Object.{Object}
+use Rattle.made_symbols.specs.declared.mode.Mode.TheVariants.{Plain}
+use Rattle.made_symbols.specs.Made.{made}
+use Rattle.index_layout.specs.Numbers.{number_by}
+use Rattle.type_merge.specs.Types.{merged}
+use Rattle.name_rules.specs.Entries.{Entry, ImportKey, same_import, name_of, is_named, is_entry, is_kind, made_from, entries, symbols_of}
+use Rattle.linking_section.specs.declared.symbol.SymbolKind.TheVariants.{Datum, GlobalVar}
+use Rattle.name_rules.specs.Meanings.{Meaning, here, imported, null, nothing, resolve}
+use Rattle.link_names.specs.Numbered.{symbol_number, different_names}
+use Rattle.link_rules.specs.Program as rules
+use Rattle.link_rules.specs.Program.{Ref, refs}
+use Rattle.link_rules.specs.Marks.{refs_of}
+use Rattle.link_rules.specs.Keys as keys
+use Rattle.link_rules.specs.Keys.{outside, linker_function, stub, own, got, outside_global, linker_global, own_global, exported_datum, same_function, same_got, same_global, is_taken, is_null, meant_global, ref_global, imports_in_order, import_of, has_import, used_imports, imports_by, is_function_type, is_global_type, function_imports_of, stub_names, made_function_key, own_function_key, functions, slots, takes_slot, ref_function, global_imports_in, used_globals, made_globals, made_global_key, own_global_key, got_entries, parts_of_kind, needs_got, ref_got, datum_key, globals, window_types, type_of, types, numbers}
+use Rattle.link_program.specs.declared.keys.FunctionKey.TheVariants as function_keys
+use Rattle.link_program.specs.declared.keys.GlobalKey.TheVariants as global_keys
+use Rattle.link_program.specs.declared.symbol.Winner.{Winner}
+use Rattle.link_program.specs.declared.program.Tables.{Tables}
+use Rattle.link_program.specs.Told.{told_winner}
+use Rattle.link_program.specs.Keys.{told_function, told_got, told_global, same_function_key, same_got_key, same_global_key}
+use Rattle.link_program.specs.Stand.{PartsStand}
+use Rattle.link_program.specs.Program.{AreTables}
+use Rattle.link_program.specs.Live.{AllMeant}
+use Rattle.link_numbers.specs.declared.firsts.At.{At}
+use Rattle.link_numbers.specs.Codes.{same_code, function_code}
+use Rattle.link_numbers.specs.LiveRefs.{part_at, live_refs, window_numbers}
+use Rattle.link_numbers.specs.Noted.{Noted, flagged, noted_parts, nothing_noted}
+use Rattle.link_numbers.specs.Lists.{chunk_at, function_imports, global_imports, stubs_listed, own_functions, own_globals, own_function_in, own_global_in, functions_listed, slots_listed, globals_listed, datum_listed}
+use Rattle.link_numbers.specs.Firsts.{firsts_rows}
+use Rattle.link_numbers.specs.Types.{TypeLists, type_at, kept_type, first_type, own_types, stub_types, import_types, type_number_in, with_numbered, with_windows, no_types, types_listed}
+use Rattle.link_numbers.specs.Knows.{KnowsFunction, KnowsGot, KnowsGlobal}
+use Rattle.link_numbers.specs.Laws.{TellsNumbers, KnowsRef}
+use Rattle.link_numbers.specs.Numbered.{Numbered, numbered, IsNumbering}
+use Rattle.link_numbers.proofs.Any.{all_map, all_filter, all_filtered, all_each, all_none}
+use Rattle.link_numbers.proofs.Equals.{OnePlace, one_place, holds_at}
+use Rattle.link_numbers.proofs.FirstsTold.{AreFirsts, all_noted as firsts_noted}
+use Rattle.link_numbers.proofs.Heard.{NotedAre, all_noted, import_asked, stub_asked, slot_asked, cell_asked}
+use Rattle.link_numbers.proofs.Imports.{import_equal, import_itself, name_equal, name_itself, both}
+use Rattle.link_numbers.proofs.ImportsTold.{kept_imports, function_imports_told, global_imports_told}
+use Rattle.link_numbers.proofs.KeysTold.{taken_functions, taken_told, read_cells, cells_told, cells_once, made_functions_told, own_functions_told, made_globals_told, own_globals_told, data_told, slots_told, all_taken_known, all_cells_known, ref_function_known, ref_got_known}
+use Rattle.link_numbers.proofs.Known.{KnownMeaning, KnownRef, all_known}
+use Rattle.link_numbers.proofs.Knows.{tells_function, tells_global}
+use Rattle.link_numbers.proofs.ToldLists.{number_told}
+use Rattle.link_numbers.proofs.LiveTold.{told_refs, live_refs_told, windows_told_all, given_told, chunk_is}
+use Rattle.link_numbers.proofs.StubsTold.{later_names, names_in_order, called, held, one as names_one, stub_names_are, stubs_told, called_known}
+use Rattle.link_numbers.proofs.TypesFolded.{folded}
+use Rattle.link_numbers.proofs.TypesTold.{import_types_told, made_types, own_types_are, stub_types_told}
+
+-- a list that is mapped twice
+twice : {A B C : Type 0} (f : B → C) (g : A → B) (h : A → C) → ((x : A) → f (g x) ≡ h x) → (xs : List A) → map f (map g xs) ≡ map h xs
+twice f g h each [] = refl
+twice f g h each (x ∷ xs) = ap (λ y. y ∷ map f (map g xs)) (each x) ∙ ap (λ ys. h x ∷ ys) (twice f g h each xs)
+
+given_is : {A : Type 0} (b : Bool) (a x : A) → given b a ≡ Some x → (b ≡ true) × (a ≡ x)
+given_is true a x e = (refl, cc)
+given_is false a x e = absurd cc
+
+not_true : (b : Bool) → not b ≡ true → b ≡ false
+not_true true e = absurd cc
+not_true false e = refl
+
+all_chosen : {A B : Type 0} (P : B → Type 0) (h : A → Option B) → ((a : A) (b : B) → h a ≡ Some b → P b) → (xs : List A) → All P (filter_map h xs)
+all_chosen P h each [] = all_none P
+all_chosen {A} {B} P h each (x ∷ xs) = by_option (h x) refl (all_chosen P h each xs)
+  where
+    by_option : (o : Option B) → h x ≡ o → All P (filter_map h xs) → All P (cons_option o (filter_map h xs))
+    by_option None is rest = rest
+    by_option (Some b) is rest = All-cons P b (filter_map h xs) (each x b is) rest
+
+all_left : {A : Type 0} (P : A → Type 0) (xs ys : List A) → All P (xs ++ ys) → All P xs
+all_left P [] ys all = all_none P
+all_left P (x ∷ xs) ys all = All-cons P x xs (All-head P x (xs ++ ys) all) (all_left P xs ys (All-tail P x (xs ++ ys) all))
+
+all_right : {A : Type 0} (P : A → Type 0) (xs ys : List A) → All P (xs ++ ys) → All P ys
+all_right P [] ys all = all
+all_right P (x ∷ xs) ys all = all_right P xs ys (All-tail P x (xs ++ ys) all)
+
+-- of the references of some parts
+refs_filtered : (P : Ref → Type 0) (test : rules.Part → Bool) (parts : List rules.Part) → All P (refs_of parts) → All P (refs_of (filter test parts))
+refs_filtered P test [] all = all
+refs_filtered P test (part ∷ parts) all = by_test (test part) (all_left P (refs part) (refs_of parts) all) (refs_filtered P test parts (all_right P (refs part) (refs_of parts) all))
+  where
+    by_test : (r : Bool) → All P (refs part) → All P (refs_of (filter test parts)) → All P (refs_of (cond r (part ∷ filter test parts) (filter test parts)))
+    by_test true mine rest = All-append P (refs part) (refs_of (filter test parts)) mine rest
+    by_test false mine rest = rest
+
+all_seen : {A : Type 0} (P : A → Type 0) (seen : List A) (x : A) (r : Bool) → All P seen → P x → All P (if r then seen else seen ++ x ∷ [])
+all_seen P seen x true held px = held
+all_seen P seen x false held px = All-append P seen (x ∷ []) held (All-cons P x [] px (all_none P))
+
+all_held : (is : List ImportKey) → All (λ k. list_any (same_import k) is ≡ true) is
+all_held is = λ k d below. holds_at same_import import_equal import_itself is k (get_or is k d) (slice_get-get_or is k d below)
+
+-- What is given: the names and imports by number, the tables, the live parts, and what the program is.
+pub record Given (names words : List (List ℕ)) (imports : List ImportKey) (t : Tables) (symbols : List (List (Option ℕ))) (p : rules.Program) (live : List ℕ) (parts : List rules.Part) : Type 0 where
+  pub tables : AreTables names imports t p
+  pub from : p.entries ≡ entries Plain p.objects
+  pub means : p.resolved ≡ resolve Plain p.plan.allow_undefined p.entries p.objects
+  pub order : names ≡ different_names Plain words p.objects
+  pub all_imports : imports ≡ imports_in_order p
+  pub numbers : symbols ≡ map (λ (o : Object). map (symbol_number names) o.symbols) p.objects
+  pub are : map (slice_get p.parts) live ≡ map Some parts
+  pub stand : PartsStand p
+  pub meant : AllMeant parts
+
+module _ {names words : List (List ℕ)} {imports : List ImportKey} {t : Tables} {symbols : List (List (Option ℕ))} {p : rules.Program} {live : List ℕ} {parts : List rules.Part} (g : Given names words imports t symbols p live parts) where
+  pub noted : Noted
+  noted = noted_parts t (nothing_noted (length imports) (length names)) live
+
+  known : All (KnownRef imports p.entries) (refs_of parts)
+  known = subst (λ is. All (KnownRef is p.entries) (refs_of parts)) (sym g.all_imports) (all_known p g.from g.means live parts g.are g.stand g.meant)
+
+  one_import : OnePlace same_import import_equal import_itself imports
+  unfolding imports_in_order
+  one_import = subst (λ is. OnePlace same_import import_equal import_itself is) (sym g.all_imports) (one_place same_import import_equal import_itself (filter_map import_of (flat_map (λ r. r.meanings) p.resolved)))
+
+  in_order : names ≡ distinct bytes_eq (map name_of p.entries ++ later_names words p.objects)
+  in_order = g.order ∙ names_in_order words p.objects ∙ ap (λ es. distinct bytes_eq (map name_of es ++ later_names words p.objects)) (sym g.from)
+
+  refs_told : live_refs t live ≡ told_refs names imports parts
+  refs_told = live_refs_told names imports t p g.tables live parts g.are
+
+  are_noted : NotedAre (length imports) (length names) (told_refs names imports parts) (window_numbers t live) noted
+  unfolding noted
+  are_noted = subst (λ rs. NotedAre (length imports) (length names) rs (window_numbers t live) (noted_parts t (nothing_noted (length imports) (length names)) live)) refs_told (all_noted (length imports) (length names) t live)
+
+  names_held : (name : List ℕ) → list_any (bytes_eq name) (map name_of p.entries) ≡ true → list_any (bytes_eq name) names ≡ true
+  names_held = held names imports p.entries (later_names words p.objects) in_order
+
+  -- ---- functions
+
+  function_keys_of : List ImportKey
+  function_keys_of = kept_imports names imports one_import p.entries (λ k. is_function_type k.type) parts
+
+  global_keys_of : List ImportKey
+  global_keys_of = kept_imports names imports one_import p.entries (λ k. is_global_type k.type) parts
+
+  imports_are : map outside function_keys_of ≡ map outside (function_imports_of Plain p (refs_of parts))
+  unfolding function_keys_of
+  imports_are = ap (λ is. map outside (filter (λ k. is_function_type k.type && has_import (used_imports (filter (imports_by Plain) (refs_of parts))) k) is)) g.all_imports
+
+  global_imports_are : map outside_global global_keys_of ≡ map outside_global (global_imports_in Plain p parts)
+  unfolding global_keys_of
+  global_imports_are = ap (λ is. map outside_global (filter (λ k. is_global_type k.type && has_import (used_imports (filter (imports_by Plain) (refs_of parts))) k) is)) g.all_imports
+
+  function_numbers : function_imports imports noted.imports ≡ map (number_by same_import imports) function_keys_of
+  unfolding function_keys_of
+  function_numbers = function_imports_told names imports one_import p.entries parts known noted.imports are_noted.imports
+
+  global_numbers : global_imports imports noted.imports ≡ map (number_by same_import imports) global_keys_of
+  unfolding global_keys_of
+  global_numbers = global_imports_told names imports one_import p.entries parts known noted.imports are_noted.imports
+
+  stub_keys : List (List ℕ)
+  stub_keys = filter (called (refs_of parts)) names
+
+  stubs_are : stub_names p (refs_of parts) ≡ stub_keys
+  unfolding stub_keys
+  stubs_are = stub_names_are names imports p.entries (later_names words p.objects) in_order (refs_of parts) known
+
+  stub_numbers : stubs_listed noted.stubs (length names) ≡ map (number_by bytes_eq names) stub_keys
+  unfolding stub_keys
+  stub_numbers = stubs_told names imports p.entries (later_names words p.objects) in_order parts known noted.stubs are_noted.stubs
+
+  made_are : own_functions true t live ≡ map (told_function names imports) (filter_map made_function_key parts)
+  made_are =
+      given_told names imports t p g.tables (λ n. own_function_in true (chunk_at t n)) (λ part. own_function_in true part.chunk) (λ n part at. ap (own_function_in true) (chunk_is names imports t p g.tables n part at)) live parts g.are
+      ∙ made_functions_told names imports parts
+
+  own_are : own_functions false t live ≡ map (told_function names imports) (filter_map own_function_key parts)
+  own_are =
+      given_told names imports t p g.tables (λ n. own_function_in false (chunk_at t n)) (λ part. own_function_in false part.chunk) (λ n part at. ap (own_function_in false) (chunk_is names imports t p g.tables n part at)) live parts g.are
+      ∙ own_functions_told names imports parts
+
+  outside_told : map function_keys.Import (function_imports imports noted.imports) ≡ map (told_function names imports) (map outside (function_imports_of Plain p (refs_of parts)))
+  outside_told =
+      ap (map function_keys.Import) function_numbers
+      ∙ twice function_keys.Import (number_by same_import imports) (λ k. function_keys.Import (number_by same_import imports k)) (λ k. refl) function_keys_of
+      ∙ sym (twice (told_function names imports) outside (λ k. function_keys.Import (number_by same_import imports k)) (λ k. refl) function_keys_of)
+      ∙ ap (map (told_function names imports)) imports_are
+
+  stub_told : map function_keys.Stub (stubs_listed noted.stubs (length names)) ≡ map (told_function names imports) (map stub (stub_names p (refs_of parts)))
+  stub_told =
+      ap (map function_keys.Stub) stub_numbers
+      ∙ twice function_keys.Stub (number_by bytes_eq names) (λ n. function_keys.Stub (number_by bytes_eq names n)) (λ n. refl) stub_keys
+      ∙ sym (twice (told_function names imports) stub (λ n. function_keys.Stub (number_by bytes_eq names n)) (λ n. refl) stub_keys)
+      ∙ ap (λ ns. map (told_function names imports) (map stub ns)) (sym stubs_are)
+
+  four : {A B : Type 0} (f : A → B) (ws bs cs ds : List A) → map f ws ++ map f bs ++ map f cs ++ map f ds ≡ map f (ws ++ (bs ++ cs ++ ds))
+  four f ws bs cs ds =
+      append_assoc (map f ws ++ map f bs) (map f cs) (map f ds)
+      ∙ append_assoc (map f ws) (map f bs) (map f cs ++ map f ds)
+      ∙ ap (λ xs. map f ws ++ (map f bs ++ xs)) (sym (map-append f cs ds))
+      ∙ ap (λ xs. map f ws ++ xs) (sym (map-append f bs (cs ++ ds)))
+      ∙ sym (map-append f ws (bs ++ (cs ++ ds)))
+      ∙ ap (λ xs. map f (ws ++ xs)) (sym (append_assoc bs cs ds))
+
+  -- The functions.
+  pub functions_are : functions_listed imports (length names) t live noted ≡ map (told_function names imports) (functions Plain p parts)
+  unfolding functions
+  functions_are =
+      ap (λ xs. xs ++ own_functions true t live ++ map function_keys.Stub (stubs_listed noted.stubs (length names)) ++ own_functions false t live) outside_told
+      ∙ ap (λ xs. map (told_function names imports) (map outside (function_imports_of Plain p (refs_of parts))) ++ xs ++ map function_keys.Stub (stubs_listed noted.stubs (length names)) ++ own_functions false t live) made_are
+      ∙ ap (λ xs. map (told_function names imports) (map outside (function_imports_of Plain p (refs_of parts))) ++ map (told_function names imports) (filter_map made_function_key parts) ++ xs ++ own_functions false t live) stub_told
+      ∙ ap (λ xs. map (told_function names imports) (map outside (function_imports_of Plain p (refs_of parts))) ++ map (told_function names imports) (filter_map made_function_key parts) ++ map (told_function names imports) (map stub (stub_names p (refs_of parts))) ++ xs) own_are
+      ∙ four (told_function names imports) (map outside (function_imports_of Plain p (refs_of parts))) (filter_map made_function_key parts) (map stub (stub_names p (refs_of parts))) (filter_map own_function_key parts)
+
+  -- ---- what is known of functions
+
+  kept_held : All (λ k. list_any (same_import k) imports ≡ true) function_keys_of
+  unfolding function_keys_of
+  kept_held = all_filtered (λ k. list_any (same_import k) imports ≡ true) (λ k. is_function_type k.type && has_import (used_imports (filter (imports_by Plain) (refs_of parts))) k) imports (all_held imports)
+
+  abbrev Stub : List ℕ → Type 0
+  Stub name = (list_any (bytes_eq name) names ≡ true) × (list_any (is_named name) (made_from 0 (made Plain)) ≡ false)
+
+  stubs_known : All Stub stub_keys
+  unfolding stub_keys
+  stubs_known =
+      all_filter Stub (called (refs_of parts))
+      (λ name is. let k = called_known names imports p.entries (later_names words p.objects) in_order (refs_of parts) known name is in (names_held name k.0, k.1)) names
+
+  abbrev K : keys.FunctionKey → Type 0
+  K f = KnowsFunction names imports f
+
+  made_known : (part : rules.Part) (f : keys.FunctionKey) → made_function_key part ≡ Some f → K f
+  made_known part f is = let e = given_is ((part.chunk.input == 0) && (part.chunk.kind == 0)) (linker_function part.chunk.index) f is in subst (λ f. K f) e.1 tt
+
+  own_known : (part : rules.Part) (f : keys.FunctionKey) → own_function_key part ≡ Some f → K f
+  own_known part f is =
+      let e = given_is (not (part.chunk.input == 0) && (part.chunk.kind == 0)) (own part.chunk.input part.chunk.index) f is in
+      let some = (both (not (part.chunk.input == 0)) (part.chunk.kind == 0) e.0).0 in
+      subst (λ f. K f) e.1 (not_true (part.chunk.input == 0) some)
+
+  pub functions_known : All K (functions Plain p parts)
+  unfolding functions
+  functions_known =
+      All-append K (map outside (function_imports_of Plain p (refs_of parts))) (filter_map made_function_key parts ++ map stub (stub_names p (refs_of parts)) ++ filter_map own_function_key parts)
+      (subst (λ fs. All K fs) imports_are (all_map K outside function_keys_of kept_held))
+      (All-append K (filter_map made_function_key parts ++ map stub (stub_names p (refs_of parts))) (filter_map own_function_key parts)
+      (All-append K (filter_map made_function_key parts) (map stub (stub_names p (refs_of parts)))
+      (all_chosen K made_function_key made_known parts)
+      (all_map K stub (stub_names p (refs_of parts)) (subst (λ ns. All (λ n. list_any (bytes_eq n) names ≡ true) ns) (sym stubs_are) (all_each Stub (λ n. list_any (bytes_eq n) names ≡ true) (λ n k. k.0) stub_keys stubs_known))))
+      (all_chosen K own_function_key own_known parts))
+
+  -- ---- slots
+
+  pub slots_are : slots_listed noted.taken (functions_listed imports (length names) t live noted) ≡ map (told_function names imports) (slots Plain parts (functions Plain p parts))
+  unfolding slots
+  slots_are =
+      ap (slots_listed noted.taken) functions_are
+      ∙ slots_told names imports noted.taken (taken_functions names imports (refs_of parts)) (functions Plain p parts)
+      (are_noted.taken ∙ ap (λ ks. distinct same_code (map function_code ks)) (taken_told names imports p.entries parts known))
+      (all_taken_known names imports p.entries names_held (refs_of parts) known) functions_known
+
+  -- ---- globals
+
+  outside_globals_told : map global_keys.Import (global_imports imports noted.imports) ≡ map (told_global imports) (map outside_global (global_imports_in Plain p parts))
+  outside_globals_told =
+      ap (map global_keys.Import) global_numbers
+      ∙ twice global_keys.Import (number_by same_import imports) (λ k. global_keys.Import (number_by same_import imports k)) (λ k. refl) global_keys_of
+      ∙ sym (twice (told_global imports) outside_global (λ k. global_keys.Import (number_by same_import imports k)) (λ k. refl) global_keys_of)
+      ∙ ap (map (told_global imports)) global_imports_are
+
+  made_globals_are : own_globals true t live ≡ map (told_global imports) (made_globals Plain parts)
+  made_globals_are =
+      given_told names imports t p g.tables (λ n. own_global_in true (chunk_at t n)) (λ part. own_global_in true part.chunk) (λ n part at. ap (own_global_in true) (chunk_is names imports t p g.tables n part at)) live parts g.are
+      ∙ made_globals_told names imports parts
+
+  own_globals_are : own_globals false t live ≡ map (told_global imports) (filter_map own_global_key parts)
+  own_globals_are =
+      given_told names imports t p g.tables (λ n. own_global_in false (chunk_at t n)) (λ part. own_global_in false part.chunk) (λ n part at. ap (own_global_in false) (chunk_is names imports t p g.tables n part at)) live parts g.are
+      ∙ own_globals_told names imports parts
+
+  code_known : All (KnownRef imports p.entries) (refs_of (parts_of_kind 0 parts))
+  code_known = refs_filtered (KnownRef imports p.entries) (λ part. part.chunk.kind == 0) parts known
+
+  cells_are : map global_keys.Got noted.cells ≡ map (told_global imports) (map got (got_entries Plain parts))
+  cells_are =
+      ap (map global_keys.Got)
+      (are_noted.cells ∙ ap (distinct same_got_key) (cells_told names imports parts)
+      ∙ cells_once names imports (read_cells names imports (refs_of (parts_of_kind 0 parts))) (all_cells_known names imports p.entries names_held (refs_of (parts_of_kind 0 parts)) code_known))
+      ∙ twice global_keys.Got (told_got imports) (λ c. global_keys.Got (told_got imports c)) (λ c. refl) (got_entries Plain parts)
+      ∙ sym (twice (told_global imports) got (λ c. global_keys.Got (told_got imports c)) (λ c. refl) (got_entries Plain parts))
+
+  pub globals_are : (exports : List Winner) (es : List Entry) → exports ≡ map (told_winner names) es
+      → globals_listed imports t live exports noted ≡ map (told_global imports) (globals Plain p parts es)
+  unfolding globals
+  globals_are exports es told =
+      let F = told_global imports in
+      let ws = map outside_global (global_imports_in Plain p parts) in
+      let bs = made_globals Plain parts in
+      let cs = filter_map own_global_key parts in
+      let ds = map got (got_entries Plain parts) in
+      let fs = filter_map datum_key es in
+      let data_are : filter_map datum_listed exports ≡ map F fs = ap (filter_map datum_listed) told ∙ data_told names imports es in
+      ap (λ xs. xs ++ own_globals true t live ++ own_globals false t live ++ map global_keys.Got noted.cells ++ filter_map datum_listed exports) outside_globals_told
+      ∙ ap (λ xs. map F ws ++ xs ++ own_globals false t live ++ map global_keys.Got noted.cells ++ filter_map datum_listed exports) made_globals_are
+      ∙ ap (λ xs. map F ws ++ map F bs ++ xs ++ map global_keys.Got noted.cells ++ filter_map datum_listed exports) own_globals_are
+      ∙ ap (λ xs. map F ws ++ map F bs ++ map F cs ++ xs ++ filter_map datum_listed exports) cells_are
+      ∙ ap (λ xs. map F ws ++ map F bs ++ map F cs ++ map F ds ++ xs) data_are
+      ∙ ap (λ xs. xs ++ map F fs) (four F ws bs cs ds)
+      ∙ sym (map-append F (ws ++ (bs ++ cs ++ ds)) fs)
+      ∙ ap (map F) (append_assoc ws (bs ++ cs ++ ds) fs)
+
+  -- ---- types
+
+  column : List (Option At)
+  column = firsts_rows 0 (replicate (length names) None) symbols
+
+  column_is : AreFirsts names p.objects (flat_map (symbols_of p.objects) p.objects) column
+  unfolding column
+  column_is = subst (λ rows. AreFirsts names p.objects (flat_map (symbols_of p.objects) p.objects) (firsts_rows 0 (replicate (length names) None) rows)) (sym g.numbers)
+      (firsts_noted names (names_one names imports p.entries (later_names words p.objects) in_order) p.objects)
+
+  abbrev T : keys.FunctionKey → FuncType
+  T f = type_of p parts f
+
+  import_types_are : import_types imports noted.imports ≡ map T (map outside (function_imports_of Plain p (refs_of parts)))
+  import_types_are =
+      ap (map (λ i. kept_type (slice_get imports i))) function_numbers
+      ∙ import_types_told p parts imports function_keys_of kept_held
+      ∙ ap (map T) imports_are
+
+  stub_types_are : stub_types p.objects column noted.stubs (length names) ≡ map T (map stub (stub_names p (refs_of parts)))
+  stub_types_are =
+      ap (map (λ n. first_type p.objects (get_or column n None))) stub_numbers
+      ∙ stub_types_told names p parts g.from column column_is stub_keys stubs_known
+      ∙ ap (λ ns. map T (map stub ns)) (sym stubs_are)
+
+  all_types : List FuncType
+  all_types = import_types imports noted.imports ++ own_types true t live ++ stub_types p.objects column noted.stubs (length names) ++ own_types false t live
+
+  all_types_are : all_types ≡ map T (functions Plain p parts)
+  unfolding all_types functions
+  all_types_are =
+      let ws = map outside (function_imports_of Plain p (refs_of parts)) in
+      let bs = filter_map made_function_key parts in
+      let cs = map stub (stub_names p (refs_of parts)) in
+      let ds = filter_map own_function_key parts in
+      ap (λ xs. xs ++ own_types true t live ++ stub_types p.objects column noted.stubs (length names) ++ own_types false t live) import_types_are
+      ∙ ap (λ xs. map T ws ++ xs ++ stub_types p.objects column noted.stubs (length names) ++ own_types false t live) (made_types p g.tables.differ live parts g.are names imports t g.tables)
+      ∙ ap (λ xs. map T ws ++ map T bs ++ xs ++ own_types false t live) stub_types_are
+      ∙ ap (λ xs. map T ws ++ map T bs ++ map T cs ++ xs) (own_types_are p g.tables.differ live parts g.are names imports t g.tables)
+      ∙ four T ws bs cs ds
+
+  folds : {A B : Type 0} (f : B → A → B) (a : B) (ws bs cs ds : List A) → fold f a (ws ++ bs ++ cs ++ ds) ≡ fold f (fold f (fold f (fold f a ws) bs) cs) ds
+  folds f a ws bs cs ds =
+      fold-append f a (ws ++ bs ++ cs) ds
+      ∙ ap (λ x. fold f x ds) (fold-append f a (ws ++ bs) cs)
+      ∙ ap (λ x. fold f (fold f x cs) ds) (fold-append f a ws bs)
+
+  abbrev all_of : List FuncType
+  all_of = types p parts (functions Plain p parts)
+
+  pub types_are : types_listed imports (length names) t p.objects (firsts_rows 0 (replicate (length names) None) symbols) live noted
+      ≡ record { table = all_of; numbers = map (λ f. type_number_in all_of (type_of p parts f)) (functions Plain p parts) }
+  unfolding types column all_types
+  types_are =
+      ap (λ x. with_windows t.types x noted.windows) (sym (folds with_numbered no_types (import_types imports noted.imports) (own_types true t live) (stub_types p.objects column noted.stubs (length names)) (own_types false t live)))
+      ∙ ap (λ x. with_windows t.types (fold with_numbered no_types x) noted.windows) all_types_are
+      ∙ ap (with_windows t.types (fold with_numbered no_types (map T (functions Plain p parts)))) are_noted.windows
+      ∙ folded (map T (functions Plain p parts)) t.types (window_numbers t live) (window_types parts) (windows_told_all names imports t p g.tables live parts g.are)
+      ∙ ap (λ ns. record { table = all_of; numbers = ns }) (twice (type_number_in all_of) T (λ f. type_number_in all_of (type_of p parts f)) (λ f. refl) (functions Plain p parts))
+
+  -- ---- all
+
+  pub numbering_is : (exports : List Winner) (es : List Entry) → exports ≡ map (told_winner names) es
+      → IsNumbering names imports t.types p parts (numbered imports (length names) t p.objects symbols exports live) (numbers Plain p parts es)
+  unfolding noted
+  numbering_is exports es told =
+      let y = types_are in
+      record {
+        functions = functions_are;
+        slots = slots_are;
+        first_slot = refl;
+        globals = globals_are exports es told;
+        types = ap (λ x. x.table) y;
+        function_types = ap (λ x. x.numbers) y;
+        type_numbers = ap (λ x. map (type_number_in x.table) t.types) y;
+      }
+
+  -- ---- the laws
+
+  all_once : {A : Type 0} (P : A → Type 0) (same : A → A → Bool) (seen xs : List A) → All P seen → All P xs → All P (distinct_onto same seen xs)
+  all_once P same seen [] held all = held
+  all_once P same seen (x ∷ xs) held all = all_once P same (if list_any (same x) seen then seen else seen ++ x ∷ []) xs (all_seen P seen x (list_any (same x) seen) held (All-head P x xs all)) (All-tail P x xs all)
+
+  abbrev G : keys.GlobalKey → Type 0
+  G k = KnowsGlobal imports k
+
+  made_global_known : (part : rules.Part) (k : keys.GlobalKey) → made_global_key part ≡ Some k → G k
+  made_global_known part k is = let e = given_is ((part.chunk.input == 0) && (part.chunk.kind == 2)) (linker_global part.chunk.index) k is in subst (λ k. G k) e.1 tt
+
+  own_global_known : (part : rules.Part) (k : keys.GlobalKey) → own_global_key part ≡ Some k → G k
+  own_global_known part k is =
+      let e = given_is (not (part.chunk.input == 0) && (part.chunk.kind == 2)) (own_global part.chunk.input part.chunk.index) k is in
+      let some = (both (not (part.chunk.input == 0)) (part.chunk.kind == 2) e.0).0 in
+      subst (λ k. G k) e.1 (not_true (part.chunk.input == 0) some)
+
+  datum_known : (e : Entry) (k : keys.GlobalKey) → datum_key e ≡ Some k → G k
+  datum_known e k is = let x = given_is (is_kind Datum e) (exported_datum e) k is in subst (λ k. G k) x.1 tt
+
+  kept_globals_held : All (λ k. list_any (same_import k) imports ≡ true) global_keys_of
+  unfolding global_keys_of
+  kept_globals_held = all_filtered (λ k. list_any (same_import k) imports ≡ true) (λ k. is_global_type k.type && has_import (used_imports (filter (imports_by Plain) (refs_of parts))) k) imports (all_held imports)
+
+  globals_known : (es : List Entry) → All G (globals Plain p parts es)
+  unfolding globals
+  globals_known es =
+      All-append G (map outside_global (global_imports_in Plain p parts)) (made_globals Plain parts ++ filter_map own_global_key parts ++ map got (got_entries Plain parts) ++ filter_map datum_key es)
+      (subst (λ ks. All G ks) global_imports_are (all_map G outside_global global_keys_of kept_globals_held))
+      (All-append G (made_globals Plain parts ++ filter_map own_global_key parts ++ map got (got_entries Plain parts)) (filter_map datum_key es)
+      (All-append G (made_globals Plain parts ++ filter_map own_global_key parts) (map got (got_entries Plain parts))
+      (All-append G (made_globals Plain parts) (filter_map own_global_key parts)
+      (all_chosen G made_global_key made_global_known parts)
+      (all_chosen G own_global_key own_global_known parts))
+      (all_map G got (got_entries Plain parts) (all_once (KnowsGot imports) same_got [] (read_cells names imports (refs_of (parts_of_kind 0 parts))) (all_none (KnowsGot imports)) (all_cells_known names imports p.entries names_held (refs_of (parts_of_kind 0 parts)) code_known))))
+      (all_chosen G datum_key datum_known es))
+
+  slots_known : All K (slots Plain parts (functions Plain p parts))
+  unfolding slots
+  slots_known = all_filtered K (is_taken (taken_functions names imports (refs_of parts))) (functions Plain p parts) functions_known
+
+  pub tells_numbers : (es : List Entry) → TellsNumbers names imports (numbers Plain p parts es)
+  tells_numbers es = record {
+    functions = λ f kf. number_told (told_function names imports) same_function same_function_key (KnowsFunction names imports) (tells_function names imports) f (functions Plain p parts) kf functions_known;
+    slots = λ f kf. number_told (told_function names imports) same_function same_function_key (KnowsFunction names imports) (tells_function names imports) f (slots Plain parts (functions Plain p parts)) kf slots_known;
+    globals = λ k kk. number_told (told_global imports) same_global same_global_key (KnowsGlobal imports) (tells_global imports) k (globals Plain p parts es) kk (globals_known es);
+  }
+
+  global_of_known : (e : Entry) (r : Bool) → (e.input == 0) ≡ r → G (if r then linker_global e.place else own_global e.input e.index)
+  global_of_known e true is = tt
+  global_of_known e false is = is
+
+  meant_global_known : (ref : Ref) (m : Meaning) → KnownMeaning imports p.entries ref.entry m → KnowsGot imports (ref_got ref) → G (meant_global Plain ref m)
+  meant_global_known ref (here e) k cell = global_of_known e (e.input == 0) refl
+  meant_global_known ref (imported i) k cell = k
+  meant_global_known ref null k cell = cell
+  meant_global_known ref nothing k cell = cell
+
+  ref_global_known : (ref : Ref) (r : Bool) → KnownRef imports p.entries ref → KnowsGot imports (ref_got ref) → G (if r then meant_global Plain ref ref.meaning else got (ref_got ref))
+  ref_global_known ref true k cell = meant_global_known ref ref.meaning k cell
+  ref_global_known ref false k cell = cell
+
+  null_entry : (ref : Ref) (m : Meaning) → KnownMeaning imports p.entries ref.entry m → is_null m ≡ true → is_entry ref.entry ≡ true
+  null_entry ref (here e) k is = absurd cc
+  null_entry ref (imported i) k is = absurd cc
+  null_entry ref null k is = k.entry
+  null_entry ref nothing k is = absurd cc
+
+  knows_ref : (ref : Ref) → KnownRef imports p.entries ref → KnowsRef names imports ref
+  knows_ref ref k = record {
+    function = ref_function_known names imports p.entries names_held ref k;
+    global = ref_global_known ref (is_kind GlobalVar ref.entry) k (ref_got_known names imports p.entries names_held ref k);
+    named = null_entry ref ref.meaning k;
+  }
+
+  pub knows_refs : All (KnowsRef names imports) (refs_of parts)
+  knows_refs = all_each (KnownRef imports p.entries) (KnowsRef names imports) knows_ref (refs_of parts) known

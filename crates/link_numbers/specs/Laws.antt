@@ -1,0 +1,25 @@
+-- What the told numbers of keys are.
+use Rattle.std.specs.Prelude.{◌≡◌, ℕ, true, List, map}
+use Rattle.index_layout.specs.Numbers.{number_by}
+use Rattle.made_symbols.specs.declared.mode.Mode.TheVariants.{Plain}
+use Rattle.name_rules.specs.Entries.{ImportKey, is_entry}
+use Rattle.link_rules.specs.Program.{Ref}
+use Rattle.link_rules.specs.Keys as keys
+use Rattle.link_rules.specs.Keys.{same_function, same_global, ref_function, ref_global, is_null}
+use Rattle.link_program.specs.Keys.{told_function, told_global, same_function_key, same_global_key}
+use Rattle.link_numbers.specs.Knows.{KnowsFunction, KnowsGlobal}
+
+-- The number of a known key, as it is told, is its number.
+pub record TellsNumbers (names : List (List ℕ)) (imports : List ImportKey) (l : keys.Numbers) : Type 0 where
+  pub functions : (f : keys.FunctionKey) → KnowsFunction names imports f
+      → number_by same_function_key (map (told_function names imports) l.functions) (told_function names imports f) ≡ number_by same_function l.functions f
+  pub slots : (f : keys.FunctionKey) → KnowsFunction names imports f
+      → number_by same_function_key (map (told_function names imports) l.slots) (told_function names imports f) ≡ number_by same_function l.slots f
+  pub globals : (g : keys.GlobalKey) → KnowsGlobal imports g
+      → number_by same_global_key (map (told_global imports) l.globals) (told_global imports g) ≡ number_by same_global l.globals g
+
+-- What a reference names is known.
+pub record KnowsRef (names : List (List ℕ)) (imports : List ImportKey) (ref : Ref) : Type 0 where
+  pub function : KnowsFunction names imports (ref_function ref)
+  pub global : KnowsGlobal imports (ref_global Plain ref)
+  pub named : is_null ref.meaning ≡ true → is_entry ref.entry ≡ true

@@ -1,0 +1,22 @@
+//! What holds of keys and numbers, as a call that does nothing: its contract is the law.
+ghost use Rattle.std.specs.Prelude.{ℕ, List, All};
+ghost use Rattle.made_symbols.specs.declared.mode.Mode.TheVariants as modes;
+ghost use Rattle.name_rules.specs.Entries.{Entry};
+ghost use Rattle.link_rules.specs.Program as rules;
+ghost use Rattle.link_rules.specs.Marks.{refs_of};
+ghost use Rattle.link_rules.specs.Keys.{numbers};
+ghost use Rattle.link_program.specs.declared.program.Program.{Program as Data};
+ghost use Rattle.link_program.specs.Program.{IsProgram};
+ghost use Rattle.link_program.specs.Stand.{PartsStand};
+ghost use Rattle.link_program.specs.Live.{AreLive, AllMeant};
+ghost use Rattle.link_numbers.specs.Laws.{TellsNumbers, KnowsRef};
+
+/// Of keys that are known, the numbers as they are told are the numbers; and what references of live parts name is known.
+pub fn keys_are_told()
+    ensures numbers { (d : Data) (p : rules.Program) (live : List ℕ) (parts : List rules.Part) (es : List Entry) → IsProgram modes.Plain d p
+        → PartsStand p → AreLive p live parts → AllMeant parts
+        → TellsNumbers d.names.now.names d.resolution.now.imports (numbers modes.Plain p parts es) }
+    ensures refs { (d : Data) (p : rules.Program) (live : List ℕ) (parts : List rules.Part) → IsProgram modes.Plain d p
+        → PartsStand p → AreLive p live parts → AllMeant parts
+        → All (KnowsRef d.names.now.names d.resolution.now.imports) (refs_of parts) }
+{}

@@ -1,0 +1,116 @@
+//! The live parts, one after another.
+ghost use Rattle.std.specs.Prelude.{◌≡◌, ◌==◌, [], slice_index_or, replicate, fold, IfOk, OnOk};
+ghost use Rattle.link_program.specs.Seen.{no_symbol};
+ghost use Rattle.link_numbers.specs.LiveRefs.{part_at, row_at, is_code};
+ghost use Rattle.link_numbers.specs.Noted.{noted, noted_part, noted_parts, nothing_noted};
+
+use crate::marks::Marks;
+use link_program::{Content, Lead, Named, Part, Symbol, Tables};
+use linking_section::SymbolKind;
+use mark_bits::Chunk;
+use std::alloc::Global;
+use wl_base::{FileSpan, OutOfMemory, Span};
+
+/// The symbol at a place.
+#[tactic(auto, using(crate::proofs::ReadAt::read))]
+fn symbol_at(symbols: &[Symbol], at: u32) -> Symbol
+    ensures { result ≡ slice_index_or symbols.now at no_symbol }
+{
+    match symbols.get(at as usize) {
+        Some(symbol) => *symbol,
+        None => Symbol {
+            kind: SymbolKind::Function,
+            name: None,
+            lead: Lead::Nothing,
+        },
+    }
+}
+
+/// The part of a number.
+#[tactic(auto, using(crate::proofs::ReadAt::read))]
+pub(crate) fn part_at(tables: &Tables, number: u32) -> Part
+    ensures { result ≡ part_at tables.now number }
+{
+    match tables.parts.get(number as usize) {
+        Some(part) => *part,
+        None => Part {
+            chunk: Chunk {
+                input: 0,
+                kind: 1,
+                index: 0,
+            },
+            content: Content::Made,
+            source: FileSpan {
+                file: 0,
+                span: Span { start: 0, len: 0 },
+            },
+        },
+    }
+}
+
+/// What the part of a number names.
+#[tactic(auto, using(crate::proofs::ReadAt::read))]
+fn row_at(tables: &Tables, number: u32) -> &[Named]
+    ensures { result.now ≡ row_at tables.now number }
+{
+    match tables.named.get(number as usize) {
+        Some(row) => row,
+        None => &[],
+    }
+}
+
+/// Notes what a window of a part names.
+fn note(marks: &mut Marks, symbols: &[Symbol], code: bool, named: Named) -> Result<(), OutOfMemory>
+    ensures { OnOk result (marks.new ≡ noted symbols.now code marks.old named) }
+{
+    match named {
+        Named::Symbol {
+            place: _,
+            kind,
+            addend: _,
+            symbol,
+        } => marks.reference(code, kind, symbol_at(symbols, symbol)),
+        Named::Type { place: _, number } => marks.window(number),
+    }
+}
+
+/// Notes what a part names.
+fn note_row(
+    marks: &mut Marks,
+    symbols: &[Symbol],
+    code: bool,
+    row: &[Named],
+) -> Result<(), OutOfMemory>
+    ensures { OnOk result (marks.new ≡ fold (noted symbols.now code) marks.old row.now) }
+{
+    for named in row {
+        note(marks, symbols, code, *named)?;
+    }
+    Ok(())
+}
+
+/// Notes what a live part names.
+fn note_part(marks: &mut Marks, tables: &Tables, number: u32) -> Result<(), OutOfMemory>
+    ensures { OnOk result (marks.new ≡ noted_part tables.now marks.old number) }
+{
+    let code = part_at(tables, number).chunk.kind == 0;
+    let row = row_at(tables, number);
+    note_row(marks, tables.symbols.as_slice(), code, row)
+}
+
+/// What the live parts ask for, where there are so many imports and names.
+pub(crate) fn marks_of(
+    alloc: Global,
+    tables: &Tables,
+    live: &[u32],
+    imports: usize,
+    names: usize,
+) -> Result<Marks, OutOfMemory>
+    ensures { IfOk result (λ m. m ≡ noted_parts tables.now (nothing_noted imports names) live.now) }
+{
+    let mut marks = Marks::new(alloc, imports, names)?;
+    for number in live {
+        note_part(&mut marks, tables, *number)?;
+    }
+    Ok(marks)
+}

@@ -1,0 +1,64 @@
+-- What a measure tells of the length.
+use Rattle.std.proofs.Common.{◌≡◌, ℕ, ◌-◌, ◌^◌, List, refl, sym, ap, ◌∙◌, subst, arith, Bool, true, false, nat_lt, min, Option, Some, None, if◌then◌else◌, Result, Ok, Err, ℤ, pos}
+use Rattle.std.specs.Prelude.{int_lt}
+use Rattle.std.proofs.lemmas.Bool.{ltb-true}
+use Rattle.wl_base.specs.Choice.{given}
+use Rattle.wl_base.specs.Answers.{Answers}
+use Rattle.wl_base.specs.declared.fault.Fault.{Fault}
+use Rattle.wl_base.specs.declared.fault.Fault.TheVariants as faults
+use Rattle.wl_base.specs.declared.fault.What.{What}
+use Rattle.wl_base.specs.declared.fault.What.TheVariants.{OutputLength}
+use Rattle.wl_base.specs.declared.layout_error.LayoutError.{LayoutError}
+use Rattle.wl_base.specs.declared.layout_error.LayoutError.TheVariants.{Overflow, OutOfMemory}
+use Rattle.image_emit.specs.declared.tree.Image.{Image}
+use Rattle.image_emit.specs.declared.measuring.Measured.{Measured}
+use Rattle.image_emit.specs.Bytes.{tree_of}
+use Rattle.image_emit.specs.Measures.{LieIn, image_measure, measure_of}
+use Rattle.image_emit.specs.Pieces.{source_places}
+use Rattle.image_emit.proofs.Emitted.{files_measure}
+use Rattle.link_output.specs.Written.{Measures, output_len, is_exact}
+
+abbrev answer_by : Bool → ℕ → List ℕ → Result Measured LayoutError
+answer_by b len places = if b then Err (Overflow OutputLength (pos (min len (2 ^ 63 - 1)))) else Ok (record { len = len; places = places })
+
+abbrev told : Bool → ℕ → Option Fault
+told b len = given b (faults.Overflow OutputLength (pos len))
+
+-- the answers, as they are compared
+abbrev Same : Result Measured LayoutError → Result Measured LayoutError → Type 0
+Same (Ok a) (Ok b) = b ≡ a
+Same (Err (Overflow w n)) (Err (Overflow v m)) = (w ≡ v) × (n ≡ m)
+Same (Err OutOfMemory) (Err OutOfMemory) = Unit {0}
+Same a b = ⊥
+
+same : (a b : Result Measured LayoutError) → a ≡ b → Same a b
+same a b e = subst (Same a) e (itself a)
+  where
+    itself : (a : Result Measured LayoutError) → Same a a
+    itself (Ok a) = refl
+    itself (Err (Overflow w n)) = (refl, refl)
+    itself (Err OutOfMemory) = tt
+
+ok_by : (b : Bool) (len : ℕ) (places : List ℕ) (m : Measured) → answer_by b len places ≡ Ok m → (m.places ≡ places) × (told b len ≡ None)
+ok_by true len places m e = absurd (same (answer_by true len places) (Ok m) e)
+ok_by false len places m e = (ap (λ x. x.places) (same (answer_by false len places) (Ok m) e), refl)
+
+short : (len : ℕ) → int_lt (pos (min len (2 ^ 63 - 1))) (pos (2 ^ 63 - 1)) ≡ true → min len (2 ^ 63 - 1) ≡ len
+short len e = omega (arith, ltb-true (min len (2 ^ 63 - 1)) (2 ^ 63 - 1) e)
+
+err_by : (b : Bool) (len : ℕ) (places : List ℕ) (what : What) (needed : ℤ) → int_lt needed (pos (2 ^ 63 - 1)) ≡ true → answer_by b len places ≡ Err (Overflow what needed)
+    → told b len ≡ Some (faults.Overflow what needed)
+err_by false len places what needed small e = absurd (same (answer_by false len places) (Err (Overflow what needed)) e)
+err_by true len places what needed small e =
+    let both = same (answer_by true len places) (Err (Overflow what needed)) e in
+    let is : min len (2 ^ 63 - 1) ≡ len = short len (subst (λ z. int_lt z (pos (2 ^ 63 - 1)) ≡ true) (sym both.1) small) in
+    ap (λ n. Some (faults.Overflow OutputLength (pos n))) (sym is) ∙ ap (λ w. Some (faults.Overflow w (pos (min len (2 ^ 63 - 1))))) both.0 ∙ ap (λ z. Some (faults.Overflow what z)) both.1
+
+pub measures : (files : List (List ℕ)) (i : Image) (r : Result Measured LayoutError) → LieIn files i → Answers r (image_measure i) → is_exact r ≡ true → Measures r files i
+measures files i (Ok m) lie e exact =
+    let is : measure_of (tree_of files i) ≡ Ok m = files_measure files i lie ∙ e in
+    let both = ok_by (nat_lt (2 ^ 31 - 1) (output_len files i)) (output_len files i) (source_places (tree_of files i)) m is in
+    (e, both.0, both.1)
+measures files i (Err (Overflow what needed)) lie e exact =
+    err_by (nat_lt (2 ^ 31 - 1) (output_len files i)) (output_len files i) (source_places (tree_of files i)) what needed exact (files_measure files i lie ∙ e)
+measures files i (Err OutOfMemory) lie e exact = tt

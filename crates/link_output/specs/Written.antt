@@ -1,0 +1,44 @@
+-- What is answered where an image is measured and written.
+use Rattle.std.specs.Prelude.{◌≡◌, ℕ, List, length, map, flat_map, None, Some, Result, Ok, Err, pos, ◌-◌, ◌^◌, int_lt, Bool, true}
+use Rattle.std.specs.List.{AllZip}
+use Rattle.wl_base.specs.declared.fault.Fault.TheVariants as faults
+use Rattle.wl_base.specs.declared.fault.What.TheVariants.{Reference}
+use Rattle.wl_base.specs.declared.layout_error.LayoutError.{LayoutError}
+use Rattle.wl_base.specs.declared.layout_error.LayoutError.TheVariants.{Overflow, OutOfMemory}
+use Rattle.reloc_apply.specs.declared.window.Window.{Window}
+use Rattle.reloc_apply.specs.Windows.{value_overflow, patch_of}
+use Rattle.reloc_apply.specs.Apart.{AreApart}
+use Rattle.image_emit.specs.declared.tree.Image.{Image}
+use Rattle.image_emit.specs.declared.measuring.Measured.{Measured}
+use Rattle.image_emit.specs.Bytes.{bytes_of, tree_of}
+use Rattle.image_emit.specs.Filled.{tree_filled}
+use Rattle.image_emit.specs.Measures.{image_measure}
+use Rattle.image_emit.specs.Pieces.{source_places}
+use Rattle.link_rules.specs.LinkOf.{length_fault}
+
+-- how long the output is
+abbrev pub output_len : List (List ℕ) → Image → ℕ
+output_len files i = length (bytes_of (tree_of files i))
+
+-- The measure is that of the output's bytes, which are not too many; or they are, and their number is told.
+abbrev pub Measures : Result Measured LayoutError → List (List ℕ) → Image → Type 0
+Measures (Ok m) files i = (image_measure i ≡ Ok m) × (m.places ≡ source_places (tree_of files i)) × (length_fault (output_len files i) ≡ None)
+Measures (Err (Overflow what needed)) files i = length_fault (output_len files i) ≡ Some (faults.Overflow what needed)
+Measures (Err OutOfMemory) files i = Unit {0}
+
+-- whether a length that is told isn't the greatest of an i64
+abbrev pub is_exact : Result Measured LayoutError → Bool
+is_exact (Ok m) = true
+is_exact (Err (Overflow what needed)) = int_lt needed (pos (2 ^ 63 - 1))
+is_exact (Err OutOfMemory) = true
+
+-- The windows of each source rise, don't overlap and lie in it.
+abbrev pub StandInSources : List (List Window) → List (List ℕ) → Type 0
+StandInSources wss sources = AllZip (λ ws bytes. AreApart 0 (length bytes) (map patch_of ws)) wss sources
+
+-- All values are in range, and the bytes are those of the image with each window written; or the first value that isn't is told.
+abbrev pub Writes : Result (List ℕ) LayoutError → List (List Window) → List (List ℕ) → Image → Type 0
+Writes (Ok bytes) wss files i =
+    (value_overflow (flat_map (λ ws. ws) wss) ≡ None) × (bytes ≡ bytes_of (tree_filled (map (map patch_of) wss) (tree_of files i)))
+Writes (Err (Overflow what needed)) wss files i = (what ≡ Reference) × (value_overflow (flat_map (λ ws. ws) wss) ≡ Some needed)
+Writes (Err OutOfMemory) wss files i = Unit {0}

@@ -1,0 +1,11 @@
+//! The bytes of the output: an image is measured, one buffer is reserved, and its windows are filled.
+#![tactic(auto)]
+
+pub mod laws;
+mod measuring;
+#[cfg(test)]
+mod tests;
+mod writing;
+
+pub use measuring::measured;
+pub use writing::write;

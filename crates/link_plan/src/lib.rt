@@ -1,0 +1,6 @@
+//! What a link is asked for.
+#![tactic(auto)]
+
+mod plan;
+
+pub use plan::{InputWord, Plan};

@@ -1,0 +1,56 @@
+-- When the data are those of a program.
+use Rattle.std.specs.Prelude.{◌≡◌, ℕ, ◌-◌, ◌<◌, ◌^◌, ◌++◌, List, length, map, slice_get, Some, All}
+use Rattle.object_file.specs.declared.object.Object.{Object}
+use Rattle.made_symbols.specs.declared.mode.Mode.{Mode}
+use Rattle.mark_bits.specs.declared.chunk.Chunk.{Chunk}
+use Rattle.link_names.specs.Numbered.{AreNumbers, different_names}
+use Rattle.lib_rounds.specs.Rounds.{Candidate}
+use Rattle.name_rules.specs.Entries.{ImportKey, entries}
+use Rattle.name_rules.specs.Meanings.{resolve}
+use Rattle.name_entries.specs.View.{InputsRise, WinnersAre}
+use Rattle.name_meanings.specs.Means.{IsResolution}
+use Rattle.link_rules.specs.Program as rules
+use Rattle.link_rules.specs.Program.{winners_of, parts_of}
+use Rattle.link_rules.specs.Keys.{imports_in_order}
+use Rattle.link_rules.specs.LinkOf.{asked_names}
+use Rattle.link_program.specs.declared.program.Program.{Program}
+use Rattle.link_program.specs.declared.program.Tables.{Tables}
+use Rattle.link_program.specs.Told.{told_symbols, told_winner}
+use Rattle.link_program.specs.Seen.{seen_named, told_named, NamesOne, seen_part, told_part, HasType}
+
+-- No chunk stands twice.
+abbrev pub ChunksDiffer : List Chunk → Type 0
+ChunksDiffer chunks = (i j : ℕ) (c : Chunk) → slice_get chunks i ≡ Some c → slice_get chunks j ≡ Some c → i ≡ j
+
+-- The tables are those of the program, by the numbers of names and of imports.
+pub record AreTables (names : List (List ℕ)) (imports : List ImportKey) (t : Tables) (p : rules.Program) : Type 0 where
+  pub symbols : t.symbols ≡ told_symbols names imports p.resolved
+  pub winners : t.winners ≡ map (told_winner names) p.winners
+  pub chunks : t.chunks ≡ map (λ part. part.chunk) p.parts
+  pub differ : ChunksDiffer (map (λ part. part.chunk) p.parts)
+  pub parts : map (seen_part t.types) t.parts ≡ map told_part p.parts
+  pub named : map (map (seen_named t.symbols t.types)) t.named ≡ map (λ part. map (told_named names imports) part.named) p.parts
+  -- What the tables name is there, and they are short.
+  pub named_there : All (λ row. All (NamesOne t.symbols t.types) row) t.named
+  pub types_there : All (λ part. HasType t.types part.content) t.parts
+  pub few_parts : length p.parts < 2 ^ 32 - 1
+  pub few_symbols : length t.symbols < 2 ^ 32
+
+-- The data are those of the program, in this mode.
+pub record IsProgram (mode : Mode) (d : Program) (p : rules.Program) : Type 0 where
+  -- the loaded objects, and what the definition finds of them
+  pub plan : d.plan.now ≡ p.plan
+  pub objects : d.objects.now ≡ p.objects
+  pub rise : InputsRise 0 p.objects
+  pub entries : p.entries ≡ entries mode p.objects
+  pub winners_are : p.winners ≡ winners_of p.entries
+  pub resolved : p.resolved ≡ resolve mode p.plan.allow_undefined p.entries p.objects
+  pub parts_are : (all : List Candidate) × (p.parts ≡ parts_of mode all p.objects p.resolved)
+  -- names, winners and meanings by number
+  pub numbers : AreNumbers mode p.objects d.names.now
+  pub order : d.names.now.names ≡ different_names mode (asked_names p.plan ++ p.plan.exports_if) p.objects
+  pub ranks : WinnersAre d.names.now.names p.entries d.ranks.now
+  pub resolution : IsResolution d.resolution.now p.resolved
+  pub imports : d.resolution.now.imports ≡ imports_in_order p
+  -- what is looked up
+  pub tables : AreTables d.names.now.names d.resolution.now.imports d.tables.now p

@@ -1,0 +1,110 @@
+-- What the function of a shared output makes right when it is loaded, and what its loader is told (DynamicLinking.md).
+use Rattle.std.specs.Prelude.{ℕ, ◌+◌, max, Bool, true, false, ◌==◌, List, [], ◌∷◌, ◌++◌, map, filter, filter_map, flat_map, if◌then◌else◌, Option, Some, None, pos, ◌+ℤ◌}
+use Rattle.std.specs.List.{list_any, list_all}
+use Rattle.linking_section.specs.declared.symbol.SymbolKind.TheVariants.{Function}
+use Rattle.linking_section.specs.Flags.{is_weak}
+use Rattle.made_symbols.specs.declared.mode.Mode.{Mode}
+use Rattle.name_rules.specs.Entries.{Entry, ImportKey, is_kind, is_entry, named, name_of, same_import}
+use Rattle.name_rules.specs.Meanings.{Meaning, here, imported, null, nothing, cell_of}
+use Rattle.reloc_apply.specs.Windows.{bits32}
+use Rattle.dylink_out.specs.declared.dylink.Dylink.{Dylink}
+use Rattle.dylink_out.specs.declared.dylink.ImportInfo.{ImportInfo}
+use Rattle.dylink_out.specs.declared.word.WordReloc.{WordReloc}
+use Rattle.dylink_out.specs.declared.word.WordPlace.TheVariants.{Window as WindowAt, Got}
+use Rattle.dylink_out.specs.declared.word.WordValue.{WordValue}
+use Rattle.dylink_out.specs.declared.word.WordValue.TheVariants.{OwnDatum, OwnFunction, ForeignDatum, ForeignFunction}
+use Rattle.link_rules.specs.Program.{Program, Part, Ref, refs}
+use Rattle.link_rules.specs.Marks.{is_foreign}
+use Rattle.link_rules.specs.Keys.{FunctionKey, GlobalKey, GotKey, got_entry, got_import, got_null, outside, linker_function, stub, own, outside_global, linker_global, own_global, got, exported_datum, cell_key, global_number, has_import, foreign_cells}
+use Rattle.link_rules.specs.Values.{Layout, segments, solid_segments, slot_count, segment_address, got_value, meant_address, ref_slot, content_align}
+
+abbrev pub greatest : List ℕ → ℕ
+greatest [] = 0
+greatest (n ∷ ns) = max n (greatest ns)
+
+module _ (mode : Mode) (p : Program) (parts : List Part) (l : Layout) where
+  -- ---- words: each window of live data by rising offset, then each own cell of an address by rising number
+
+  abbrev pub cell_number : Ref → ℕ
+  cell_number ref = global_number l.numbers (cell_key mode ref)
+
+  -- by whether the symbol is foreign, and whether the word holds a slot
+  abbrev pub word_value_by : Ref → Bool → Bool → WordValue
+  word_value_by ref true true = ForeignFunction (cell_number ref)
+  word_value_by ref true false = ForeignDatum (cell_number ref) ref.addend
+  word_value_by ref false true = OwnFunction (ref_slot l ref)
+  word_value_by ref false false = OwnDatum (bits32 (pos (meant_address mode l ref.meaning) +ℤ ref.addend))
+
+  abbrev pub window_word : ℕ → Ref → WordReloc
+  window_word address ref = record { to = WindowAt (address + ref.place); value = word_value_by ref (is_foreign ref) (ref.kind == 2) }
+
+  abbrev pub segment_words : Part → List WordReloc
+  segment_words part = map (window_word (segment_address l part.chunk)) (refs part)
+
+  abbrev pub is_function_got : GotKey → Bool
+  is_function_got (got_entry e) = is_kind Function e
+  is_function_got (got_import k) = true
+  is_function_got (got_null kind) = false
+
+  abbrev pub got_word : GlobalKey → Option WordReloc
+  got_word (outside_global k) = None
+  got_word (linker_global k) = None
+  got_word (own_global input index) = None
+  got_word (got key) = Some (record { to = Got (global_number l.numbers (got key)); value = if is_function_got key then OwnFunction (got_value mode l key) else OwnDatum (got_value mode l key) })
+  got_word (exported_datum e) = None
+
+  -- All words that are stored when the module is loaded.
+  abbrev pub words : List WordReloc
+  words = flat_map segment_words (solid_segments p parts) ++ filter_map got_word l.numbers.globals
+
+  -- ---- imports that may be absent: those that were made for a name of which all references are WEAK
+
+  abbrev pub is_weak_name : Entry → Bool
+  is_weak_name e = list_all (λ f. is_weak f.symbol) (named p.entries (name_of e))
+
+  -- A WEAK name's imports: the one that its symbols mean, and for a function also the cell of its address, where live parts use it.
+  abbrev pub weak_meaning : Entry → Meaning → List ImportKey
+  weak_meaning e (imported k) = if is_weak_name e then k ∷ (if is_kind Function e then filter (has_import (foreign_cells parts)) (cell_of e ∷ []) else []) else []
+  weak_meaning e (here d) = []
+  weak_meaning e null = []
+  weak_meaning e nothing = []
+
+  abbrev pub zip_weak : List Entry → List Meaning → List ImportKey
+  zip_weak [] ms = []
+  zip_weak (e ∷ es) [] = []
+  zip_weak (e ∷ es) (m ∷ ms) = (if is_entry e then weak_meaning e m else []) ++ zip_weak es ms
+
+  abbrev pub weak_imports : List ImportKey
+  weak_imports = flat_map (λ r. zip_weak r.symbols r.meanings) p.resolved
+
+  abbrev pub function_key_import : FunctionKey → Option ImportKey
+  function_key_import (outside k) = Some k
+  function_key_import (linker_function k) = None
+  function_key_import (stub name) = None
+  function_key_import (own input index) = None
+
+  abbrev pub global_key_import : GlobalKey → Option ImportKey
+  global_key_import (outside_global k) = Some k
+  global_key_import (linker_global k) = None
+  global_key_import (own_global input index) = None
+  global_key_import (got key) = None
+  global_key_import (exported_datum e) = None
+
+  abbrev pub import_infos : List ImportInfo
+  import_infos = map (λ k. record { «module» = k.place; field = k.field; flags = 1 })
+      (filter (λ k. list_any (same_import k) weak_imports)
+      (filter_map function_key_import l.numbers.functions ++ filter_map global_key_import l.numbers.globals))
+
+  -- ---- the section dylink.0
+
+  -- The memory is the data's bytes, aligned as the segment of greatest alignment; the table is the slots.
+  abbrev pub dylink : Dylink
+  dylink = record {
+    memory_size = l.places.data_end;
+    memory_align = greatest (map (λ part. content_align part.content) (segments parts));
+    table_size = slot_count l;
+    table_align = 0;
+    needed = [];
+    exports = [];
+    imports = import_infos;
+  }

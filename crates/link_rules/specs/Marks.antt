@@ -1,0 +1,206 @@
+-- What is exported, what is live, and which names stay unresolved.
+use Rattle.std.specs.Prelude.{ℕ, ◌+◌, ◌==◌, Bool, true, false, not, ◌&&◌, ◌||◌, List, [], ◌∷◌, ◌++◌, map, filter, filter_map, flat_map, find, length, position, slice_get, if◌then◌else◌, Option, None, unwrap_or, option_map, option_and_then, option_to_list, bytes_eq}
+use Rattle.std.specs.List.{list_any}
+use Rattle.wl_base.specs.Choice.{first_some, given, has_name}
+use Rattle.wl_base.specs.declared.fault.Fault.{Fault}
+use Rattle.wl_base.specs.declared.fault.Fault.TheVariants.{Duplicate, NotPic, Unresolved}
+use Rattle.linking_section.specs.declared.symbol.SymbolKind.TheVariants.{Function, Datum, GlobalVar}
+use Rattle.linking_section.specs.Flags.{is_exported, is_hidden, is_no_strip, is_local_definition, has_bit}
+use Rattle.object_columns.specs.declared.functions.FunctionDef.{FunctionDef}
+use Rattle.made_symbols.specs.declared.mode.Mode.{Mode}
+use Rattle.made_symbols.specs.declared.mode.Mode.TheVariants.{Plain, Shared}
+use Rattle.name_rules.specs.Entries.{Entry, is_named, is_kind, name_of, same_entry}
+use Rattle.name_rules.specs.Meanings.{Meaning, here, imported, null, nothing, is_nothing, Resolved}
+use Rattle.mark_bits.specs.declared.chunk.Chunk.{Chunk}
+use Rattle.live_mark.specs.Live.{reached, is_among}
+use Rattle.link_plan.specs.declared.plan.Plan.{Plan}
+use Rattle.link_rules.specs.Program.{Program, Part, Content, segment, function, global, linker_made, Ref, refs, chunk_of, meant_chunk, same_chunk, init_calls}
+
+abbrev pub by_mode : {A : Type 0} → Mode → A → A → A
+by_mode Plain a b = a
+by_mode Shared a b = b
+
+-- ---- exports
+
+-- The names that must have a winner: the entry, then those of `--export` in their order.
+abbrev pub demanded : Plan → List (List ℕ)
+demanded plan = option_to_list plan.entry ++ plan.exports
+
+-- A winner is exported where the words name it, where an object's symbol has EXPORTED, and with `--export-dynamic` where an object's
+-- symbol isn't HIDDEN.
+abbrev pub is_exported_by : Plan → Entry → Bool
+is_exported_by plan e =
+    has_name (demanded plan ++ plan.exports_if) (name_of e)
+    || (not (e.input == 0) && (is_exported e.symbol || (plan.export_dynamic && not (is_hidden e.symbol))))
+
+abbrev pub asked_exports : Program → List Entry
+asked_exports p = filter (is_exported_by p.plan) p.winners
+
+abbrev pub resolved_at : List Resolved → ℕ → Option Resolved
+resolved_at all input = find (λ r. r.object.input == input) all
+
+-- The name that a function's own object exports it under.
+abbrev pub written_name : Resolved → Entry → Option (List ℕ)
+written_name r e = option_and_then (λ (f : FunctionDef). f.export_name) (slice_get r.object.functions e.index)
+
+-- An export has the symbol's name, but a function that its own object exports has the name it has there.
+abbrev pub export_name : Program → Entry → List ℕ
+export_name p e =
+    if is_kind Function e then unwrap_or (option_and_then (λ r. written_name r e) (resolved_at p.resolved e.input)) (name_of e)
+    else name_of e
+
+-- An exported name and the input of what it names. The memory is the linker's.
+pub record Given : Type 0 where
+  pub name : List ℕ
+  pub input : ℕ
+
+abbrev pub memory_name : List ℕ
+memory_name = 0x6D ∷ 0x65 ∷ 0x6D ∷ 0x6F ∷ 0x72 ∷ 0x79 ∷ []
+
+-- A shared output always imports its memory.
+abbrev pub imports_memory : Mode → Program → Bool
+imports_memory mode p = by_mode mode p.plan.import_memory true
+
+abbrev pub given_memory : Mode → Program → List Given
+given_memory mode p = if imports_memory mode p then [] else record { name = memory_name; input = 0 } ∷ []
+
+abbrev pub given_names : Mode → Program → List Entry → List Given
+given_names mode p exports = given_memory mode p ++ map (λ e. record { name = export_name p e; input = e.input }) exports
+
+abbrev pub repeated_by : List Given → Given → Option Fault
+repeated_by earlier g = option_map (λ f. Duplicate g.name f.input g.input) (find (λ f. bytes_eq f.name g.name) earlier)
+
+abbrev pub first_repeat : List Given → List Given → Option Fault
+first_repeat earlier [] = None
+first_repeat earlier (g ∷ gs) = first_some (repeated_by earlier g ∷ first_repeat (earlier ++ g ∷ []) gs ∷ [])
+
+-- The first export, in the output's order, whose name an earlier export has.
+unfoldable pub repeated_export : Mode → Program → List Entry → Option Fault
+repeated_export mode p exports = first_repeat [] (given_names mode p exports)
+
+-- ---- live chunks
+
+-- A segment that has RETAIN.
+abbrev pub is_retained : Content → Bool
+is_retained (function t) = false
+is_retained (segment info) = has_bit 0x04 info.flags
+is_retained (global g) = false
+is_retained (linker_made m) = false
+
+abbrev pub is_object_part : Part → Bool
+is_object_part part = not (part.chunk.input == 0)
+
+abbrev pub is_no_strip_winner : Entry → Bool
+is_no_strip_winner e = not (e.input == 0) && is_no_strip e.symbol
+
+-- The roots: what is exported, the winners that have NO_STRIP, the segments that have RETAIN, and with `--no-gc-sections` all kept
+-- parts of objects. The entry is an export.
+abbrev pub roots : Program → List Entry → List Chunk
+roots p exports =
+    filter_map chunk_of exports
+    ++ filter_map chunk_of (filter is_no_strip_winner p.winners)
+    ++ map (λ part. part.chunk) (filter (λ part. is_retained part.content) p.parts)
+    ++ (if p.plan.gc then [] else map (λ part. part.chunk) (filter is_object_part p.parts))
+
+-- What a part refers to: the chunks that its references mean.
+abbrev pub refers : Part → List Chunk
+refers part = filter_map (λ ref. meant_chunk ref.meaning) (refs part)
+
+-- The chunk table: a chunk's number is its place there.
+abbrev pub table_of : Program → List Chunk
+table_of p = map (λ part. part.chunk) p.parts
+
+abbrev pub places_in : List Chunk → List Chunk → List ℕ
+places_in table chunks = filter_map (λ c. position (same_chunk c) table) chunks
+
+abbrev pub targets : Program → List (List ℕ)
+targets p = map (λ part. places_in (table_of p) (refers part)) p.parts
+
+abbrev pub root_places : Program → List Entry → List ℕ
+root_places p exports = places_in (table_of p) (roots p exports)
+
+abbrev pub picked : List ℕ → ℕ → List Part → List Part
+picked marked at [] = []
+picked marked at (x ∷ xs) = if is_among marked at then x ∷ picked marked (at + 1) xs else picked marked (at + 1) xs
+
+-- The live parts, in the order of the chunk table: those that the roots reach.
+unfoldable pub live : Program → List Entry → List Part
+live p exports = picked (reached (targets p) (root_places p exports)) 0 p.parts
+
+abbrev pub refs_of : List Part → List Ref
+refs_of parts = flat_map refs parts
+
+-- ---- what a shared output exports besides: `__wasm_call_ctors` where there are init functions, and the function that makes addresses
+-- right where it has work
+
+abbrev pub is_here : Meaning → Bool
+is_here (here e) = true
+is_here (imported k) = false
+is_here null = false
+is_here nothing = false
+
+-- A window of GLOBAL_INDEX_LEB (7) that takes the address of a function or datum from a cell.
+abbrev pub reads_cell : Ref → Bool
+reads_cell ref = (ref.kind == 7) && not (is_kind GlobalVar ref.entry)
+
+-- A segment with windows, or code that reads a cell of the link's own.
+abbrev pub needs_work : Part → Bool
+needs_work part =
+    ((part.chunk.kind == 1) && not (length part.named == 0))
+    || ((part.chunk.kind == 0) && list_any (λ ref. reads_cell ref && is_here ref.meaning) (refs part))
+
+abbrev pub has_calls : Program → Bool
+has_calls p = not (length (init_calls p.resolved) == 0)
+
+-- exported by the words or flags; or `__wasm_call_ctors` (0) where it calls, or `__wasm_apply_data_relocs` (1) where it has work
+abbrev pub is_due : Bool → Bool → Plan → Entry → Bool
+is_due calls work plan e =
+    is_exported_by plan e || ((e.input == 0) && (((e.place == 0) && calls) || ((e.place == 1) && work)))
+
+abbrev pub with_due : Program → List Entry → Bool → List Entry
+with_due p asked calls = filter (is_due calls (list_any needs_work (live p (asked ++ filter (is_due calls false p.plan) p.winners))) p.plan) p.winners
+
+-- The exported winners, by input and place.
+unfoldable pub exported : Mode → Program → List Entry
+exported Plain p = asked_exports p
+exported Shared p = with_due p (asked_exports p) (has_calls p)
+
+-- ---- code that isn't position-independent
+
+-- In a shared output a function, datum or global that the link doesn't define is foreign.
+abbrev pub is_foreign : Ref → Bool
+is_foreign ref =
+    not (is_here ref.meaning) && not (is_local_definition ref.entry.symbol)
+    && (is_kind Function ref.entry || is_kind Datum ref.entry || is_kind GlobalVar ref.entry)
+
+-- The relocation types 1, 3 and 4 hold absolute slots and addresses, and 11 and 12 hold those relative to a base, which no foreign
+-- symbol has.
+abbrev pub is_fixed : Ref → Bool
+is_fixed ref = (ref.kind == 1) || (ref.kind == 3) || (ref.kind == 4) || (((ref.kind == 11) || (ref.kind == 12)) && is_foreign ref)
+
+abbrev pub fixed_fault : Ref → Fault
+fixed_fault ref = NotPic ref.entry.input ref.entry.place ref.kind
+
+-- The least relocation in live code that a shared output can't have.
+unfoldable pub pic_fault : Mode → List Part → Option Fault
+pic_fault Plain parts = None
+pic_fault Shared parts = option_map fixed_fault (find is_fixed (refs_of (filter (λ part. part.chunk.kind == 0) parts)))
+
+-- ---- unresolved
+
+abbrev pub missing : Program → List ℕ → Option Fault
+missing p name = given (not (list_any (is_named name) p.winners)) (Unresolved name 0)
+
+abbrev pub is_open : List Ref → Entry → Bool
+is_open refs e = list_any (λ ref. is_nothing ref.meaning && same_entry ref.entry e) refs
+
+abbrev pub all_symbols : Program → List Entry
+all_symbols p = flat_map (λ r. r.symbols) p.resolved
+
+-- The first demanded name without a winner; then the least symbol, by input and place, that a live part refers to (`__wasm_call_ctors`
+-- refers to the init functions) and that means nothing.
+unfoldable pub unresolved : Program → List Part → Option Fault
+unresolved p parts = first_some
+    (first_some (map (missing p) (demanded p.plan))
+    ∷ option_map (λ e. Unresolved (name_of e) e.input) (find (is_open (refs_of parts)) (all_symbols p))
+    ∷ [])

@@ -1,0 +1,7 @@
+use Rattle.std.proofs.Common.{◌≡◌, take}
+use Rattle.std.specs.Option.{option_map}
+use Rattle.link_words.specs.Fields.{entry}
+use Rattle.link_words.proofs.fields.entry.Given as goal
+
+abbrev pub invariant-loop-item : goal.invariant-loop-item
+invariant-loop-item l = option_map (λ t. t.now) l.entry ≡ entry (option_map (λ t. t.now) l.usual) (take l.item-index l.items)

@@ -1,0 +1,112 @@
+-- Worked rows: words, and what they ask for.
+use Rattle.std.specs.Prelude.{◌≡◌, [], ◌∷◌, codes, Ok, Err, Some, None, refl, true, false}
+use Rattle.wl_base.specs.declared.usage.Usage.TheVariants.{BadThreads, UnknownOption, NoOutput, NoInput, OpenGroup, MissingValue, BadNumber, CaseAndInput}
+use Rattle.link_words.specs.Faults.{first_fault}
+use Rattle.link_words.specs.Words.{plan_of, plan_from}
+
+too_many_threads : plan_of (codes "a.o" ∷ codes "--threads=65" ∷ codes "-o" ∷ codes "b" ∷ []) ≡ Err (BadThreads 1)
+unfolding plan_of first_fault
+too_many_threads = refl
+
+unknown_option : plan_of (codes "a.o" ∷ codes "--frob" ∷ codes "-o" ∷ codes "b" ∷ []) ≡ Err (UnknownOption 1)
+unfolding plan_of first_fault
+unknown_option = refl
+
+no_output : plan_of (codes "a.o" ∷ []) ≡ Err NoOutput
+unfolding plan_of first_fault
+no_output = refl
+
+no_input : plan_of [] ≡ Err NoInput
+unfolding plan_of first_fault
+no_input = refl
+
+open_group : plan_of (codes "--start-lib" ∷ codes "a.o" ∷ codes "-o" ∷ codes "b" ∷ []) ≡ Err (OpenGroup 0)
+unfolding plan_of first_fault
+open_group = refl
+
+missing_value : plan_of (codes "a.o" ∷ codes "-o" ∷ codes "b" ∷ codes "--threads" ∷ []) ≡ Err (MissingValue 3)
+unfolding plan_of first_fault
+missing_value = refl
+
+-- behind `--` the words are inputs, whatever they begin with
+behind_dashes : plan_of (codes "--" ∷ codes "-x" ∷ codes "-o" ∷ []) ≡ Err NoOutput
+unfolding plan_of first_fault
+behind_dashes = refl
+
+no_objects : plan_of (codes "--make-case=0" ∷ []) ≡ Err (BadNumber 0)
+unfolding plan_of first_fault
+no_objects = refl
+
+case_and_input : plan_of (codes "--make-case=2" ∷ codes "a.o" ∷ []) ≡ Err CaseAndInput
+unfolding plan_of first_fault
+case_and_input = refl
+
+-- a fault of the words comes before a group that is left open, and behind a group that is closed outside of one
+group_and_missing : plan_of (codes "--start-lib" ∷ codes "-o" ∷ []) ≡ Err (MissingValue 1)
+unfolding plan_of first_fault
+group_and_missing = refl
+
+closed_outside : plan_of (codes "--end-lib" ∷ codes "--frob" ∷ []) ≡ Err (OpenGroup 0)
+unfolding plan_of first_fault
+closed_outside = refl
+
+-- decimal numbers have no needless zero, and a value may be any word
+needless_zero : plan_of (codes "a.o" ∷ codes "-o" ∷ codes "--" ∷ codes "--threads" ∷ codes "04" ∷ []) ≡ Err (BadThreads 3)
+unfolding plan_of first_fault
+needless_zero = refl
+
+-- an option without a value is given none
+value_to_none : plan_of (codes "a.o" ∷ codes "--gc-sections=" ∷ []) ≡ Err (UnknownOption 1)
+unfolding plan_of first_fault
+value_to_none = refl
+
+-- a plan of a generated case: it has no entry, and its first function is exported
+case : plan_of (codes "--export=g" ∷ codes "-z" ∷ codes "stack-size=0x20" ∷ codes "--no-gc-sections" ∷ codes "--make-case=2" ∷ codes "--export-table" ∷ [])
+    ≡ Ok (record {
+      inputs = [];
+      output = None;
+      entry = None;
+      exports = codes "f0" ∷ codes "g" ∷ codes "__indirect_function_table" ∷ [];
+      exports_if = [];
+      wanted = [];
+      export_dynamic = false;
+      allow_undefined = false;
+      import_memory = false;
+      gc = false;
+      stack_first = false;
+      global_base = None;
+      stack_size = 32;
+      initial_memory = 0;
+      max_memory = None;
+      threads = 4;
+      make_case = Some 2;
+    })
+unfolding plan_of plan_from first_fault
+case = refl
+
+-- a plan of inputs: of a repeated option the last counts, a library in a group is whole where the words before it say so
+link : plan_of (codes "a.o" ∷ codes "--start-lib" ∷ codes "b.o" ∷ codes "--whole-archive" ∷ codes "c.a" ∷ codes "--end-lib" ∷ codes "-o" ∷ codes "x"
+    ∷ codes "-o" ∷ codes "y" ∷ codes "--no-entry" ∷ codes "--entry" ∷ codes "main" ∷ codes "-u" ∷ codes "f" ∷ codes "--export-if-defined=" ∷ codes "--max-memory=0x100000000"
+    ∷ codes "--initial-memory=65536" ∷ codes "--global-base=4294967295" ∷ codes "--threads=64" ∷ codes "-m" ∷ codes "wasm32" ∷ codes "--" ∷ codes "--frob" ∷ [])
+    ≡ Ok (record {
+      inputs = record { place = 0; lazy = false; whole = false } ∷ record { place = 2; lazy = true; whole = false } ∷ record { place = 4; lazy = true; whole = true }
+          ∷ record { place = 23; lazy = false; whole = true } ∷ [];
+      output = Some (codes "y");
+      entry = Some (codes "main");
+      exports = [];
+      exports_if = [] ∷ [];
+      wanted = codes "f" ∷ [];
+      export_dynamic = false;
+      allow_undefined = false;
+      import_memory = false;
+      gc = true;
+      stack_first = false;
+      global_base = Some 4294967295;
+      stack_size = 65536;
+      initial_memory = 65536;
+      max_memory = Some 4294967296;
+      threads = 64;
+      make_case = None;
+    })
+unfolding plan_of plan_from first_fault
+link = refl

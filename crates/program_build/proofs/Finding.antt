@@ -1,0 +1,133 @@
+-- What is found is what the definition finds.
+use Rattle.std.proofs.Common.{◌≡◌, ℕ, ◌≤◌, ◌<◌, ◌^◌, ◌∙◌, List, [], ◌∷◌, ◌++◌, length, refl, sym, ap, subst, Option, Some, None, Result, Ok, Err}
+use Rattle.std.specs.Prelude.{flat_map, filter_map, IsErr}
+use Rattle.std.specs.Result.{IsErrAnd}
+use Rattle.wl_base.specs.Choice.{distinct, unless}
+use Rattle.wl_base.specs.declared.name_table.NameFault.{NameFault}
+use Rattle.wl_base.specs.declared.name_table.NameFault.TheVariants.{TooMany}
+use Rattle.wl_base.specs.declared.fault.Fault.{Fault}
+use Rattle.wl_base.specs.declared.fault.Fault.TheVariants.{TooManyNames}
+use Rattle.object_file.specs.declared.object.Object.{Object}
+use Rattle.made_symbols.specs.declared.mode.Mode.{Mode}
+use Rattle.link_names.specs.Numbered as names
+use Rattle.name_rules.specs.Entries.{entries, same_import}
+use Rattle.name_rules.specs.Meanings.{Meaning, here, imported, null, nothing}
+use Rattle.name_entries.specs.Parts.{AreParts}
+use Rattle.name_entries.specs.declared.table.EntryTable.{EntryTable}
+use Rattle.name_meanings.specs.Means.{import_meant, imports_meant}
+use Rattle.link_plan.specs.declared.plan.Plan.{Plan}
+use Rattle.link_rules.specs.Program.{Program, program_of}
+use Rattle.link_rules.specs.Keys.{import_of, imports_in_order}
+use Rattle.link_program.specs.declared.home.Home.{Home}
+use Rattle.link_program.specs.Loaded.{Origin, IsLoaded}
+use Rattle.program_build.specs.declared.error.BuildError.{BuildError}
+use Rattle.program_build.specs.declared.error.BuildError.TheVariants.{Refused, OutOfMemory}
+use Rattle.program_build.specs.declared.found.Found.{Found}
+use Rattle.program_build.specs.declared.meanings.Meanings.{Meanings}
+use Rattle.link_rules.specs.LinkOf.{asked_names, too_many_names}
+use Rattle.program_build.specs.Steps.{Numbered, names_of, case_of, AreMeanings, MeansOrRefused}
+use Rattle.program_build.specs.Found.{found_of, IsFound, Finds}
+use Rattle.program_build.proofs.Names.{few, many}
+use Rattle.program_build.proofs.Steps.{too_many, a_case}
+
+-- ---- imports
+
+import_is : (m : Meaning) → import_meant m ≡ import_of m
+import_is (here e) = refl
+import_is (imported key) = refl
+import_is null = refl
+import_is nothing = refl
+
+imports_are : (p : Program) → imports_meant (flat_map (λ r. r.meanings) p.resolved) ≡ imports_in_order p
+unfolding imports_in_order
+imports_are p = λ i. distinct same_import (filter_map (λ m. import_is m i) (flat_map (λ r. r.meanings) p.resolved))
+
+-- ---- the whole
+
+abbrev pub program : Mode → Origin → List Object → Program
+program mode origin objects = program_of mode origin.plan origin.files origin.all objects
+
+module _ (mode : Mode) (origin : Origin) (objects : List Object) where
+  entries_are : (program mode origin objects).entries ≡ entries mode (program mode origin objects).objects
+  unfolding program_of
+  entries_are = refl
+
+  is_found : (homes : List Home) (n : names.Numbered) (table : EntryTable) (m : Meanings) → IsLoaded origin.files origin.all objects homes → Numbered mode (Ok n) origin.plan objects
+      → AreMeanings mode m origin objects n.names → AreParts objects table.parts
+      → IsFound mode origin.plan objects (record { names = n; entries = table; ranks = m.ranks; resolution = m.resolution; tables = m.tables }) (program mode origin objects)
+  unfolding program_of names_of
+  is_found homes n table m loaded numbered meanings parts = record {
+    plan = refl;
+    objects = refl;
+    rise = loaded.rise;
+    entries = refl;
+    winners_are = refl;
+    resolved = refl;
+    parts_are = (origin.all, refl);
+    numbers = numbered.2;
+    order = numbered.0;
+    looked_up = parts;
+    ranks = meanings.ranked;
+    resolution = meanings.resolved;
+    imports = meanings.resolved.imports ∙ imports_are (program mode origin objects);
+    tables = meanings.tabled;
+  }
+
+  names_few : (n : names.Numbered) → Numbered mode (Ok n) origin.plan objects → too_many_names (program mode origin objects) ≡ None
+  unfolding program_of names_of
+  names_few n numbered = few mode (program mode origin objects) entries_are (subst (λ (ns : List (List ℕ)). length ns ≤ 2 ^ 24) numbered.0 numbered.1)
+
+  names_many : (fault : Fault) → Numbered mode (Err (Refused fault)) origin.plan objects → found_of (program mode origin objects) ≡ Err fault
+  unfolding program_of names_of
+  names_many fault numbered =
+      too_many (program mode origin objects) fault (many mode (program mode origin objects) entries_are numbered.1 ∙ ap (λ x. Some x) (sym numbered.0))
+
+  case_is : (n : names.Numbered) (o : Option Fault) → Numbered mode (Ok n) origin.plan objects → case_of (entries mode objects) ≡ o
+      → found_of (program mode origin objects) ≡ unless o (program mode origin objects)
+  unfolding program_of
+  case_is n o numbered is = a_case (program mode origin objects) o (names_few n numbered) is
+
+  -- ---- by what the steps answered
+
+  pub names_refused : (s : Result Found BuildError) (e : BuildError) (r : Result names.Numbered BuildError) → r ≡ Err e → Numbered mode r origin.plan objects → IsErr s × IsErrAnd s (λ b. b ≡ e)
+      → Finds mode s origin.plan objects (program mode origin objects)
+  names_refused (Ok f) e r is told was = let no = was.0 in absurd cc
+  names_refused (Err OutOfMemory) e r is told was = tt
+  names_refused (Err (Refused fault)) e r is told was =
+      let error : e ≡ Refused fault = sym was.1 in
+      names_many fault (subst (λ r. Numbered mode r origin.plan objects) (is ∙ ap (λ e. Err e) error) told)
+
+  pub meanings_refused : (n : names.Numbered) (s : Result Found BuildError) (e : BuildError) (r : Result Meanings BuildError) → Numbered mode (Ok n) origin.plan objects
+      → r ≡ Err e → MeansOrRefused mode r origin objects n.names → IsErr s × IsErrAnd s (λ b. b ≡ e) → Finds mode s origin.plan objects (program mode origin objects)
+  meanings_refused n (Ok f) e r numbered is told was = let no = was.0 in absurd cc
+  meanings_refused n (Err OutOfMemory) e r numbered is told was = tt
+  meanings_refused n (Err (Refused fault)) e r numbered is told was =
+      let error : e ≡ Refused fault = sym was.1 in
+      case_is n (Some fault) numbered (subst (λ r. MeansOrRefused mode r origin objects n.names) (is ∙ ap (λ e. Err e) error) told)
+
+  pub all_found : (homes : List Home) (n : names.Numbered) (table : EntryTable) (m : Meanings) → IsLoaded origin.files origin.all objects homes → Numbered mode (Ok n) origin.plan objects
+      → MeansOrRefused mode (Ok m) origin objects n.names → AreParts objects table.parts
+      → Finds mode (Ok (record { names = n; entries = table; ranks = m.ranks; resolution = m.resolution; tables = m.tables })) origin.plan objects (program mode origin objects)
+  all_found homes n table m loaded numbered told parts = (case_is n None numbered told.0, is_found homes n table m loaded numbered told.1 parts)
+
+-- ---- the same plan, and a view of the same objects
+
+pub seen_meanings : (mode : Mode) (origin : Origin) (plan : Plan) (objects seen : List Object) (held shown : List (List ℕ)) (r : Result Meanings BuildError) → origin.plan ≡ plan → seen ≡ objects → shown ≡ held
+    → MeansOrRefused mode r origin seen shown → MeansOrRefused mode r (record { plan = plan; files = origin.files; all = origin.all }) objects held
+seen_meanings mode origin plan objects seen held shown r same of_objects of_names told =
+    subst (λ os. MeansOrRefused mode r (record { plan = plan; files = origin.files; all = origin.all }) os held) of_objects
+    (subst (λ ns. MeansOrRefused mode r (record { plan = plan; files = origin.files; all = origin.all }) seen ns) of_names
+    (subst (λ (plan : Plan). MeansOrRefused mode r (record { plan = plan; files = origin.files; all = origin.all }) seen shown) same told))
+
+-- ---- numbers
+
+pub numbers_told : (mode : Mode) (n : names.Numbered) (words : List (List ℕ)) (plan : Plan) (objects : List Object) → words ≡ asked_names plan ++ plan.exports_if
+    → names.Numbers (Ok n) 16777216 mode words objects → Numbered mode (Ok n) plan objects
+unfolding names_of
+numbers_told mode n words plan objects are told = subst (λ ws. names.Numbers (Ok n) 16777216 mode ws objects) are told
+
+pub too_many_told : (mode : Mode) (e : NameFault) (words : List (List ℕ)) (plan : Plan) (objects : List Object) → e ≡ TooMany → words ≡ asked_names plan ++ plan.exports_if
+    → names.Numbers (Err e) 16777216 mode words objects → Numbered mode (Err (Refused TooManyNames)) plan objects
+unfolding names_of
+too_many_told mode e words plan objects is are told =
+    (refl, subst (λ ws. names.Numbers (Err TooMany) 16777216 mode ws objects) are (subst (λ e. names.Numbers (Err e) 16777216 mode words objects) is told))

@@ -1,0 +1,8 @@
+mod Lists
+mod Candidate
+mod References
+mod Windows
+mod Standing
+mod Names
+mod Steps
+mod Finding

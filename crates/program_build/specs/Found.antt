@@ -1,0 +1,54 @@
+-- What is found of the loaded objects.
+use Rattle.std.specs.Prelude.{◌≡◌, ℕ, ◌++◌, List, Result, Ok, Err}
+use Rattle.wl_base.specs.Choice.{unless, ◌>>=◌}
+use Rattle.wl_base.specs.declared.fault.Fault.{Fault}
+use Rattle.object_file.specs.declared.object.Object.{Object}
+use Rattle.made_symbols.specs.declared.mode.Mode.{Mode}
+use Rattle.lib_rounds.specs.Rounds.{Candidate}
+use Rattle.link_names.specs.Numbered.{AreNumbers, different_names}
+use Rattle.name_rules.specs.Entries.{entries}
+use Rattle.name_rules.specs.Meanings.{resolve}
+use Rattle.name_rules.specs.Cases.{clash, duplicate}
+use Rattle.name_entries.specs.View.{InputsRise, WinnersAre}
+use Rattle.name_entries.specs.Parts.{AreParts}
+use Rattle.name_meanings.specs.Means.{IsResolution}
+use Rattle.link_plan.specs.declared.plan.Plan.{Plan}
+use Rattle.link_rules.specs.Program.{Program, winners_of, parts_of}
+use Rattle.link_rules.specs.Keys.{imports_in_order}
+use Rattle.link_rules.specs.LinkOf.{asked_names, too_many_names}
+use Rattle.link_program.specs.Program.{AreTables}
+use Rattle.program_build.specs.declared.error.BuildError.{BuildError}
+use Rattle.program_build.specs.declared.error.BuildError.TheVariants.{Refused, OutOfMemory}
+use Rattle.program_build.specs.declared.found.Found.{Found}
+
+-- The first faults of a program, in this order: too many names, a clash, a duplicate.
+abbrev pub found_of : Program → Result Program Fault
+found_of p = do
+  p ← unless (too_many_names p) p
+  p ← unless (clash p.entries) p
+  unless (duplicate p.entries) p
+
+-- What was found by this plan of these objects is what the definition finds.
+pub record IsFound (mode : Mode) (asked : Plan) (loaded : List Object) (f : Found) (p : Program) : Type 0 where
+  pub plan : asked ≡ p.plan
+  pub objects : loaded ≡ p.objects
+  pub rise : InputsRise 0 p.objects
+  pub entries : p.entries ≡ entries mode p.objects
+  pub winners_are : p.winners ≡ winners_of p.entries
+  pub resolved : p.resolved ≡ resolve mode p.plan.allow_undefined p.entries p.objects
+  pub parts_are : (all : List Candidate) × (p.parts ≡ parts_of mode all p.objects p.resolved)
+  -- names, winners and meanings by number
+  pub numbers : AreNumbers mode p.objects f.names
+  pub order : f.names.names ≡ different_names mode (asked_names p.plan ++ p.plan.exports_if) p.objects
+  pub looked_up : AreParts p.objects f.entries.parts
+  pub ranks : WinnersAre f.names.names p.entries f.ranks
+  pub resolution : IsResolution f.resolution p.resolved
+  pub imports : f.resolution.imports ≡ imports_in_order p
+  -- what is looked up
+  pub tables : AreTables f.names.names f.resolution.imports f.tables p
+
+-- All is found, or the program is refused by its first fault.
+abbrev pub Finds : Mode → Result Found BuildError → Plan → List Object → Program → Type 0
+Finds mode (Ok f) plan objects p = (found_of p ≡ Ok p) × IsFound mode plan objects f p
+Finds mode (Err (Refused fault)) plan objects p = found_of p ≡ Err fault
+Finds mode (Err OutOfMemory) plan objects p = Unit {0}

@@ -1,0 +1,64 @@
+//! What is found of the loaded objects, in order: the numbers of names, the winners of groups and of names, the least clash and the least
+//! duplicate, what symbols mean, and the tables of parts.
+ghost use Rattle.std.specs.Prelude.{◌≡◌};
+ghost use Rattle.made_symbols.specs.declared.mode.Mode.TheVariants as modes;
+ghost use Rattle.link_plan.specs.Plan.{IsPlan};
+ghost use Rattle.link_rules.specs.Program.{program_of};
+ghost use Rattle.link_program.specs.Loaded.{IsLoaded, Origin};
+ghost use Rattle.program_build.specs.Found.{Finds};
+
+use crate::error::BuildError;
+use crate::found::Found;
+use crate::meanings::{Meanings, meanings_of};
+use crate::numbers::numbers_of;
+use link_plan::Plan;
+use link_program::Home;
+use made_symbols::Mode;
+use name_entries::EntryTable;
+use name_jobs::group_winners;
+use object_file::Object;
+use std::alloc::Global;
+use std::thread::Threads;
+use wl_fan::Workers;
+use wl_outside::Gate;
+
+/// What the loaded objects are as a program: the numbers of their names, who wins each name, what each symbol means, and the tables of
+/// their symbols, parts and references. `homes` has where the bytes of each candidate begin.
+///
+/// It is `Refused` by the first of these faults: there are more than 2^24 different names; two entries of one name clash; a name has two
+/// strong definitions. The races for groups and names are the gate's phases `Groups` and `Names`, by as many workers as the plan has
+/// threads; what is answered doesn't depend on their number. `origin` has the files and the candidates, by which the program is defined.
+pub fn find<G: Gate, R: Threads + Sync>(
+    rt: &R,
+    alloc: Global,
+    plan: &Plan,
+    objects: &[Object],
+    homes: &[Home],
+    gate: &G,
+) -> Result<Found, BuildError>
+    ghost origin: { Origin }
+    requires plan { IsPlan plan.now }
+    requires same { origin.plan ≡ plan.now }
+    requires loaded { IsLoaded origin.files origin.all objects.now homes.now }
+    ensures { Finds modes.Plain result plan.now objects.now (program_of modes.Plain plan.now origin.files origin.all objects.now) }
+{
+    let names = numbers_of(alloc, plan, objects, Mode::Plain)?;
+    let Some(workers) = Workers::new(plan.threads) else {
+        unreachable!()
+    };
+    let groups = group_winners(rt, alloc, objects, &names, workers, gate)?;
+    let entries = EntryTable::new(alloc, objects, &names, &groups)?;
+    let view = entries.view(objects, &names);
+    let Meanings {
+        ranks,
+        resolution,
+        tables,
+    } = meanings_of(rt, alloc, plan, view, homes, workers, gate)?;
+    Ok(Found {
+        names,
+        entries,
+        ranks,
+        resolution,
+        tables,
+    })
+}

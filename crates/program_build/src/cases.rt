@@ -1,0 +1,68 @@
+//! Entries of one name that can't stand together.
+ghost use Rattle.std.specs.Prelude.{◌≡◌, [], slice_index_or, IfOk};
+ghost use Rattle.made_symbols.specs.declared.mode.Mode.TheVariants as modes;
+ghost use Rattle.name_rules.specs.Entries.{entries};
+ghost use Rattle.name_entries.specs.Fits.{Fits};
+ghost use Rattle.name_cases.specs.Told.{clash_told, duplicate_told};
+ghost use Rattle.program_build.specs.Steps.{Passes};
+
+use crate::error::BuildError;
+use link_names::Names;
+use made_symbols::Mode;
+use name_cases::{first_clash, first_duplicate};
+use name_entries::Entries;
+use name_rules::PairCase;
+use std::alloc::Global;
+use std::thread::Threads;
+use wl_base::{Fault, OutOfMemory, Seq};
+
+/// The name of a number; the empty one where there is no such name.
+fn name_at(names: &Names, number: u32) -> &[u8]
+    ensures { result.now ≡ slice_index_or names.now.names number [] }
+{
+    if number < names.count() {
+        names.name(number)
+    } else {
+        &[]
+    }
+}
+
+/// A clash as a fault.
+fn clash_of(alloc: Global, names: &Names, case: PairCase) -> Result<Fault, OutOfMemory>
+    ensures { IfOk result (λ fault. fault ≡ clash_told names.now.names case) }
+{
+    Ok(Fault::Clash {
+        name: Seq::from_slice(alloc, name_at(names, case.name))?,
+        first: case.first,
+        other: case.other,
+    })
+}
+
+/// A duplicate as a fault.
+fn duplicate_of(alloc: Global, names: &Names, case: PairCase) -> Result<Fault, OutOfMemory>
+    ensures { IfOk result (λ fault. fault ≡ duplicate_told names.now.names case) }
+{
+    Ok(Fault::Duplicate {
+        name: Seq::from_slice(alloc, name_at(names, case.name))?,
+        first: case.first,
+        other: case.other,
+    })
+}
+
+/// Refuses the least clash, and where there is none the least duplicate.
+pub(crate) fn refuse_cases<R: Threads + Sync>(
+    rt: &R,
+    alloc: Global,
+    view: Entries<'_>,
+) -> Result<(), BuildError>
+    requires { Fits modes.Plain view }
+    ensures { Passes result (entries modes.Plain view.entry.objects.now) }
+{
+    if let Some(case) = first_clash(rt, alloc, view, Mode::Plain)? {
+        return Err(BuildError::Refused(clash_of(alloc, view.names, case)?));
+    }
+    if let Some(case) = first_duplicate(rt, alloc, view, Mode::Plain)? {
+        return Err(BuildError::Refused(duplicate_of(alloc, view.names, case)?));
+    }
+    Ok(())
+}

@@ -1,0 +1,56 @@
+//! Who wins each name, what each symbol means, and the tables of parts.
+ghost use Rattle.std.specs.Prelude.{◌≡◌};
+ghost use Rattle.made_symbols.specs.declared.mode.Mode.TheVariants as modes;
+ghost use Rattle.name_entries.specs.Fits.{Fits};
+ghost use Rattle.link_program.specs.Loaded.{IsLoaded, Origin};
+ghost use Rattle.program_build.specs.Steps.{MeansOrRefused};
+
+use crate::cases::refuse_cases;
+use crate::error::BuildError;
+use link_plan::Plan;
+use link_program::{Home, Tables};
+use made_symbols::Mode;
+use name_entries::Entries;
+use name_jobs::name_winners;
+use name_meanings::{Resolution, resolve};
+use program_tables::tables_of;
+use std::alloc::Global;
+use std::thread::Threads;
+use symbol_race::Winners;
+use wl_fan::Workers;
+use wl_outside::Gate;
+
+/// What is found by a view of the objects.
+#[derive(Drop)]
+pub(crate) struct Meanings {
+    pub(crate) ranks: Winners,
+    pub(crate) resolution: Resolution,
+    pub(crate) tables: Tables,
+}
+
+/// What is found by a view of the loaded objects, unless it is refused.
+pub(crate) fn meanings_of<G: Gate, R: Threads + Sync>(
+    rt: &R,
+    alloc: Global,
+    plan: &Plan,
+    view: Entries<'_>,
+    homes: &[Home],
+    workers: Workers,
+    gate: &G,
+) -> Result<Meanings, BuildError>
+    ghost origin: { Origin }
+    requires same { origin.plan ≡ plan.now }
+    requires fits { Fits modes.Plain view }
+    requires loaded { IsLoaded origin.files origin.all view.objects.now homes.now }
+    ensures { MeansOrRefused modes.Plain result origin view.entry.objects.now view.entry.names.now.names }
+{
+    let ranks = name_winners(rt, alloc, view, Mode::Plain, workers, gate)?;
+    refuse_cases(rt, alloc, view)?;
+    let resolution = resolve(alloc, view, &ranks, plan.allow_undefined, Mode::Plain)?;
+    let tables = tables_of(alloc, view, &ranks, &resolution, homes)?;
+    Ok(Meanings {
+        ranks,
+        resolution,
+        tables,
+    })
+}

@@ -1,0 +1,182 @@
+-- What the answers of a resolution lead to.
+use Rattle.std.proofs.Common.{◌≡◌, ℕ, zero, suc, ◌+◌, ◌<◌, ◌∙◌, Bool, List, [], ◌∷◌, refl, ap, sym, subst, arith, Option, Some, None, length, inl, inr}
+use Rattle.std.specs.Prelude.{slice_get, flat_map, map, filter_map, option_map, unwrap_or, is_some}
+use Rattle.std.specs.List.{AllZip}
+use Rattle.std.proofs.lemmas.List.{length-map}
+use Rattle.std.proofs.lemmas.Option.{same_Some, slice_get_within, slice_get-map}
+use Rattle.linking_section.specs.declared.symbol.Symbol.{Symbol as SymbolOf}
+use Rattle.object_file.specs.declared.object.Object.{Object}
+use Rattle.made_symbols.specs.declared.mode.Mode.TheVariants.{Plain}
+use Rattle.made_symbols.specs.Made.{made, made_at}
+use Rattle.name_rules.specs.declared.meaning.Meaning.{Meaning as Answer}
+use Rattle.name_rules.specs.declared.meaning.Meaning.TheVariants.{Here, Made, Import, Null, Nothing}
+use Rattle.name_rules.specs.Entries.{Entry, ImportKey, symbols_of, entry_in, entries_from, entries, made_entry}
+use Rattle.name_rules.specs.Meanings.{Meaning, here, imported, null, nothing, Resolved, resolve, resolved_in, meaning, no_uses}
+use Rattle.name_entries.specs.View.{InputsRise, entry_at}
+use Rattle.name_entries.proofs.Found.{mapped}
+use Rattle.name_entries.proofs.Rows.{no_entry}
+use Rattle.name_meanings.specs.Means.{Means, Answers, row_of, answer_at, IsResolution, import_meant, imports_meant}
+use Rattle.link_program.specs.declared.symbol.Symbol.{Symbol}
+use Rattle.link_program.specs.declared.symbol.Lead.TheVariants as leads
+use Rattle.link_program.specs.Told.{told_definition, told_lead, told_symbol, told_all, told_symbols}
+use Rattle.program_tables.specs.Objects.{symbol_of}
+use Rattle.program_tables.specs.Leads.{no_definition, lead_from, IsThere, AreAnswered}
+use Rattle.program_tables.specs.declared.symbols.Sources.{Sources}
+use Rattle.program_tables.specs.Symbols.{symbols_of as all_symbols, symbol_of as source_symbol}
+use Rattle.program_tables.proofs.Lists.{Each, each_from, each_at, zip_at}
+use Rattle.program_tables.proofs.There.{row_at, OfObject, Stands, MeansThere, object_stands, meaning_stands, found_there, no_input, linker_input}
+use Rattle.program_tables.proofs.Imports.{Differ, all_differ, number_is}
+
+-- ---- one answer
+
+-- An answer is there, and leads where the meaning does.
+pub record LeadsTo (objects : List Object) (imports : List ImportKey) (answer : Answer) (m : Meaning) : Type 0 where
+  pub lead : lead_from objects answer ≡ told_lead imports m
+  pub there : IsThere objects answer
+
+here_leads : (objects : List Object) (imports : List ImportKey) (input place : ℕ) (d : Entry) → InputsRise 0 objects → d.input ≡ input → d.place ≡ place → 0 < input → Stands objects d
+    → LeadsTo objects imports (Here input place) (here d)
+here_leads objects imports input place d rise is_input is_place some (inl a) = let none = linker_input d a in absurd (omega arith)
+here_leads objects imports input place d rise is_input is_place some (inr a) =
+    let found : symbol_of objects input place ≡ Some d =
+    ap (λ n. symbol_of objects n place) (sym is_input) ∙ ap (symbol_of objects d.input) (sym is_place) ∙ found_there objects d rise a in
+    record {
+      lead = ap (λ o. leads.Here (unwrap_or (option_map told_definition o) no_definition)) found;
+      there = (a.place, a.object, a.at, sym a.input ∙ is_input, ap is_some (ap (entry_at objects a.place) (sym is_place) ∙ a.there));
+    }
+
+made_leads : (objects : List Object) (imports : List ImportKey) (number : ℕ) (d : Entry) → InputsRise 0 objects → d.input ≡ 0 → d.place ≡ number → Stands objects d
+    → LeadsTo objects imports (Made number) (here d)
+made_leads objects imports number d rise is_input is_place (inr a) = let some = no_input objects d rise a in absurd (omega arith)
+made_leads objects imports number d rise is_input is_place (inl a) =
+    record {
+      lead = ap (λ n. leads.Here (told_definition (made_entry n (made_at Plain n)))) (sym is_place) ∙ ap (λ e. leads.Here (told_definition e)) (sym a.is);
+      there = subst (λ n. n < length (made Plain)) is_place a.below;
+    }
+
+leads_to : (objects : List Object) (imports : List ImportKey) (metas : List Meaning) (answer : Answer) (m : Meaning) → InputsRise 0 objects → imports ≡ imports_meant metas
+    → Means imports answer m → MeansThere objects m → LeadsTo objects imports answer m
+leads_to objects imports metas (Here input place) (here d) rise are means stands = here_leads objects imports input place d rise means.0 means.1 means.2 stands
+leads_to objects imports metas (Made number) (here d) rise are means stands = made_leads objects imports number d rise means.0 means.1 stands
+leads_to objects imports metas (Import number) (imported key) rise are means stands =
+    record {
+      lead = ap leads.Import (sym (number_is imports number key (subst Differ (sym are) (all_differ (filter_map import_meant metas))) means));
+      there = tt;
+    }
+leads_to objects imports metas Null null rise are means stands = record { lead = refl; there = tt }
+leads_to objects imports metas Nothing nothing rise are means stands = record { lead = refl; there = tt }
+leads_to objects imports metas (Here i s) (imported key) rise are means stands = absurd means
+leads_to objects imports metas (Here i s) null rise are means stands = absurd means
+leads_to objects imports metas (Here i s) nothing rise are means stands = absurd means
+leads_to objects imports metas (Made k) (imported key) rise are means stands = absurd means
+leads_to objects imports metas (Made k) null rise are means stands = absurd means
+leads_to objects imports metas (Made k) nothing rise are means stands = absurd means
+leads_to objects imports metas (Import n) (here e) rise are means stands = absurd means
+leads_to objects imports metas (Import n) null rise are means stands = absurd means
+leads_to objects imports metas (Import n) nothing rise are means stands = absurd means
+leads_to objects imports metas Null (here e) rise are means stands = absurd means
+leads_to objects imports metas Null (imported key) rise are means stands = absurd means
+leads_to objects imports metas Null nothing rise are means stands = absurd means
+leads_to objects imports metas Nothing (here e) rise are means stands = absurd means
+leads_to objects imports metas Nothing (imported key) rise are means stands = absurd means
+leads_to objects imports metas Nothing null rise are means stands = absurd means
+
+-- ---- the answers of all symbols
+
+abbrev pub meant : List Object → Bool → Entry → Meaning
+meant objects allow e = meaning Plain no_uses allow (entries Plain objects) e
+
+abbrev pub resolved_of : List Object → Bool → Object → Resolved
+resolved_of objects allow o = resolved_in Plain no_uses allow (entries Plain objects) objects o
+
+abbrev pub IsMeant : List Object → Bool → Answers → Type 0
+IsMeant objects allow r = IsResolution r (resolve Plain allow (entries Plain objects) objects)
+
+row_means : (objects : List Object) (allow : Bool) (r : Answers) (i : ℕ) (o : Object) → IsMeant objects allow r → slice_get objects i ≡ Some o
+    → AllZip (Means r.imports) (row_of r.rows o.input) (map (meant objects allow) (symbols_of objects o))
+unfolding resolve
+row_means objects allow r i o is at =
+    let within = slice_get_within objects i o at in
+    let counted : length (map (resolved_of objects allow) objects) ≡ length objects = length-map objects (resolved_of objects allow) in
+    let d = resolved_of objects allow o in
+    subst (λ (x : Resolved). AllZip (Means r.imports) (row_of r.rows x.object.input) x.meanings) (mapped (resolved_of objects allow) objects i o d at)
+    (is.meanings i d (omega arith))
+
+each_place : (objects : List Object) (o : Object) (start : ℕ) (ss : List SymbolOf) (k : ℕ) (e : Entry) → slice_get (entries_from objects o start ss) k ≡ Some e
+    → (e.place ≡ start + k) × (e.input ≡ o.input)
+each_place objects o start [] k e at = let lt = slice_get_within [] k e at in absurd (omega arith)
+each_place objects o start (s ∷ ss) zero e at =
+    let same : entry_in objects o start s ≡ e = same_Some (entry_in objects o start s) e at in
+    let z : start ≡ start + 0 = omega arith in
+    (ap (λ (x : Entry). x.place) (sym same) ∙ z, ap (λ (x : Entry). x.input) (sym same))
+each_place objects o start (s ∷ ss) (suc k) e at =
+    let rest = each_place objects o (start + 1) ss k e at in
+    let z : start + 1 + k ≡ start + suc k = omega arith in
+    (rest.0 ∙ z, rest.1)
+
+placed : (objects : List Object) (o : Object) (k : ℕ) (e : Entry) → slice_get (symbols_of objects o) k ≡ Some e → (e.place ≡ k) × (e.input ≡ o.input)
+placed objects o k e there = let both = each_place objects o 0 o.symbols k e there in let z : 0 + k ≡ k = omega arith in (both.0 ∙ z, both.1)
+
+-- What is answered for a symbol.
+pub record Answered (objects : List Object) (r : Answers) (m : Meaning) (e : Entry) : Type 0 where
+  pub answer : Answer
+  pub at : answer_at r e.input e.place ≡ Some answer
+  pub leads : LeadsTo objects r.imports answer m
+
+imports_are : (objects : List Object) (allow : Bool) (r : Answers) → IsMeant objects allow r → (metas : List Meaning) × (r.imports ≡ imports_meant metas)
+imports_are objects allow r is = (flat_map (λ (x : Resolved). x.meanings) (resolve Plain allow (entries Plain objects) objects), is.imports)
+
+pub symbol_answered : (objects : List Object) (allow : Bool) (r : Answers) (i k : ℕ) (o : Object) (e : Entry) → InputsRise 0 objects → IsMeant objects allow r → slice_get objects i ≡ Some o
+    → slice_get (symbols_of objects o) k ≡ Some e → Answered objects r (meant objects allow e) e
+symbol_answered objects allow r i k o e rise is at there =
+    let stands = each_at (OfObject objects) (symbols_of objects o) k e (object_stands objects i o at) there in
+    let place : e.place ≡ k = (placed objects o k e there).0 in
+    let input : e.input ≡ o.input = (placed objects o k e there).1 in
+    let m_at : slice_get (map (meant objects allow) (symbols_of objects o)) k ≡ Some (meant objects allow e) =
+    slice_get-map (meant objects allow) (symbols_of objects o) k ∙ ap (option_map (meant objects allow)) there in
+    let found = zip_at (Means r.imports) (row_of r.rows o.input) (map (meant objects allow) (symbols_of objects o)) k (meant objects allow e) (row_means objects allow r i o is at) m_at in
+    let metas = imports_are objects allow r is in
+    record {
+      answer = found.0;
+      at = ap (λ n. answer_at r n e.place) input ∙ ap (answer_at r o.input) place ∙ found.1;
+      leads = leads_to objects r.imports metas.0 found.0 (meant objects allow e) rise metas.1 found.2 (meaning_stands objects allow e stands);
+    }
+
+-- ---- together
+
+pub are_answered : (objects : List Object) (allow : Bool) (r : Answers) → InputsRise 0 objects → IsMeant objects allow r → AreAnswered objects r
+are_answered objects allow r rise is i k e at = by (slice_get objects i) refl
+  where
+    by : (o : Option Object) → slice_get objects i ≡ o → (answer : Answer) × (answer_at r e.input e.place ≡ Some answer) × IsThere objects answer
+    by None none = absurd (let x = sym (no_entry objects i k none) ∙ at in let y : None ≡ Some e = x in cc)
+    by (Some o) there =
+        let a = symbol_answered objects allow r i k o e rise is there (ap (λ l. slice_get l k) (sym (row_at objects i o there)) ∙ at) in
+        (a.answer, a.at, a.leads.there)
+
+told_row : (names : List (List ℕ)) (imports : List ImportKey) (m : Entry → Meaning) (f : Entry → Symbol) (es : List Entry) → Each (λ e. f e ≡ told_symbol names imports e (m e)) es
+    → map f es ≡ told_all names imports es (map m es)
+told_row names imports m f [] all = refl
+told_row names imports m f (e ∷ es) all = rw (all.0, told_row names imports m f es all.1) refl
+
+told_rows : (s : Sources) (allow : Bool) (os : List Object) (i : ℕ) → InputsRise 0 s.entries.objects.now → IsMeant s.entries.objects.now allow s.resolution.now
+    → ((j : ℕ) → slice_get os j ≡ slice_get s.entries.objects.now (i + j))
+    → flat_map (λ row. map (source_symbol s) row) (map (symbols_of s.entries.objects.now) os)
+    ≡ told_symbols s.entries.names.now.names s.resolution.now.imports (map (resolved_of s.entries.objects.now allow) os)
+told_rows s allow [] i rise is same = refl
+told_rows s allow (o ∷ os) i rise is same =
+    let objects = s.entries.objects.now in
+    let e : i + 0 ≡ i = omega arith in
+    let first : slice_get objects i ≡ Some o = ap (slice_get objects) (sym e) ∙ sym (same zero) in
+    let each = each_from (λ x. source_symbol s x ≡ told_symbol s.entries.names.now.names s.resolution.now.imports x (meant objects allow x)) (symbols_of objects o)
+    (λ k x there. let a = symbol_answered objects allow s.resolution.now i k o x rise is first there in
+    rw (a.at, a.leads.lead) refl) in
+    rw (
+      told_row s.entries.names.now.names s.resolution.now.imports (meant objects allow) (source_symbol s) (symbols_of objects o) each,
+      told_rows s allow os (i + 1) rise is (λ j. let f : i + suc j ≡ i + 1 + j = omega arith in same (suc j) ∙ ap (slice_get objects) f),
+    ) refl
+
+pub symbols_told : (s : Sources) (allow : Bool) → InputsRise 0 s.entries.objects.now → IsMeant s.entries.objects.now allow s.resolution.now
+    → all_symbols s ≡ told_symbols s.entries.names.now.names s.resolution.now.imports (resolve Plain allow (entries Plain s.entries.objects.now) s.entries.objects.now)
+unfolding resolve
+symbols_told s allow rise is =
+    told_rows s allow s.entries.objects.now 0 rise is (λ j. let e : j ≡ 0 + j = omega arith in ap (slice_get s.entries.objects.now) e)

@@ -1,0 +1,28 @@
+-- The call of an init function.
+use Rattle.std.proofs.Common.{◌≡◌, ℕ, ◌+◌, Bool, ◌||◌, ◌∙◌, List, ap, sym, Some}
+use Rattle.std.specs.Prelude.{slice_get, option_and_then, pos}
+use Rattle.wl_base.specs.Choice.{given}
+use Rattle.linking_section.specs.declared.symbol.Symbol.{Symbol}
+use Rattle.linking_section.specs.declared.init.InitFunc.{InitFunc}
+use Rattle.linking_section.specs.Flags.{is_undefined}
+use Rattle.object_columns.specs.Seen.{symbol_seen}
+use Rattle.object_file.specs.declared.object.Object.{Object}
+use Rattle.name_rules.specs.Entries.{Entry}
+use Rattle.name_rules.specs.Meanings.{is_init_use}
+use Rattle.name_entries.specs.View.{entry_at}
+use Rattle.name_entries.specs.Shown.{Shows}
+use Rattle.name_entries.specs.declared.entry.EntryRef.{EntryRef}
+use Rattle.link_program.specs.declared.named.Named.TheVariants as items
+use Rattle.program_tables.specs.Views.{View}
+use Rattle.program_tables.specs.Inits.{call_by, call_of}
+use Rattle.program_tables.proofs.There.{row_at}
+
+pub used_is : (r : EntryRef) (e : Entry) (names : List (List ℕ)) → Shows names r e → r.defines || is_undefined (symbol_seen r.symbol) ≡ is_init_use e
+used_is r e names shows =
+    ap (λ d. d || is_undefined (symbol_seen r.symbol)) shows.defines ∙ ap (λ (s : Symbol). e.defines || is_undefined s) shows.symbol
+
+pub called : (objects : List Object) (v : View) (i : InitFunc) (object : ℕ) (e : Entry) (used : Bool) → slice_get objects object ≡ Some v.object → entry_at objects object i.symbol ≡ Some e → used ≡ is_init_use e
+    → call_of objects v i ≡ given used (record { priority = i.priority; named = items.Symbol 0 0 (pos 0) (v.first + i.symbol) })
+called objects v i object e used at there is =
+    ap (option_and_then (call_by v i)) (ap (λ l. slice_get l i.symbol) (sym (row_at objects object v.object at)) ∙ there)
+    ∙ ap (λ b. given b (record { priority = i.priority; named = items.Symbol 0 0 (pos 0) (v.first + i.symbol) })) (sym is)

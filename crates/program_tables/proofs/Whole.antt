@@ -1,0 +1,269 @@
+-- All parts, from the parts of each object.
+use Rattle.std.proofs.Common.{◌≡◌, ℕ, zero, suc, ◌+◌, ◌-◌, ◌<◌, ◌≤◌, Bool, true, false, ◌∙◌, List, [], ◌∷◌, ◌++◌, refl, ap, sym, subst, arith, Option, Some, None, length, get_or, take}
+use Rattle.std.specs.Prelude.{◌==◌, ◌&&◌, nat_le, slice_get, map, flat_map, option_map, if◌then◌else◌}
+use Rattle.std.specs.List.{AllZip}
+use Rattle.std.proofs.lemmas.Grind.{flat_map-append}
+use Rattle.std.proofs.lemmas.List.{length-map, map-append, append-nil, take_all}
+use Rattle.std.proofs.lemmas.Option.{same_Some, slice_get_within, slice_get-map}
+use Rattle.wasm_types.specs.declared.function.FuncType.{FuncType}
+use Rattle.linking_section.specs.declared.symbol.Symbol.{Symbol as SymbolOf}
+use Rattle.linking_section.specs.declared.symbol.SymbolKind.TheVariants.{Function}
+use Rattle.object_file.specs.declared.object.Object.{Object}
+use Rattle.object_file.specs.Spaces.{function_imports}
+use Rattle.made_symbols.specs.declared.mode.Mode.TheVariants.{Plain}
+use Rattle.made_symbols.specs.Made.{MadeSymbol, made}
+use Rattle.name_rules.specs.Entries.{Entry, symbols_of, entries, entries_from}
+use Rattle.name_rules.specs.Meanings.{Meaning, Resolved, resolve}
+use Rattle.name_entries.specs.View.{InputsRise, rows_of}
+use Rattle.name_entries.specs.Parts.{AreParts}
+use Rattle.name_entries.specs.declared.parts.ObjectParts.{ObjectParts}
+use Rattle.name_entries.proofs.Found.{counted}
+use Rattle.lib_rounds.specs.Rounds.{Candidate}
+use Rattle.link_rules.specs.Program as rules
+use Rattle.link_rules.specs.Program.{parts_in, parts_of, init_calls, init_calls_in, insert_call, by_priority, made_part, made_parts_from, made_kind, option_onto, a_symbol, linker_made, no_source}
+use Rattle.link_program.specs.declared.named.Named.{Named}
+use Rattle.link_program.specs.declared.part.Content.TheVariants as contents
+use Rattle.link_program.specs.Loaded.{home_of}
+use Rattle.link_program.specs.Told.{told_symbol}
+use Rattle.program_tables.specs.declared.symbols.Sources.{Sources}
+use Rattle.program_tables.specs.declared.inits.InitCall.{InitCall}
+use Rattle.program_tables.specs.declared.view.Lookups.{Lookups}
+use Rattle.program_tables.specs.Symbols.{symbols_of as all_symbols, symbol_of as source_symbol, starts}
+use Rattle.program_tables.specs.Types.{AreTyped}
+use Rattle.program_tables.specs.Views.{View, view_at}
+use Rattle.program_tables.specs.Rows.{Row, made_rows, rows_of_view, rows_upto, all_rows}
+use Rattle.program_tables.specs.Inits.{insert_by, by_key, priority_of, named_of, calls_in, calls_of, calls_upto, call_names}
+use Rattle.program_tables.proofs.Lists.{at_take, in_rows, zip_append}
+use Rattle.program_tables.proofs.Steps.{item_at}
+use Rattle.program_tables.proofs.There.{above}
+use Rattle.program_tables.proofs.Answered.{meant, resolved_of, IsMeant, symbol_answered}
+use Rattle.program_tables.proofs.Typed.{Numbered, type_is, source_is}
+use Rattle.program_tables.proofs.Rows.{IsView, ShowsNamed, ShowsPart, ShowsCall, rows_shown, calls_shown}
+
+-- ---- views
+
+-- What is looked up is that of the objects.
+pub record AreLookups (s : Sources) (types : List FuncType) (all : List Candidate) (allow : Bool) (l : Lookups) : Type 0 where
+  pub entries : l.entries ≡ s.entries
+  pub rise : InputsRise 0 s.entries.objects.now
+  pub meant : IsMeant s.entries.objects.now allow s.resolution.now
+  pub parts : AreParts s.entries.objects.now s.entries.parts.now
+  pub firsts : l.firsts.now ≡ starts 0 (rows_of s.entries.objects.now)
+  pub typed : AreTyped types l.types.now s.entries.objects.now
+  pub homes : l.homes.now ≡ map home_of all
+  pub numbered : Numbered 1 all
+
+row_length : (objects : List Object) (o : Object) (k : ℕ) (ss : List SymbolOf) → length (entries_from objects o k ss) ≡ length ss
+row_length objects o k [] = refl
+row_length objects o k (s ∷ ss) = ap suc (row_length objects o (k + 1) ss)
+
+starts_map : {A B : Type 0} (f : A → B) (at : ℕ) (rows : List (List A)) → starts at (map (map f) rows) ≡ starts at rows
+starts_map f at [] = refl
+starts_map f at (row ∷ rows) = ap (λ l. at ∷ l) (ap (λ n. starts (at + n) (map (map f) rows)) (length-map row f) ∙ starts_map f (at + length row) rows)
+
+flat_rows : {A B : Type 0} (f : A → B) (rows : List (List A)) → flat_map (λ r. r) (map (map f) rows) ≡ flat_map (λ row. map f row) rows
+flat_rows f [] = refl
+flat_rows f (row ∷ rows) = ap (λ l. map f row ++ l) (flat_rows f rows)
+
+symbol_at : (s : Sources) (i k : ℕ) (o : Object) (e : Entry) → slice_get s.entries.objects.now i ≡ Some o → slice_get (symbols_of s.entries.objects.now o) k ≡ Some e
+    → slice_get (all_symbols s) (get_or (starts 0 (rows_of s.entries.objects.now)) i 0 + k) ≡ Some (source_symbol s e)
+symbol_at s i k o e at there =
+    let objects = s.entries.objects.now in
+    let rows = map (map (source_symbol s)) (rows_of objects) in
+    let row : slice_get rows i ≡ Some (map (source_symbol s) (symbols_of objects o)) =
+    slice_get-map (map (source_symbol s)) (rows_of objects) i ∙ ap (option_map (map (source_symbol s))) (slice_get-map (symbols_of objects) objects i ∙ ap (option_map (symbols_of objects)) at) in
+    let item : slice_get (map (source_symbol s) (symbols_of objects o)) k ≡ Some (source_symbol s e) =
+    slice_get-map (source_symbol s) (symbols_of objects o) k ∙ ap (option_map (source_symbol s)) there in
+    ap (λ l. slice_get l (get_or (starts 0 (rows_of objects)) i 0 + k)) (sym (flat_rows (source_symbol s) (rows_of objects)))
+    ∙ ap (λ l. slice_get (flat_map (λ r. r) rows) (get_or l i 0 + k)) (sym (starts_map (source_symbol s) 0 (rows_of objects)))
+    ∙ in_rows rows i k (map (source_symbol s) (symbols_of objects o)) (source_symbol s e) row item
+
+told_there : (s : Sources) (allow : Bool) (i k : ℕ) (o : Object) (e : Entry) (m : Meaning) → InputsRise 0 s.entries.objects.now → IsMeant s.entries.objects.now allow s.resolution.now
+    → slice_get s.entries.objects.now i ≡ Some o → slice_get (symbols_of s.entries.objects.now o) k ≡ Some e
+    → slice_get (map (meant s.entries.objects.now allow) (symbols_of s.entries.objects.now o)) k ≡ Some m
+    → slice_get (all_symbols s) (get_or (starts 0 (rows_of s.entries.objects.now)) i 0 + k) ≡ Some (told_symbol s.entries.names.now.names s.resolution.now.imports e m)
+told_there s allow i k o e m rise is at there means =
+    let objects = s.entries.objects.now in
+    let a = symbol_answered objects allow s.resolution.now i k o e rise is at there in
+    let same : meant objects allow e ≡ m =
+    same_Some (meant objects allow e) m (sym (slice_get-map (meant objects allow) (symbols_of objects o) k ∙ ap (option_map (meant objects allow)) there) ∙ means) in
+    let symbol : source_symbol s e ≡ told_symbol s.entries.names.now.names s.resolution.now.imports e (meant objects allow e) = rw (a.at, a.leads.lead) refl in
+    symbol_at s i k o e at there ∙ ap Some (symbol ∙ ap (told_symbol s.entries.names.now.names s.resolution.now.imports e) same)
+
+-- a view of an object, and what its numbers stand for
+pub record ViewOf (s : Sources) (types : List FuncType) (all : List Candidate) (allow : Bool) (l : Lookups) (i : ℕ) (o : Object) : Type 0 where
+  pub view : View
+  pub at : view_at l i ≡ Some view
+  pub is : IsView s.entries.names.now.names s.resolution.now.imports (all_symbols s) types all s.entries.objects.now (resolved_of s.entries.objects.now allow o) view
+
+part_at : (objects : List Object) (parts : List ObjectParts) (i : ℕ) (o : Object) → AreParts objects parts → slice_get objects i ≡ Some o → (p : ObjectParts) × (slice_get parts i ≡ Some p)
+part_at objects parts i o are at =
+    let within = slice_get_within objects i o at in
+    let many = are.count in
+    item_at parts i (omega arith)
+
+view_of : (s : Sources) (types : List FuncType) (all : List Candidate) (allow : Bool) (l : Lookups) (i : ℕ) (o : Object) → AreLookups s types all allow l → slice_get s.entries.objects.now i ≡ Some o
+    → ViewOf s types all allow l i o
+view_of s types all allow l i o are at =
+    let objects = s.entries.objects.now in
+    let found = part_at objects s.entries.parts.now i o are.parts at in
+    let p = found.0 in
+    let each = are.parts.each i o p at found.1 in
+    let there : slice_get l.entries.objects.now i ≡ Some o = ap (λ es. slice_get es.objects.now i) are.entries ∙ at in
+    let parts_there : slice_get l.entries.parts.now i ≡ Some p = ap (λ es. slice_get es.parts.now i) are.entries ∙ found.1 in
+    record {
+      view = record { object = o; parts = p; first = get_or l.firsts.now i 0; types = get_or l.types.now i []; home = slice_get l.homes.now (o.input - 1) };
+      at = rw (there, parts_there) refl;
+      is = record {
+        object = refl;
+        row = refl;
+        entries = row_length objects o 0 o.symbols;
+        meanings = length-map (symbols_of objects o) (meant objects allow) ∙ row_length objects o 0 o.symbols;
+        told = λ k e m at_e at_m.
+            ap (λ fs. slice_get (all_symbols s) (get_or fs i 0 + k)) are.firsts ∙ told_there s allow i k o e m are.rise are.meant at at_e at_m;
+        typed = λ index. type_is types l.types.now objects i o index are.typed at;
+        source = λ span. source_is l.homes.now all o.input span are.homes are.numbered (above 0 objects i o are.rise at);
+        parts = each;
+        imported = counted o.imports (function_imports o) p.imports.functions (each.imports Function);
+      };
+    }
+
+-- ---- objects in turn
+
+module _ (s : Sources) (types : List FuncType) (all : List Candidate) (allow : Bool) (l : Lookups) (are : AreLookups s types all allow l) where
+  abbrev objects_of : List Object
+  objects_of = s.entries.objects.now
+
+  abbrev Shows : Row → rules.Part → Type 0
+  Shows = ShowsPart (all_symbols s) types s.entries.names.now.names s.resolution.now.imports
+
+  abbrev Calls : InitCall → rules.InitCall → Type 0
+  Calls = ShowsCall (all_symbols s) types s.entries.names.now.names s.resolution.now.imports
+
+  abbrev first_resolved : ℕ → List Resolved
+  first_resolved n = map (resolved_of objects_of allow) (take n objects_of)
+
+  one_more : (n : ℕ) (o : Object) → slice_get objects_of n ≡ Some o → first_resolved (suc n) ≡ first_resolved n ++ resolved_of objects_of allow o ∷ []
+  one_more n o at =
+      ap (λ k. map (resolved_of objects_of allow) (take k objects_of)) (let e : suc n ≡ n + 1 = omega arith in e)
+      ∙ ap (map (resolved_of objects_of allow)) (at_take objects_of n o at)
+      ∙ map-append (resolved_of objects_of allow) (take n objects_of) (o ∷ [])
+
+  more_flat : {B : Type 0} (f : Resolved → List B) (n : ℕ) (o : Object) → slice_get objects_of n ≡ Some o
+      → flat_map f (first_resolved (suc n)) ≡ flat_map f (first_resolved n) ++ f (resolved_of objects_of allow o)
+  more_flat f n o at =
+      ap (flat_map f) (one_more n o at) ∙ flat_map-append f (first_resolved n) (resolved_of objects_of allow o ∷ [])
+      ∙ ap (λ x. flat_map f (first_resolved n) ++ x) (append-nil (f (resolved_of objects_of allow o)))
+
+  object_at : (n : ℕ) → n < length objects_of → (o : Object) × (slice_get objects_of n ≡ Some o)
+  object_at n lt = item_at objects_of n lt
+
+  rows_to : (n : ℕ) → n ≤ length objects_of → AllZip Shows (rows_upto l n) (flat_map (parts_in all objects_of) (first_resolved n))
+  rows_to zero le = tt
+  rows_to (suc n) le =
+      let (o, at) = object_at n (omega arith) in
+      let v = view_of s types all allow l n o are at in
+      let row : AllZip Shows (rows_of_view (view_at l n)) (parts_in all objects_of (resolved_of objects_of allow o)) =
+      subst (λ x. AllZip Shows (rows_of_view x) (parts_in all objects_of (resolved_of objects_of allow o))) (sym v.at)
+      (rows_shown s.entries.names.now.names s.resolution.now.imports (all_symbols s) types all objects_of (resolved_of objects_of allow o) v.view v.is) in
+      subst (λ x. AllZip Shows (rows_upto l n ++ rows_of_view (view_at l n)) x) (sym (more_flat (parts_in all objects_of) n o at))
+      (zip_append Shows (rows_upto l n) (rows_of_view (view_at l n)) (flat_map (parts_in all objects_of) (first_resolved n)) (parts_in all objects_of (resolved_of objects_of allow o))
+      (rows_to n (omega arith)) row)
+
+  calls_to : (n : ℕ) → n ≤ length objects_of → AllZip Calls (calls_upto l n) (flat_map init_calls_in (first_resolved n))
+  calls_to zero le = tt
+  calls_to (suc n) le =
+      let (o, at) = object_at n (omega arith) in
+      let v = view_of s types all allow l n o are at in
+      let r = resolved_of objects_of allow o in
+      let row : AllZip Calls (calls_of l n) (init_calls_in r) =
+      subst (λ x. AllZip Calls (calls_in l.entries.objects.now x) (init_calls_in r)) (sym v.at)
+      (subst (λ es. AllZip Calls (calls_in es.objects.now (Some v.view)) (init_calls_in r)) (sym are.entries)
+      (calls_shown s.entries.names.now.names s.resolution.now.imports (all_symbols s) types all objects_of r v.view v.is)) in
+      subst (λ x. AllZip Calls (calls_upto l n ++ calls_of l n) x) (sym (more_flat init_calls_in n o at))
+      (zip_append Calls (calls_upto l n) (calls_of l n) (flat_map init_calls_in (first_resolved n)) (init_calls_in r) (calls_to n (omega arith)) row)
+
+  all_resolved : first_resolved (length objects_of) ≡ map (resolved_of objects_of allow) objects_of
+  all_resolved = ap (map (resolved_of objects_of allow)) (take_all (length objects_of) objects_of (omega arith))
+
+  -- ---- the calls in order
+
+  inserted : (kept other : Bool) (c e : InitCall) (d f : rules.InitCall) (cs more : List InitCall) (ds others : List rules.InitCall) → kept ≡ other → Calls c d → Calls e f → AllZip Calls cs ds → AllZip Calls more others
+      → AllZip Calls (if kept then c ∷ e ∷ cs else e ∷ more) (if other then d ∷ f ∷ ds else f ∷ others)
+  inserted true true c e d f cs more ds others same first second rest put = (first, (second, rest))
+  inserted false false c e d f cs more ds others same first second rest put = (second, put)
+  inserted true false c e d f cs more ds others same first second rest put = absurd cc
+  inserted false true c e d f cs more ds others same first second rest put = absurd cc
+
+  insert_shown : (c : InitCall) (d : rules.InitCall) (cs : List InitCall) (ds : List rules.InitCall) → Calls c d → AllZip Calls cs ds → AllZip Calls (insert_by priority_of c cs) (insert_call d ds)
+  insert_shown c d [] [] first all = (first, tt)
+  insert_shown c d [] (f ∷ ds) first all = absurd all
+  insert_shown c d (e ∷ cs) [] first all = absurd all
+  insert_shown c d (e ∷ cs) (f ∷ ds) first all =
+      inserted (nat_le c.priority e.priority) (nat_le d.priority f.priority) c e d f cs (insert_by priority_of c cs) ds (insert_call d ds)
+      (rw (first.priority, all.0.priority) refl) first all.0 all.1 (insert_shown c d cs ds first all.1)
+
+  sorted_shown : (cs : List InitCall) (ds : List rules.InitCall) → AllZip Calls cs ds → AllZip Calls (by_key priority_of cs) (by_priority ds)
+  sorted_shown [] [] all = tt
+  sorted_shown [] (d ∷ ds) all = absurd all
+  sorted_shown (c ∷ cs) [] all = absurd all
+  sorted_shown (c ∷ cs) (d ∷ ds) all = insert_shown c d (by_key priority_of cs) (by_priority ds) all.0 (sorted_shown cs ds all.1)
+
+  abbrev ShowsOne : Named → rules.Named → Type 0
+  ShowsOne = ShowsNamed (all_symbols s) types s.entries.names.now.names s.resolution.now.imports
+
+  names_shown : (cs : List InitCall) (ds : List rules.InitCall) → AllZip Calls cs ds → AllZip ShowsOne (map named_of cs) (map a_symbol (map (λ c. c.ref) ds))
+  names_shown [] [] all = tt
+  names_shown [] (d ∷ ds) all = absurd all
+  names_shown (c ∷ cs) [] all = absurd all
+  names_shown (c ∷ cs) (d ∷ ds) all = (all.0.named, names_shown cs ds all.1)
+
+  abbrev resolved_all : List Resolved
+  resolved_all = resolve Plain allow (entries Plain objects_of) objects_of
+
+  inits_shown : AllZip ShowsOne (call_names l) (map a_symbol (init_calls resolved_all))
+  unfolding init_calls resolve
+  inits_shown =
+      subst (λ es. AllZip ShowsOne (map named_of (by_key priority_of (calls_upto l (length es.objects.now)))) (map a_symbol (init_calls resolved_all))) (sym are.entries)
+      (names_shown (by_key priority_of (calls_upto l (length objects_of))) (by_priority (flat_map init_calls_in resolved_all))
+      (sorted_shown (calls_upto l (length objects_of)) (flat_map init_calls_in resolved_all)
+      (subst (λ rs. AllZip Calls (calls_upto l (length objects_of)) (flat_map init_calls_in rs)) all_resolved (calls_to (length objects_of) (omega arith)))))
+
+  -- ---- the linker's parts
+
+  made_named : (holds : Bool) (xs : List Named) (ys : List rules.Named) → AllZip ShowsOne xs ys → AllZip ShowsOne (if holds then xs else []) (if holds then ys else [])
+  made_named true xs ys all = all
+  made_named false xs ys all = tt
+
+  made_shown : (calls : List Named) (refs : List rules.Ref) (place : ℕ) (ms : List MadeSymbol) → AllZip ShowsOne calls (map a_symbol refs)
+      → AllZip Shows (made_rows calls place ms) (made_parts_from refs place ms)
+  made_shown calls refs place [] all = tt
+  made_shown calls refs place (m ∷ ms) all = by (made_kind m.kind) (made_shown calls refs (place + 1) ms all)
+    where
+      by : (kind : Option ℕ) → AllZip Shows (made_rows calls (place + 1) ms) (made_parts_from refs (place + 1) ms)
+          → AllZip Shows (option_onto (option_map (λ kind. record {
+            part = record { chunk = record { input = 0; kind = kind; index = place }; content = contents.Made; source = no_source };
+            named = if (kind == 0) && (place == 0) then calls else [];
+          }) kind) (made_rows calls (place + 1) ms))
+          (option_onto (option_map (λ kind. record {
+            chunk = record { input = 0; kind = kind; index = place };
+            content = linker_made m;
+            source = no_source;
+            named = if (kind == 0) && (place == 0) then map a_symbol refs else [];
+          }) kind) (made_parts_from refs (place + 1) ms))
+      by None rest = rest
+      by (Some kind) rest = (
+        record { chunk = refl; content = refl; source = refl; named = made_named ((kind == 0) && (place == 0)) calls (map a_symbol refs) all; typed = tt },
+        rest,
+      )
+
+  -- ---- all parts
+
+  pub parts_shown : AllZip Shows (all_rows l) (parts_of Plain all objects_of resolved_all)
+  unfolding parts_of resolve
+  parts_shown =
+      zip_append Shows (made_rows (call_names l) 0 (made Plain)) (rows_upto l (length l.entries.objects.now))
+      (made_parts_from (init_calls resolved_all) 0 (made Plain)) (flat_map (parts_in all objects_of) resolved_all)
+      (made_shown (call_names l) (init_calls resolved_all) 0 (made Plain) inits_shown)
+      (subst (λ es. AllZip Shows (rows_upto l (length es.objects.now)) (flat_map (parts_in all objects_of) resolved_all)) (sym are.entries)
+      (subst (λ rs. AllZip Shows (rows_upto l (length objects_of)) (flat_map (parts_in all objects_of) rs)) all_resolved (rows_to (length objects_of) (omega arith))))

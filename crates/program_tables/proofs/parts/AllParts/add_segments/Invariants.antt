@@ -1,0 +1,15 @@
+use Rattle.std.proofs.Common.{take}
+use Rattle.std.specs.Prelude.{filter}
+use Rattle.mark_bits.specs.Chunks.{Differ}
+use Rattle.link_rules.specs.Program.{indexed}
+use Rattle.program_tables.specs.Views.{view_seen}
+use Rattle.program_tables.specs.Rows.{segment_row, keeps_row}
+use Rattle.program_tables.specs.Gains.{Gains, rank_of, AllBelow}
+use Rattle.program_tables.proofs.parts.AllParts.add_segments.Given as goal
+
+abbrev pub invariant-loop-index : goal.invariant-loop-index
+invariant-loop-index l = record {
+  gains : Gains (filter (keeps_row (view_seen l.view)) (indexed (segment_row (view_seen l.view)) 0 (take l.index l.view.from.now.segments))) l.fn.self l.self;
+  below : AllBelow (rank_of l.view.from.now.input 1 l.index) l.self.chunks;
+  differ : Differ l.fn.self.chunks → Differ l.self.chunks;
+}

@@ -1,0 +1,14 @@
+use Rattle.std.proofs.Common.{arith, [], ap, sym, ◌∙◌}
+use Rattle.made_symbols.specs.declared.mode.Mode.TheVariants as modes
+use Rattle.made_symbols.specs.Made.{made}
+use Rattle.name_rules.specs.Entries.{made_from}
+use Rattle.program_tables.specs.Winners.{winner_of}
+use Rattle.program_tables.proofs.Steps.{kept_more}
+use Rattle.program_tables.proofs.MadeOnes.{made_row_at, made_count}
+use Rattle.program_tables.proofs.winners.made_winners.Goals as goal
+
+pub loop-number-preserved : goal.loop-number-preserved
+loop-number-preserved c =
+    let g = winner_of c.args.entries.names.now.names c.args.ranks.now in
+    kept_more g (made_from 0 (made modes.Plain)) c.loop-number.number [] c.loop-number.winners _ c.made_winner.result (omega (arith, made_count)) c.loop-number.invariant
+    (λ e at. c.made_winner.ensures ∙ ap g (sym (made_row_at c.loop-number.number e at))) c.in_ok-push_some.ensures

@@ -1,0 +1,54 @@
+-- What the answers of a resolution lead to, by the objects alone.
+use Rattle.std.specs.Prelude.{◌≡◌, ℕ, ◌<◌, List, length, slice_get, Option, Some, None, option_map, unwrap_or, IsSome}
+use Rattle.linking_section.specs.declared.symbol.SymbolKind.TheVariants.{Function}
+use Rattle.object_file.specs.declared.object.Object.{Object}
+use Rattle.made_symbols.specs.declared.mode.Mode.TheVariants.{Plain}
+use Rattle.made_symbols.specs.Made.{made, made_at}
+use Rattle.name_rules.specs.declared.meaning.Meaning.{Meaning}
+use Rattle.name_rules.specs.declared.meaning.Meaning.TheVariants as answers
+use Rattle.name_rules.specs.Entries.{Entry, made_entry}
+use Rattle.name_entries.specs.View.{entry_at}
+use Rattle.name_meanings.specs.Means.{Answers, answer_at}
+use Rattle.link_program.specs.declared.symbol.Definition.{Definition}
+use Rattle.link_program.specs.declared.symbol.Lead.{Lead}
+use Rattle.link_program.specs.declared.symbol.Lead.TheVariants.{Here, Import, Null, Nothing}
+use Rattle.link_program.specs.Told.{told_definition}
+use Rattle.program_tables.specs.Objects.{symbol_of}
+
+-- where no symbol is
+abbrev pub no_definition : Definition
+no_definition = record { input = 0; place = 0; kind = Function; index = 0; offset = 0 }
+
+-- The definition that a linker-made symbol is, by its number.
+abbrev pub made_definition : ℕ → Definition
+made_definition number = told_definition (made_entry number (made_at Plain number))
+
+-- That of an object, by its input and its place.
+abbrev pub definition_of : List Object → ℕ → ℕ → Definition
+definition_of objects input place = unwrap_or (option_map told_definition (symbol_of objects input place)) no_definition
+
+abbrev pub lead_from : List Object → Meaning → Lead
+lead_from objects (answers.Here input symbol) = Here (definition_of objects input symbol)
+lead_from objects (answers.Made number) = Here (made_definition number)
+lead_from objects (answers.Import number) = Import number
+lead_from objects answers.Null = Null
+lead_from objects answers.Nothing = Nothing
+
+abbrev pub lead_at : List Object → Option Meaning → Lead
+lead_at objects None = Nothing
+lead_at objects (Some answer) = lead_from objects answer
+
+-- The definition that an answer names is there.
+abbrev pub IsThere : List Object → Meaning → Type 0
+IsThere objects (answers.Here input symbol) =
+    (i : ℕ) × (o : Object) × (slice_get objects i ≡ Some o) × (o.input ≡ input) × IsSome (entry_at objects i symbol)
+IsThere objects (answers.Made number) = number < length (made Plain)
+IsThere objects (answers.Import number) = Unit {0}
+IsThere objects answers.Null = Unit {0}
+IsThere objects answers.Nothing = Unit {0}
+
+-- Each symbol has an answer, and what it names is there.
+abbrev pub AreAnswered : List Object → Answers → Type 0
+AreAnswered objects r =
+    (i k : ℕ) (e : Entry) → entry_at objects i k ≡ Some e
+    → (answer : Meaning) × (answer_at r e.input e.place ≡ Some answer) × IsThere objects answer

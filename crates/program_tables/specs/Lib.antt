@@ -1,0 +1,9 @@
+pub mod Objects
+pub mod Leads
+pub mod Symbols
+pub mod Winners
+pub mod Types
+pub mod Views
+pub mod Rows
+pub mod Gains
+pub mod Inits

@@ -1,0 +1,50 @@
+-- What is looked up of an object.
+use Rattle.std.specs.Prelude.{ℕ, ◌+◌, ◌-◌, Bool, not, List, [], length, slice_get, slice_index_or, Option, Some, None}
+use Rattle.wl_base.specs.declared.span.Span.{Span}
+use Rattle.wl_base.specs.declared.span.FileSpan.{FileSpan}
+use Rattle.object_file.specs.declared.object.Object.{Object}
+use Rattle.name_entries.specs.declared.parts.ObjectParts.{ObjectParts}
+use Rattle.name_entries.specs.Parts.{has_flag}
+use Rattle.link_rules.specs.Program.{no_source}
+use Rattle.link_program.specs.declared.home.Home.{Home}
+use Rattle.program_tables.specs.declared.view.Lookups.{Lookups}
+use Rattle.program_tables.specs.declared.view.ObjectView.{ObjectView}
+
+-- An object, its dropped parts, the number of its first symbol, the numbers of its types, and where its bytes begin.
+pub record View : Type 0 where
+  pub object : Object
+  pub parts : ObjectParts
+  pub first : ℕ
+  pub types : List ℕ
+  pub home : Option Home
+
+abbrev pub view_seen : ObjectView → View
+view_seen v = record { object = v.from.now; parts = v.parts.now; first = v.first; types = v.types.now; home = v.home }
+
+abbrev pub view_with : Lookups → ℕ → Option Object → Option ObjectParts → Option View
+view_with l i (Some o) (Some p) = Some (record {
+  object = o;
+  parts = p;
+  first = slice_index_or l.firsts.now i 0;
+  types = slice_index_or l.types.now i [];
+  home = slice_get l.homes.now (o.input - 1);
+})
+view_with l i (Some o) None = None
+view_with l i None p = None
+
+-- The object at a place.
+abbrev pub view_at : Lookups → ℕ → Option View
+view_at l i = view_with l i (slice_get l.entries.objects.now i) (slice_get l.entries.parts.now i)
+
+-- whether a defined function is kept; groups name it behind the imports
+abbrev pub keeps_function : View → ℕ → Bool
+keeps_function v index = not (has_flag v.parts.dropped_functions (index + length v.parts.imports.functions))
+
+-- The number of a type of the object. One that isn't there is () to ().
+abbrev pub type_from : View → ℕ → ℕ
+type_from v index = slice_index_or v.types index 0
+
+-- A span of the object as a span of its file.
+abbrev pub source_from : Option Home → Span → FileSpan
+source_from None s = no_source
+source_from (Some home) s = record { file = home.file; span = record { start = home.start + s.start; len = s.len } }

@@ -1,0 +1,17 @@
+//! The tables of a program: its symbols with what they lead to, the winners of its names, its kept parts with what each names, and the
+//! function types.
+#![tactic(auto)]
+
+mod definitions;
+mod inits;
+mod objects;
+mod parts;
+mod pushing;
+mod symbols;
+mod tables;
+mod types;
+mod view;
+mod windows;
+mod winners;
+
+pub use tables::tables_of;

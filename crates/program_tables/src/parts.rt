@@ -1,0 +1,316 @@
+//! The kept parts and what they name.
+ghost use Rattle.std.specs.Prelude.{◌≡◌, ◌-◌, ◌+◌, ◌∷◌, ◌<◌, ◌^◌, [], length, filter, OnOk, IfOk};
+ghost use Rattle.made_symbols.specs.declared.mode.Mode.TheVariants as modes;
+ghost use Rattle.made_symbols.specs.Made.{made, made_at};
+ghost use Rattle.mark_bits.specs.Chunks.{Differ, Lacks};
+ghost use Rattle.object_columns.specs.Seen.{function_seen, segment_seen};
+ghost use Rattle.link_rules.specs.Program.{indexed, option_onto, made_kind};
+ghost use Rattle.name_entries.specs.Fits.{FitsObjects};
+ghost use Rattle.program_tables.specs.Views.{view_seen};
+ghost use Rattle.program_tables.specs.Rows.{function_row, segment_row, global_row, keeps_row, rows_in, made_row, made_rows, all_rows};
+ghost use Rattle.program_tables.specs.Gains.{Gains, AreGained, rank_of, AllBelow, AllMade};
+
+use crate::inits::init_calls;
+use crate::view::{Lookups, NO_SOURCE, ObjectView};
+use link_program::{Content, Named, Part};
+use linking_section::SymbolKind;
+use made_symbols::{Mode, count, kind};
+use mark_bits::{Chunk, ChunkTable};
+use object_columns::{FunctionRef, SegmentRef};
+use object_file::GlobalDef;
+use std::alloc::Global;
+use wl_base::{OutOfMemory, Seq};
+use wl_lists::{Lists, shrunk};
+
+/// Parts, and by part what it names and its chunk.
+#[derive(Drop)]
+pub(crate) struct AllParts {
+    pub(crate) parts: Seq<Part>,
+    pub(crate) named: Lists<Named>,
+    pub(crate) chunks: ChunkTable,
+}
+
+/// How many there are; 2^32 or more are answered as want of memory.
+fn few(count: usize) -> Result<u32, OutOfMemory>
+    ensures { IfOk result (λ few. few ≡ count) }
+{
+    match u32::try_from(count) {
+        Ok(few) => Ok(few),
+        Err(_) => Err(OutOfMemory),
+    }
+}
+
+/// The kind of chunk that a linker-made symbol is. The linker's data and its table are no chunks.
+fn made_kind(kind: SymbolKind) -> Option<u8>
+    ensures { result ≡ made_kind kind }
+{
+    match kind {
+        SymbolKind::Function => Some(0),
+        SymbolKind::GlobalVar => Some(2),
+        SymbolKind::Datum | SymbolKind::Section | SymbolKind::Table => None,
+    }
+}
+
+impl AllParts {
+    fn new(alloc: Global) -> AllParts
+        ensures parts { result.parts ≡ [] }
+        ensures named { result.named ≡ [] }
+        ensures chunks { result.chunks ≡ [] }
+        ensures differ { Differ result.chunks }
+    {
+        AllParts {
+            parts: Seq::new(alloc),
+            named: Lists::new(alloc),
+            chunks: ChunkTable::new(alloc),
+        }
+    }
+
+    /// One part more, which names this.
+    fn add(&mut self, part: Part, named: &[Named]) -> Result<(), OutOfMemory>
+        requires { Lacks self.old.chunks part.chunk }
+        ensures gains { OnOk result (Gains (record { part = part; named = named.now } ∷ []) self.old self.new) }
+        ensures differ { OnOk result (Differ self.old.chunks → Differ self.new.chunks) }
+    {
+        if self.chunks.count() == u32::MAX {
+            return Err(OutOfMemory);
+        }
+        self.chunks.add(part.chunk)?;
+        self.parts.push(part)?;
+        self.named.push(named)?;
+        Ok(())
+    }
+
+    /// A function of an object, if it is kept. The row is room for what it names.
+    fn add_function(
+        &mut self,
+        row: &mut Seq<Named>,
+        view: ObjectView<'_>,
+        index: u32,
+        function: FunctionRef<'_>,
+    ) -> Result<(), OutOfMemory>
+        requires few { view.first + length view.from.now.symbols < 2 ^ 32 }
+        requires below { AllBelow (rank_of view.from.now.input 0 index) self.old.chunks }
+        ensures gains { OnOk result (Gains (filter (keeps_row (view_seen view.entry))
+            (function_row (view_seen view.entry) index (function_seen function.entry) ∷ [])) self.old self.new) }
+        ensures below { OnOk result (AllBelow (rank_of view.entry.from.now.input 0 (index + 1)) self.new.chunks) }
+        ensures differ { OnOk result (Differ self.old.chunks → Differ self.new.chunks) }
+    {
+        if !view.keeps_function(index) {
+            return Ok(());
+        }
+        view.name_operands(row, function.operands)?;
+        let part = Part {
+            chunk: Chunk {
+                input: view.from.input,
+                kind: 0,
+                index,
+            },
+            content: Content::Function(view.type_number(function.type_index)),
+            source: view.source(function.span)?,
+        };
+        self.add(part, row.as_slice())
+    }
+
+    /// The kept functions of an object.
+    fn add_functions(
+        &mut self,
+        row: &mut Seq<Named>,
+        view: ObjectView<'_>,
+    ) -> Result<(), OutOfMemory>
+        requires few { view.first + length view.from.now.symbols < 2 ^ 32 }
+        requires below { AllBelow (rank_of view.from.now.input 0 0) self.old.chunks }
+        ensures gains { OnOk result (Gains (filter (keeps_row (view_seen view.entry))
+            (indexed (function_row (view_seen view.entry)) 0 view.entry.from.now.functions)) self.old self.new) }
+        ensures below { OnOk result (AllBelow (rank_of view.entry.from.now.input 1 0) self.new.chunks) }
+        ensures differ { OnOk result (Differ self.old.chunks → Differ self.new.chunks) }
+    {
+        for index in 0..few(view.from.functions.len())? {
+            let Some(function) = view.from.functions.get(index as usize) else {
+                unreachable!()
+            };
+            self.add_function(row, view, index, function)?;
+        }
+        Ok(())
+    }
+
+    /// A segment of an object, if it is kept. The row is room for what it names.
+    fn add_segment(
+        &mut self,
+        row: &mut Seq<Named>,
+        view: ObjectView<'_>,
+        index: u32,
+        segment: SegmentRef<'_>,
+    ) -> Result<(), OutOfMemory>
+        requires few { view.first + length view.from.now.symbols < 2 ^ 32 }
+        requires below { AllBelow (rank_of view.from.now.input 1 index) self.old.chunks }
+        ensures gains { OnOk result (Gains (filter (keeps_row (view_seen view.entry))
+            (segment_row (view_seen view.entry) index (segment_seen segment.entry) ∷ [])) self.old self.new) }
+        ensures below { OnOk result (AllBelow (rank_of view.entry.from.now.input 1 (index + 1)) self.new.chunks) }
+        ensures differ { OnOk result (Differ self.old.chunks → Differ self.new.chunks) }
+    {
+        if !view.keeps_segment(index) {
+            return Ok(());
+        }
+        view.name_windows(row, segment.windows)?;
+        let part = Part {
+            chunk: Chunk {
+                input: view.from.input,
+                kind: 1,
+                index,
+            },
+            content: Content::Segment {
+                align: segment.align,
+                flags: segment.flags,
+            },
+            source: view.source(segment.span)?,
+        };
+        self.add(part, row.as_slice())
+    }
+
+    /// The kept segments of an object.
+    fn add_segments(
+        &mut self,
+        row: &mut Seq<Named>,
+        view: ObjectView<'_>,
+    ) -> Result<(), OutOfMemory>
+        requires few { view.first + length view.from.now.symbols < 2 ^ 32 }
+        requires below { AllBelow (rank_of view.from.now.input 1 0) self.old.chunks }
+        ensures gains { OnOk result (Gains (filter (keeps_row (view_seen view.entry))
+            (indexed (segment_row (view_seen view.entry)) 0 view.entry.from.now.segments)) self.old self.new) }
+        ensures below { OnOk result (AllBelow (rank_of view.entry.from.now.input 2 0) self.new.chunks) }
+        ensures differ { OnOk result (Differ self.old.chunks → Differ self.new.chunks) }
+    {
+        for index in 0..few(view.from.segments.len())? {
+            let Some(segment) = view.from.segments.get(index as usize) else {
+                unreachable!()
+            };
+            self.add_segment(row, view, index, segment)?;
+        }
+        Ok(())
+    }
+
+    /// A global of an object.
+    fn add_global(
+        &mut self,
+        view: ObjectView<'_>,
+        index: u32,
+        global: &GlobalDef,
+    ) -> Result<(), OutOfMemory>
+        requires below { AllBelow (rank_of view.from.now.input 2 index) self.old.chunks }
+        ensures gains { OnOk result (Gains (filter (keeps_row (view_seen view.entry))
+            (global_row (view_seen view.entry) index global.now ∷ [])) self.old self.new) }
+        ensures below { OnOk result (AllBelow (rank_of view.entry.from.now.input 2 (index + 1)) self.new.chunks) }
+        ensures differ { OnOk result (Differ self.old.chunks → Differ self.new.chunks) }
+    {
+        let part = Part {
+            chunk: Chunk {
+                input: view.from.input,
+                kind: 2,
+                index,
+            },
+            content: Content::Global {
+                kind: global.kind,
+                value: global.value,
+            },
+            source: NO_SOURCE,
+        };
+        self.add(part, &[])
+    }
+
+    /// The globals of an object.
+    fn add_globals(&mut self, view: ObjectView<'_>) -> Result<(), OutOfMemory>
+        requires below { AllBelow (rank_of view.from.now.input 2 0) self.old.chunks }
+        ensures gains { OnOk result (Gains (filter (keeps_row (view_seen view.entry))
+            (indexed (global_row (view_seen view.entry)) 0 view.entry.from.now.globals)) self.old self.new) }
+        ensures below { OnOk result (AllBelow (rank_of (view.entry.from.now.input + 1) 0 0) self.new.chunks) }
+        ensures differ { OnOk result (Differ self.old.chunks → Differ self.new.chunks) }
+    {
+        for index in 0..few(view.from.globals.len())? {
+            let Some(global) = view.from.globals.get(index as usize) else {
+                unreachable!()
+            };
+            self.add_global(view, index, global)?;
+        }
+        Ok(())
+    }
+
+    /// The kept parts of an object: its functions, its segments and its globals, each by index.
+    fn add_object(&mut self, row: &mut Seq<Named>, view: ObjectView<'_>) -> Result<(), OutOfMemory>
+        requires few { view.first + length view.from.now.symbols < 2 ^ 32 }
+        requires below { AllBelow (rank_of view.from.now.input 0 0) self.old.chunks }
+        ensures gains { OnOk result (Gains (rows_in (view_seen view.entry)) self.old self.new) }
+        ensures below { OnOk result (AllBelow (rank_of (view.entry.from.now.input + 1) 0 0) self.new.chunks) }
+        ensures differ { OnOk result (Differ self.old.chunks → Differ self.new.chunks) }
+    {
+        self.add_functions(row, view)?;
+        self.add_segments(row, view)?;
+        self.add_globals(view)?;
+        Ok(())
+    }
+
+    /// A linker-made part, by its number, if it is a chunk. `calls` is what `__wasm_call_ctors` calls, whose number is 0.
+    fn add_made(&mut self, calls: &[Named], number: u32) -> Result<(), OutOfMemory>
+        requires number { number < length (made modes.Plain) }
+        requires before { AllMade number self.old.chunks }
+        ensures gains { OnOk result (Gains (option_onto (made_row calls.now number (made_at modes.Plain number).kind) []) self.old self.new) }
+        ensures made { OnOk result (AllMade (number + 1) self.new.chunks) }
+        ensures differ { OnOk result (Differ self.old.chunks → Differ self.new.chunks) }
+    {
+        let Some(kind) = made_kind(kind(Mode::Plain, number)) else {
+            return Ok(());
+        };
+        let part = Part {
+            chunk: Chunk {
+                input: 0,
+                kind,
+                index: number,
+            },
+            content: Content::Made,
+            source: NO_SOURCE,
+        };
+        let named = if kind == 0 && number == 0 { calls } else { &[] };
+        self.add(part, named)
+    }
+
+    /// The linker-made parts by number.
+    fn of_made(alloc: Global, calls: &[Named]) -> Result<AllParts, OutOfMemory>
+        ensures parts { IfOk result (λ all. AreGained (made_rows calls.now 0 (made modes.Plain)) all) }
+        ensures below { IfOk result (λ all. AllBelow (rank_of 1 0 0) all.chunks) }
+        ensures differ { IfOk result (λ all. Differ all.chunks) }
+    {
+        let mut all = AllParts::new(alloc);
+        for number in 0..count(Mode::Plain) {
+            all.add_made(calls, number)?;
+        }
+        Ok(all)
+    }
+}
+
+/// The kept parts of all objects: the linker's own by number, then those of each object.
+pub(crate) fn all_parts(alloc: Global, lookups: Lookups<'_>) -> Result<AllParts, OutOfMemory>
+    requires { FitsObjects lookups.entries }
+    ensures parts { IfOk result (λ all. AreGained (all_rows lookups.entry) all) }
+    ensures few { IfOk result (λ all. length all.chunks < 2 ^ 32 - 1) }
+    ensures differ { IfOk result (λ all. Differ all.chunks) }
+{
+    let calls = init_calls(alloc, lookups)?;
+    let mut all = AllParts::of_made(alloc, calls.as_slice())?;
+    let mut row = Seq::new(alloc);
+    for object in 0..lookups.entries.count() {
+        let view = lookups.view(object)?;
+        all.add_object(&mut row, view)?;
+    }
+    if all.chunks.count() >= u32::MAX - 1 {
+        return Err(OutOfMemory);
+    }
+    let AllParts {
+        parts,
+        named,
+        chunks,
+    } = all;
+    Ok(AllParts {
+        parts: shrunk(parts),
+        named: named.shrunk(),
+        chunks,
+    })
+}

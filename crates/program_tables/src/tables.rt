@@ -1,0 +1,76 @@
+//! The tables of a program.
+ghost use Rattle.std.specs.Prelude.{◌≡◌, IfOk};
+ghost use Rattle.made_symbols.specs.declared.mode.Mode.TheVariants as modes;
+ghost use Rattle.name_rules.specs.Entries.{entries as all_entries};
+ghost use Rattle.name_rules.specs.Meanings.{resolve};
+ghost use Rattle.name_entries.specs.View.{WinnersAre};
+ghost use Rattle.name_entries.specs.Fits.{Fits};
+ghost use Rattle.name_meanings.specs.Means.{IsResolution};
+ghost use Rattle.link_rules.specs.Program.{program_of};
+ghost use Rattle.link_program.specs.Loaded.{Origin, IsLoaded};
+ghost use Rattle.link_program.specs.Program.{AreTables};
+
+use crate::objects::places_by_input;
+use crate::parts::{AllParts, all_parts};
+use crate::symbols::{AllSymbols, Sources, all_symbols};
+use crate::types::{AllTypes, all_types};
+use crate::view::Lookups;
+use crate::winners::all_winners;
+use link_program::{Home, Tables};
+use name_entries::Entries;
+use name_meanings::Resolution;
+use std::alloc::Global;
+use symbol_race::Winners;
+use wl_base::OutOfMemory;
+
+/// The tables of the program of these loaded objects, by the numbers of names and imports. `ranks` has the winner of each name,
+/// `resolution` what each symbol means, `homes` where the bytes of each candidate begin.
+///
+/// 2^32 symbols, or 2^32 - 1 parts, are answered as want of memory. `origin` is where the objects come from, by which the program is
+/// defined.
+pub fn tables_of(
+    alloc: Global,
+    entries: Entries<'_>,
+    ranks: &Winners,
+    resolution: &Resolution,
+    homes: &[Home],
+) -> Result<Tables, OutOfMemory>
+    ghost origin: { Origin }
+    requires fits { Fits modes.Plain entries }
+    requires winners { WinnersAre entries.names.now.names (all_entries modes.Plain entries.objects.now) ranks.now }
+    requires resolution { IsResolution resolution.now
+        (resolve modes.Plain origin.plan.allow_undefined (all_entries modes.Plain entries.objects.now) entries.objects.now) }
+    requires loaded { IsLoaded origin.files origin.all entries.objects.now homes.now }
+    ensures { IfOk result (λ tables. AreTables entries.entry.names.now.names resolution.now.imports tables
+        (program_of modes.Plain origin.plan origin.files origin.all entries.entry.objects.now)) }
+{
+    let places = places_by_input(alloc, entries)?;
+    let sources = Sources {
+        entries,
+        resolution,
+        places: places.as_slice(),
+    };
+    let AllSymbols { symbols, firsts } = all_symbols(alloc, sources)?;
+    let winners = all_winners(alloc, entries, ranks)?;
+    let kinds = all_types(alloc, entries.objects)?;
+    let lookups = Lookups {
+        entries,
+        firsts: firsts.as_slice(),
+        types: kinds.numbers(),
+        homes,
+    };
+    let AllParts {
+        parts,
+        named,
+        chunks,
+    } = all_parts(alloc, lookups)?;
+    let AllTypes { types, numbers: _ } = kinds;
+    Ok(Tables {
+        symbols,
+        winners,
+        parts,
+        named,
+        types,
+        chunks,
+    })
+}

@@ -1,0 +1,2 @@
+int never_defined(void);
+int unused(void) { return never_defined(); }
