@@ -132,7 +132,10 @@ fn each_status_has_its_line(rt: HostRuntime) -> Result<(), Fail> {
     let name = Seq::from_slice(alloc, b"a\\ \xffz".as_slice())?;
     let lines = [
         (Status::Linked, ""),
-        (Status::Usage(Usage::UnknownOption { at: 0 }), "usage: UnknownOption { at: 0 }"),
+        (
+            Status::Usage(Usage::UnknownOption { at: 0 }),
+            "usage: UnknownOption { at: 0 }",
+        ),
         (Status::ReadFault(7), "cannot read word 7"),
         (Status::WriteFault, "cannot write the output"),
         (Status::NoMemory, "out of memory"),

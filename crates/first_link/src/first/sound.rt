@@ -7,8 +7,8 @@ ghost use Rattle.first_link.specs.Sound.{entries, bodies_of, start_of, relocs_of
 use crate::first::object::{
     FirstBody, FirstCode, FirstObject, FirstReloc, FirstRelocs, FirstSymbol,
 };
-use indexmap::IndexSet;
 use first_words::is_prefixed;
+use indexmap::IndexSet;
 use std::alloc::Global;
 use wasm_types::{FuncType, ValType};
 use wl_base::{OutOfMemory, Seq};
