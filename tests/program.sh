@@ -1,59 +1,105 @@
 #!/usr/bin/env bash
-# Runs bin/wasmld over real files, in a folder of its own. The last line is 'N passed, M failed'.
+# Runs the program over real files, in a folder of its own: statuses, lines, and what is left behind. The program is $WASMLD, or else
+# bin/wasmld. The last line is 'N passed, M failed'.
 set -u
 top=$(cd "$(dirname "${BASH_SOURCE[0]}")/.." && pwd)
 . "$top/tests/common/expect.bash"
+wasmld=${WASMLD:-$top/bin/wasmld}
 folder=$(mktemp -d)
 trap 'rm -rf "$folder"' EXIT
 cd "$folder" || exit 2
 
-# Takes the wanted exit status and the words.
-ends_with() {
-  local wanted=$1
-  shift
-  "$top/bin/wasmld" "$@" >out.txt 2>err.txt
+# Takes the wanted exit status, the wanted standard output, and the words.
+ends() {
+  local wanted=$1 line=$2
+  shift 2
+  "$wasmld" "$@" >out.txt 2>err.txt
   local status=$?
-  [ "$status" -eq "$wanted" ] || {
-    echo "status $status in place of $wanted"
+  [ "$status" -eq "$wanted" ] && [ "$(cat out.txt)" = "$line" ] || {
+    echo "status $status in place of $wanted, and: $(cat out.txt)"
     tail -n 20 err.txt
     return 1
   }
 }
 
+# Takes the wanted exit status and the words; standard output takes nothing.
+ends_unheard() {
+  local wanted=$1
+  shift
+  "$wasmld" "$@" >/dev/full 2>err.txt
+  [ $? -eq "$wanted" ]
+}
+
+tells() {
+  "$wasmld" "$1" >out.txt && grep -q -- "$2" out.txt
+}
+
 is_absent() { [ ! -e "$1" ]; }
-has_words() { grep -q -- "$1" out.txt; }
 
 cp "$top/crates/wasmld/data/a.o" a.o
+module=$top/tests/data/call.wasm
+f=(--no-entry --export=f)
+
+# What is linked, and that nothing but the output is written.
 cp a.o given.o
-
-expect "an object is linked" ends_with 0 a.o -o b.wasm --no-entry --export=f
-expect "the module is the expected one" cmp b.wasm "$top/tests/data/call.wasm"
+expect "an object is linked" ends 0 "" a.o -o b.wasm "${f[@]}"
+expect "the module is the expected one" cmp b.wasm "$module"
 expect "the input stays as it was" cmp a.o given.o
-expect "the output may be the input" ends_with 0 given.o -o given.o --no-entry --export=f
-expect "which then holds the module" cmp given.o "$top/tests/data/call.wasm"
+expect "the words may stand in another order" ends 0 "" --export f -o b.wasm --threads=64 --no-entry -- a.o
+expect "and give the same module" cmp b.wasm "$module"
+expect "the output may be the input" ends 0 "" given.o -o given.o "${f[@]}"
+expect "which then holds the module" cmp given.o "$module"
+cp -- a.o -x.o
+expect "an input may begin with a dash" ends 0 "" -o dash.wasm "${f[@]}" -- -x.o
+expect "and gives the same module" cmp dash.wasm "$module"
+printf '!<arch>\n' >empty.a
+expect "a library may be empty" ends 0 "" a.o empty.a -o b.wasm "${f[@]}"
+expect "the generated case is linked" ends 0 "case 2: functions 3 segments 2 bytes 124 sum 5691" --make-case=2 -o case.wasm
+expect "and saved" test "$(wc -c <case.wasm)" -eq 124
+expect "by any number of workers" ends 0 "case 2000: functions 2001 segments 2000 bytes 62069 sum 4449098" --make-case=2000 --threads=64
 
-expect "a name without a definition is refused" ends_with 1 a.o -o c.wasm --no-entry --export=h
-expect "and told" has_words "^wasmld: input 0: unresolved h$"
-expect "a module is no object" ends_with 1 b.wasm -o c.wasm --no-entry --export=f
+# What is refused. The output stays as it was.
+cp "$module" c.wasm
+expect "a name without a definition" ends 1 "wasmld: input 0: unresolved h" a.o -o c.wasm --no-entry --export=h
+expect "no entry function" ends 1 "wasmld: input 0: unresolved _start" a.o -o c.wasm
+expect "two definitions" ends 1 "wasmld: duplicate f: input 1 and input 2" a.o a.o -o c.wasm "${f[@]}"
+expect "a memory that is too small" ends 1 "wasmld: overflow: MaxMemory needs 131072" a.o -o c.wasm --max-memory=65536 "${f[@]}"
+expect "a module in place of an object" ends 1 "wasmld: input 1: unsupported: DefinedTable" b.wasm -o c.wasm "${f[@]}"
 head -c 78 a.o >short.o
-expect "a cut object is refused" ends_with 1 short.o -o c.wasm --no-entry --export=f
-expect "and told" has_words "^wasmld: input 1: malformed: frame$"
-head -c 1048577 /dev/zero >long.o
-expect "a long file is refused" ends_with 1 long.o -o c.wasm --no-entry --export=f
-expect "other words are refused" ends_with 2 a.o -o c.wasm --export=f --no-entry
-expect "no words are refused" ends_with 2
-expect "a word that isn't UTF-8 is refused" ends_with 2 $'a\xff.o' -o c.wasm --no-entry --export=f
-expect "an input that isn't there can't be read" ends_with 3 absent.o -o c.wasm --no-entry --export=f
-expect "and told" has_words "^wasmld: cannot read word 0$"
-mkdir inside
-expect "a folder can't be read" ends_with 3 inside -o c.wasm --no-entry --export=f
-expect "nothing was written by then" is_absent c.wasm
-expect "an output in no folder can't be written" ends_with 4 a.o -o absent/c.wasm --no-entry --export=f
+expect "an object that is cut" ends 1 "wasmld: input 2: malformed: frame" a.o short.o -o c.wasm "${f[@]}"
+head -c 61 a.o >bare.o
+expect "an object without its relocations" ends 1 "wasmld: input 1: malformed: rule 12" bare.o -o c.wasm "${f[@]}"
+head -c 1000000 /dev/zero >zeros.o
+expect "a file of zeros" ends 1 "wasmld: input 1: malformed: frame" zeros.o -o c.wasm "${f[@]}"
+printf '!<thin>\n' >thin.a
+expect "a thin library" ends 1 "wasmld: file 1: bad library: Thin" a.o thin.a -o c.wasm "${f[@]}"
 
-expect "help is given" ends_with 0 --help
-expect "help tells the words" has_words "--export=NAME"
-expect "the version is given" ends_with 0 --version
-expect "the version is told" has_words "^wasmld "
+# Words.
+expect "no words" ends 2 "wasmld: usage: NoInput"
+expect "no output" ends 2 "wasmld: usage: NoOutput" a.o
+expect "an unknown option" ends 2 "wasmld: usage: UnknownOption at word 1" a.o --frob -o c.wasm
+expect "a missing value" ends 2 "wasmld: usage: MissingValue at word 3" a.o -o c.wasm --threads
+expect "a bad number" ends 2 "wasmld: usage: BadNumber at word 0" --global-base=1k a.o -o c.wasm
+expect "a bad number of workers" ends 2 "wasmld: usage: BadThreads at word 1" a.o --threads=65 -o c.wasm
+expect "an open group" ends 2 "wasmld: usage: OpenGroup at word 0" --start-lib a.o -o c.wasm
+expect "a generated case and an input" ends 2 "wasmld: usage: CaseAndInput" --make-case=2 a.o
+expect "a word that isn't UTF-8" ends 2 "" $'a\xff.o' -o c.wasm "${f[@]}"
+
+# Files.
+expect "an input that isn't there" ends 3 "wasmld: cannot read word 2" -o c.wasm absent.o "${f[@]}"
+mkdir inside
+expect "a folder as input" ends 3 "wasmld: cannot read word 0" inside -o c.wasm "${f[@]}"
+expect "the output stays as it was" cmp c.wasm "$module"
+expect "an output in no folder" ends 4 "wasmld: cannot write the output" a.o -o absent/c.wasm "${f[@]}"
+expect "a folder as output" ends 4 "wasmld: cannot write the output" a.o -o inside "${f[@]}"
+expect "and no folder is made" is_absent absent
+
+expect "a line that can't be written changes no status" ends_unheard 1 a.o -o c.wasm --no-entry --export=h
+expect "nor does the line of a case" ends_unheard 0 --make-case=2
+expect "help that can't be written is a fault" ends_unheard 4 --help
+expect "help tells the words" tells --help "--export=NAME"
+expect "the version is told" tells --version "^wasmld "
+expect "each is the only word" ends 2 "wasmld: usage: UnknownOption at word 1" a.o --help
 
 if command -v node >/dev/null 2>&1; then
   expect "the module runs" node -e '

@@ -169,15 +169,3 @@ module _ (t : Tree) (width : ℕ) (some : 1 ≤ width) (few : width ≤ max 1 (l
     where
       end' : cut (0 + ((width - 1) + 1)) ≡ length (bytes_of t) → cut (0 + ((width - 1) + 1)) - 0 ≡ length (bytes_of t)
       end' e = omega (arith, e)
-
--- The one part of one worker
-
-pub alone_room : (t : Tree) (out : List ℕ) → length out ≡ length (bytes_of t) → length out ≡ part_start t 1 1 - part_start t 1 0
-alone_room t out is = room t 1 (omega arith) (omega arith) out is
-
-pub alone : (t : Tree) → slice_range (bytes_of t) (part_start t 1 0) (part_start t 1 1) ≡ bytes_of t
-alone t =
-    let few : 1 ≤ max 1 (length (source_places t)) = omega arith in
-    let begin = start_zero t 1 (omega arith) few in
-    let end : part_start t 1 1 - 0 ≡ length (bytes_of t) = (let e = start_past t 1 (omega arith) few 1 (omega arith) in omega (arith, e)) in
-    ap (λ k. slice_range (bytes_of t) k (part_start t 1 1)) begin ∙ ap (λ k. take k (bytes_of t)) end ∙ take-length (bytes_of t)

@@ -3,7 +3,6 @@
 
 mod emission;
 mod fronts;
-mod joining;
 mod laws;
 mod measuring;
 mod parts;
@@ -16,9 +15,10 @@ mod splitting;
 #[cfg(test)]
 mod tests;
 mod tree;
+mod within;
 
 pub use emission::emit;
-pub use joining::{join_image, lie_in};
 pub use laws::{a_tree_has_a_module, bytes_are_no_other, bytes_are_the_module, entries_take_bytes};
 pub use measuring::{Measured, measure};
 pub use tree::{Image, PlacedSource, Source};
+pub use within::lie_in;

@@ -1,9 +1,13 @@
 -- What a program that is told gives.
-use Rattle.std.proofs.Common.{◌≡◌, ℕ, ◌++◌, List, map, length, Option, ap, sym, subst, ◌∙◌}
+use Rattle.std.proofs.Common.{◌≡◌, ℕ, ◌++◌, List, map, length, Option, Result, ap, sym, subst, ◌∙◌}
 use Rattle.std.proofs.lemmas.List.{length-map}
 use Rattle.object_file.specs.declared.object.Object.{Object}
+use Rattle.wl_base.specs.declared.layout_error.LayoutError.{LayoutError}
 use Rattle.made_symbols.specs.declared.mode.Mode.TheVariants.{Plain}
 use Rattle.name_rules.specs.Entries.{Entry}
+use Rattle.link_names.specs.Numbered.{Numbered as Names, symbol_number}
+use Rattle.name_entries.specs.declared.lookups.Entries.{Entries}
+use Rattle.name_entries.specs.Fits.{FitsObjects}
 use Rattle.table_layout.specs.Slots.{table_overflow}
 use Rattle.link_rules.specs.Program as rules
 use Rattle.link_rules.specs.LinkOf.{asked_names}
@@ -15,8 +19,15 @@ use Rattle.link_program.specs.Keys.{told_function}
 use Rattle.link_program.specs.Program.{IsProgram}
 use Rattle.link_program.specs.Stand.{PartsStand}
 use Rattle.link_program.specs.Live.{AreLive, AllMeant}
-use Rattle.link_numbers.specs.Numbered.{Numbered, IsNumbering, numbered}
+use Rattle.link_numbers.specs.Numbered.{Numbered, IsNumbering, TellsOverflow, numbered}
 use Rattle.link_numbers.proofs.Whole.{Given, numbering_is}
+
+-- The names have a row for each object.
+pub a_row_each : (es : Entries) (n : Names) → FitsObjects es → es.names.now ≡ n → length n.symbols ≡ length es.objects.now
+a_row_each es n f same =
+    sym (ap (λ (x : Names). length x.symbols) same)
+    ∙ ap (λ (rows : List (List (Option ℕ))). length rows) f.symbols
+    ∙ length-map es.objects.now (λ (o : Object). map (symbol_number es.names.now.names) o.symbols)
 
 module _ (d : Program) (p : rules.Program) (live : List ℕ) (parts : List rules.Part) (is : IsProgram Plain d p) (stand : PartsStand p) (are : AreLive p live parts) (meant : AllMeant parts) where
   pub given_of : Given d.names.now.names (asked_names p.plan ++ p.plan.exports_if) d.resolution.now.imports d.tables.now d.names.now.symbols p live parts
@@ -44,3 +55,14 @@ module _ (d : Program) (p : rules.Program) (live : List ℕ) (parts : List rules
   overflow_is objects exports es same told =
       let n = numbered_is objects exports es same told in
       ap (table_overflow 1) (ap length n.slots ∙ length-map (numbers Plain p parts es).slots (told_function d.names.now.names d.resolution.now.imports))
+
+  pub told_numbers : (objects : List Object) (exports : List Winner) (es : List Entry) → objects ≡ d.objects.now → exports ≡ map (told_winner d.names.now.names) es
+      → (n : Numbered) → n ≡ numbered d.resolution.now.imports (length d.names.now.names) d.tables.now objects d.names.now.symbols exports live
+      → IsNumbering d.names.now.names d.resolution.now.imports d.tables.now.types p parts n (numbers Plain p parts es)
+  told_numbers objects exports es same told n given =
+      subst (λ (n : Numbered). IsNumbering d.names.now.names d.resolution.now.imports d.tables.now.types p parts n (numbers Plain p parts es)) (sym given) (numbered_is objects exports es same told)
+
+  pub told_overflow : (objects : List Object) (exports : List Winner) (es : List Entry) → objects ≡ d.objects.now → exports ≡ map (told_winner d.names.now.names) es
+      → {A : Type 0} (r : Result A LayoutError) → TellsOverflow r (table_overflow 1 (length (numbered d.resolution.now.imports (length d.names.now.names) d.tables.now objects d.names.now.symbols exports live).slots))
+      → TellsOverflow r (table_overflow (numbers Plain p parts es).first_slot (length (numbers Plain p parts es).slots))
+  told_overflow objects exports es same told r tells = subst (λ (end : Option ℕ). TellsOverflow r end) (overflow_is objects exports es same told) tells

@@ -21,3 +21,4 @@ pub mod TypesTold
 pub mod Whole
 pub mod PlaceSteps
 pub mod Begun
+pub mod Composed

@@ -1,6 +1,6 @@
 -- Steps of loops over numbers and over lists.
-use Rattle.std.proofs.Common.{◌≡◌, ℕ, ◌+◌, ◌<◌, Bool, true, false, List, [], ◌∷◌, ◌++◌, map, filter, filter_map, fold, take, get_or, length, Option, Some, None, refl, sym, ap, ◌∙◌, append_assoc, add-one, append-nil}
-use Rattle.std.proofs.lemmas.List.{map-append, take_more}
+use Rattle.std.proofs.Common.{arith, ◌≡◌, ℕ, ◌+◌, ◌<◌, ◌≤◌, min, Bool, true, false, List, [], ◌∷◌, ◌++◌, map, filter, filter_map, fold, take, get_or, length, Option, Some, None, refl, sym, ap, ◌∙◌, append_assoc, add-one, append-nil}
+use Rattle.std.proofs.lemmas.List.{map-append, take_more, length-take}
 use Rattle.std.proofs.lemmas.List.Sums.{fold-append}
 use Rattle.std.specs.List.{cons_option}
 use Rattle.std.proofs.lemmas.List.Elements.{filter_map-append, filter-append}
@@ -77,3 +77,15 @@ filters_more test xs i d below keys now held is =
     is ∙ ap (λ ks. ks ++ filter test (get_or xs i d ∷ [])) held
     ∙ sym (filter-append test (take i xs) (get_or xs i d ∷ []))
     ∙ ap (filter test) (sym (take_more xs i d below))
+
+-- One more of a list that is mapped.
+pub maps_more : {X Y : Type 0} (f : X → Y) (xs : List X) (i : ℕ) (d : X) → i < length xs → (old : List Y) (y : Y) → old ≡ map f (take i xs) → y ≡ f (get_or xs i d) → old ++ y ∷ [] ≡ map f (take (i + 1) xs)
+maps_more f xs i d below old y held is =
+    ap (λ ys. ys ++ y ∷ []) held
+    ∙ ap (λ z. map f (take i xs) ++ z ∷ []) is
+    ∙ sym (map-append f (take i xs) (get_or xs i d ∷ []))
+    ∙ ap (map f) (sym (take_more xs i d below))
+
+-- A list has at least as many items as its front.
+pub longer : {A : Type 0} (old new : List A) → take (length old) new ≡ old → length old ≤ length new
+longer old new front = omega (arith, sym (ap length front) ∙ length-take (length old) new)

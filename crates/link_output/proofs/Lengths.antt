@@ -1,7 +1,7 @@
 -- What a measure tells of the length.
-use Rattle.std.proofs.Common.{◌≡◌, ℕ, ◌-◌, ◌^◌, List, refl, sym, ap, ◌∙◌, subst, arith, Bool, true, false, nat_lt, min, Option, Some, None, if◌then◌else◌, Result, Ok, Err, ℤ, pos}
+use Rattle.std.proofs.Common.{◌≡◌, ℕ, ◌-◌, ◌<◌, ◌^◌, List, refl, sym, ap, ◌∙◌, subst, arith, Bool, true, false, nat_lt, min, Option, Some, None, if◌then◌else◌, Result, Ok, Err, ℤ, pos}
 use Rattle.std.specs.Prelude.{int_lt}
-use Rattle.std.proofs.lemmas.Bool.{ltb-true}
+use Rattle.std.proofs.lemmas.Bool.{ltb-true, ltb-false}
 use Rattle.wl_base.specs.Choice.{given}
 use Rattle.wl_base.specs.Answers.{Answers}
 use Rattle.wl_base.specs.declared.fault.Fault.{Fault}
@@ -39,9 +39,15 @@ same a b e = subst (Same a) e (itself a)
     itself (Err (Overflow w n)) = (refl, refl)
     itself (Err OutOfMemory) = tt
 
-ok_by : (b : Bool) (len : ℕ) (places : List ℕ) (m : Measured) → answer_by b len places ≡ Ok m → (m.places ≡ places) × (told b len ≡ None)
-ok_by true len places m e = absurd (same (answer_by true len places) (Ok m) e)
-ok_by false len places m e = (ap (λ x. x.places) (same (answer_by false len places) (Ok m) e), refl)
+not_long : (len n : ℕ) → n ≡ len → nat_lt (2 ^ 31 - 1) len ≡ false → n < 2 ^ 31
+not_long len n is e = omega (arith, is, ltb-false (2 ^ 31 - 1) len e)
+
+ok_by : (b : Bool) (len : ℕ) (places : List ℕ) (m : Measured) → nat_lt (2 ^ 31 - 1) len ≡ b → answer_by b len places ≡ Ok m
+    → (m.places ≡ places) × (told b len ≡ None) × (m.len < 2 ^ 31)
+ok_by true len places m is e = absurd (same (answer_by true len places) (Ok m) e)
+ok_by false len places m is e =
+    let both : m ≡ record { len = len; places = places } = same (answer_by false len places) (Ok m) e in
+    (ap (λ x. x.places) both, refl, not_long len m.len (ap (λ x. x.len) both) is)
 
 short : (len : ℕ) → int_lt (pos (min len (2 ^ 63 - 1))) (pos (2 ^ 63 - 1)) ≡ true → min len (2 ^ 63 - 1) ≡ len
 short len e = omega (arith, ltb-true (min len (2 ^ 63 - 1)) (2 ^ 63 - 1) e)
@@ -57,8 +63,8 @@ err_by true len places what needed small e =
 pub measures : (files : List (List ℕ)) (i : Image) (r : Result Measured LayoutError) → LieIn files i → Answers r (image_measure i) → is_exact r ≡ true → Measures r files i
 measures files i (Ok m) lie e exact =
     let is : measure_of (tree_of files i) ≡ Ok m = files_measure files i lie ∙ e in
-    let both = ok_by (nat_lt (2 ^ 31 - 1) (output_len files i)) (output_len files i) (source_places (tree_of files i)) m is in
-    (e, both.0, both.1)
+    let all = ok_by (nat_lt (2 ^ 31 - 1) (output_len files i)) (output_len files i) (source_places (tree_of files i)) m refl is in
+    (e, all.0, all.1, all.2)
 measures files i (Err (Overflow what needed)) lie e exact =
     err_by (nat_lt (2 ^ 31 - 1) (output_len files i)) (output_len files i) (source_places (tree_of files i)) what needed exact (files_measure files i lie ∙ e)
 measures files i (Err OutOfMemory) lie e exact = tt

@@ -1,5 +1,5 @@
 -- What is answered where an image is measured and written.
-use Rattle.std.specs.Prelude.{◌≡◌, ℕ, List, length, map, flat_map, None, Some, Result, Ok, Err, pos, ◌-◌, ◌^◌, int_lt, Bool, true}
+use Rattle.std.specs.Prelude.{◌≡◌, ℕ, List, length, map, flat_map, None, Some, Result, Ok, Err, pos, ◌-◌, ◌<◌, ◌^◌, int_lt, Bool, true}
 use Rattle.std.specs.List.{AllZip}
 use Rattle.wl_base.specs.declared.fault.Fault.TheVariants as faults
 use Rattle.wl_base.specs.declared.fault.What.TheVariants.{Reference}
@@ -20,9 +20,9 @@ use Rattle.link_rules.specs.LinkOf.{length_fault}
 abbrev pub output_len : List (List ℕ) → Image → ℕ
 output_len files i = length (bytes_of (tree_of files i))
 
--- The measure is that of the output's bytes, which are not too many; or they are, and their number is told.
+-- The measure is that of the output's bytes, which are fewer than 2^31; or they are not, and their number is told.
 abbrev pub Measures : Result Measured LayoutError → List (List ℕ) → Image → Type 0
-Measures (Ok m) files i = (image_measure i ≡ Ok m) × (m.places ≡ source_places (tree_of files i)) × (length_fault (output_len files i) ≡ None)
+Measures (Ok m) files i = (image_measure i ≡ Ok m) × (m.places ≡ source_places (tree_of files i)) × (length_fault (output_len files i) ≡ None) × (m.len < 2 ^ 31)
 Measures (Err (Overflow what needed)) files i = length_fault (output_len files i) ≡ Some (faults.Overflow what needed)
 Measures (Err OutOfMemory) files i = Unit {0}
 

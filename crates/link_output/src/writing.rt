@@ -42,7 +42,8 @@ pub fn write<R: Threads + Sync, G: Gate>(
     requires windows { windows.now ≡ moved_windows m.now.places wss }
     requires sums { All IsSum windows.now }
     requires stand { StandInSources wss (sources (tree_of files.now image.now)) }
-    ensures { Writes result wss files.now image.now }
+    ensures is { Writes result wss files.now image.now }
+    ensures len { IfOk result (λ bytes. length bytes ≡ m.now.len) }
 {
     let patches = match values(alloc, windows) {
         Ok(patches) => patches,

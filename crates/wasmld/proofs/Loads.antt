@@ -1,5 +1,5 @@
 -- What a run of loads keeps.
-use Rattle.std.proofs.Common.{◌≡◌, ℕ, ◌+◌, ◌≤◌, List, [], ◌∷◌, ◌++◌, length, map, take, Option, Some, None, IsTrue, subst, sym, ◌∙◌, refl, ap, get_or, ◌<◌, arith, length-append}
+use Rattle.std.proofs.Common.{◌≡◌, ℕ, ◌+◌, List, [], ◌∷◌, ◌++◌, length, map, take, Option, Some, None, IsTrue, subst, sym, ◌∙◌, refl, ap, get_or, ◌<◌, arith, length-append}
 use Rattle.std.proofs.lemmas.List.{take_more, map-append}
 use Rattle.wl_outside.specs.Shelf.{Shown, Same, Grows, Holds}
 use Rattle.wasmld.specs.Command.{contents, with_first}

@@ -1,12 +1,13 @@
 -- What the program's answer says of the words and of the shelf before and after.
 use Rattle.std.specs.Prelude.{◌≡◌, ◌⊎◌, ℕ, List, [], ◌∷◌, IsTrue, Contains, map, Option, Some, None, IfSome, IsSomeAnd, Result, Ok, Err}
-use Rattle.first_words.specs.declared.plan.Plan.{Plan}
-use Rattle.first_link.specs.LinkOf.{first_link_of}
 use Rattle.wl_base.specs.declared.fault.Fault.{Fault}
+use Rattle.wl_outside.specs.Shelf.{Shown, Same, SameBut, Holds, Torn, LoadFailed, SaveFailed}
+use Rattle.link_plan.specs.declared.plan.Plan.{Plan}
+use Rattle.link_words.specs.Words.{word}
+use Rattle.link_rules.specs.LinkOf.{link_of}
+use Rattle.case_objects.specs.Objects.{objects}
 use Rattle.wasmld.specs.declared.status.Status.{Status}
 use Rattle.wasmld.specs.declared.status.Status.TheVariants.{Linked, Refused, Usage, ReadFault, WriteFault, NoMemory}
-use Rattle.wl_outside.specs.Shelf.{Shown, Same, SameBut, Holds, Torn, LoadFailed, SaveFailed}
-use Rattle.first_words.specs.Words.{word}
 
 -- the contents of the names, where each holds any
 abbrev pub with_first : Option (List ℕ) → Option (List (List ℕ)) → Option (List (List ℕ))
@@ -24,11 +25,21 @@ places plan = map (λ i. i.place) plan.inputs
 abbrev pub input_names : List (List ℕ) → Plan → List (List ℕ)
 input_names words plan = map (word words) (places plan)
 
--- the link of what the shelf holds under the input words
+-- what is linked: the objects of the generated case, or what the shelf holds under the input words
+abbrev pub files_of : Option ℕ → Shown → List (List ℕ) → Plan → Option (List (List ℕ))
+files_of (Some n) before words plan = Some (objects n)
+files_of None before words plan = contents before.held (input_names words plan)
+
+-- what is linked is told: it is generated, or the shelf tells what it holds
+abbrev pub IsTold : Option ℕ → Shown → Type 0
+IsTold (Some n) before = Unit {0}
+IsTold None before = IsTrue before.tells
+
+-- the link of these files
 pub record LinkIs (before : Shown) (words : List (List ℕ)) (plan : Plan) (said : Result (List ℕ) Fault) : Type 0 where
   pub files : List (List ℕ)
-  pub held : contents before.held (input_names words plan) ≡ Some files
-  pub link : first_link_of plan files ≡ said
+  pub held : files_of plan.make_case before words plan ≡ Some files
+  pub link : link_of plan files ≡ said
 
 -- the output, where the plan names one, holds the bytes, and all else is as before
 abbrev pub Saved : Shown → Shown → Option (List ℕ) → List ℕ → Type 0
@@ -43,14 +54,14 @@ Cut before after (Some output) bytes = Torn before after output bytes × SameBut
 -- what an answer to words that have a plan shows, row by row
 abbrev pub Shows : Status → Shown → Shown → List (List ℕ) → Plan → Type 0
 Shows Linked before after words plan =
-    IsTrue before.tells → (bytes : List ℕ) × LinkIs before words plan (Ok bytes) × Saved before after plan.output bytes
+    IsTold plan.make_case before → (bytes : List ℕ) × LinkIs before words plan (Ok bytes) × Saved before after plan.output bytes
 Shows (Refused fault) before after words plan =
-    (IsTrue before.tells → LinkIs before words plan (Err fault)) × Same before after
+    (IsTold plan.make_case before → LinkIs before words plan (Err fault)) × Same before after
 Shows (Usage u) before after words plan = ⊥
 Shows (ReadFault k) before after words plan =
     Contains (places plan) k × LoadFailed before after (word words k) × Same before after
 Shows WriteFault before after words plan =
-    (IsTrue before.tells → (bytes : List ℕ) × LinkIs before words plan (Ok bytes) × Cut before after plan.output bytes)
+    (IsTold plan.make_case before → (bytes : List ℕ) × LinkIs before words plan (Ok bytes) × Cut before after plan.output bytes)
     × IsSomeAnd plan.output (λ output. SaveFailed before after output)
 Shows NoMemory before after words plan = Same before after
 

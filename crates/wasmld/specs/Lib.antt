@@ -1,3 +1,6 @@
 pub mod Command
+pub mod Ending
+pub mod Line
 pub mod ReadCause
+pub mod Said
 pub mod Status

@@ -1,10 +1,10 @@
 -- Why the inputs weren't loaded.
 use Rattle.std.specs.Prelude.{ℕ, List, Contains}
-use Rattle.first_words.specs.declared.plan.Plan.{Plan}
-use Rattle.wasmld.specs.declared.command.ReadError.{ReadError}
-use Rattle.wasmld.specs.declared.command.ReadError.TheVariants.{Failed, OutOfMemory}
 use Rattle.wl_outside.specs.Shelf.{Shown, LoadFailed}
-use Rattle.first_words.specs.Words.{word}
+use Rattle.link_plan.specs.declared.plan.Plan.{Plan}
+use Rattle.link_words.specs.Words.{word}
+use Rattle.wasmld.specs.declared.inputs.ReadError.{ReadError}
+use Rattle.wasmld.specs.declared.inputs.ReadError.TheVariants.{Failed, OutOfMemory}
 use Rattle.wasmld.specs.Command.{places}
 
 abbrev pub ReadCause : ReadError → Shown → Shown → List (List ℕ) → Plan → Type 0

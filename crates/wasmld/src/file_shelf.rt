@@ -2,10 +2,11 @@
 //! failed loads and one of failed saves for all names.
 ghost use Rattle.std.specs.Prelude.{◌≡◌, ◌≤◌};
 
+use crate::writing::write_all;
 use std::alloc::{AllocError, Global};
 use std::fs;
 use std::fs::OpenFile;
-use std::io::{Read, Write};
+use std::io::Read;
 use std::rt::Files;
 use wl_base::Seq;
 use wl_outside::{Failed, LoadFault, Shelf};
@@ -13,7 +14,9 @@ use wl_outside::{Failed, LoadFault, Shelf};
 // A longer file counts as a fault.
 const MAX_LEN: usize = 1 << 32;
 
-// A file is read through a buffer of this many bytes.
+// A file is read through a buffer of its own length, but of at least so many bytes and at most so many.
+const LEAST_PIECE: usize = 1 << 12;
+
 const PIECE: usize = 1 << 17;
 
 /// Files by their paths.
@@ -83,7 +86,8 @@ fn read_all<R: Read>(alloc: Global, len: usize, file: &mut R) -> Result<Vec<u8>,
     requires { len ≤ MAX_LEN }
 {
     let mut bytes = Vec::with_capacity(alloc, len + 1).map_err(out_of_memory)?;
-    let mut piece = vec![in alloc; 0u8; PIECE].map_err(out_of_memory)?;
+    let size = (len + 1).max(LEAST_PIECE).min(PIECE);
+    let mut piece = vec![in alloc; 0u8; size].map_err(out_of_memory)?;
     while bytes.len() <= MAX_LEN {
         let Ok(count) = file.read(&mut piece) else {
             return Err(LoadFault::Failed);
@@ -103,19 +107,4 @@ fn write_file<R: Files>(rt: &R, name: &str, bytes: &[u8]) -> Result<(), Failed> 
         return Err(Failed);
     };
     write_all(&mut file, bytes)
-}
-
-// Writes until nothing is left. A write that takes nothing is a fault.
-fn write_all<W: Write>(file: &mut W, bytes: &[u8]) -> Result<(), Failed> {
-    let mut at = 0;
-    while at < bytes.len() {
-        let Ok(count) = file.write(&bytes[at..]) else {
-            return Err(Failed);
-        };
-        if count == 0 {
-            return Err(Failed);
-        }
-        at += count;
-    }
-    Ok(())
 }

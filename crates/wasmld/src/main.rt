@@ -2,22 +2,27 @@
 #![tactic(auto)]
 
 mod command;
+mod ending;
 mod file_shelf;
-mod line;
+mod inputs;
 mod manual;
+mod output_sink;
 mod status;
 #[cfg(test)]
 mod tests;
+mod writing;
 
 pub use command::link_command;
 pub use file_shelf::FileShelf;
 use manual::answer;
+pub use output_sink::OutputSink;
 pub use status::Status;
 use std::alloc::Global;
 use std::env;
 use std::io::ErrorKind;
 use std::process::ExitCode;
 use wl_base::{OutOfMemory, Seq, Text};
+use wl_outside::OpenGate;
 
 // More words than places have.
 const MOST_WORDS: usize = u32::MAX as usize;
@@ -49,11 +54,15 @@ fn main(rt: HostRuntime) -> ExitCode {
         return ExitCode::from(USAGE);
     }
     let mut shelf = FileShelf::new(&rt);
-    let status = link_command(rt.alloc(), words.as_slice(), &mut shelf);
-    if status.code() != 0 {
-        // A line that can't be written changes no status.
-        let _ = println!(rt; "wasmld: {status}");
-    }
+    let mut say = OutputSink::new(&rt);
+    let status = link_command(
+        &rt,
+        rt.alloc(),
+        words.as_slice(),
+        &mut shelf,
+        &mut say,
+        &OpenGate,
+    );
     ExitCode::from(status.code())
 }
 

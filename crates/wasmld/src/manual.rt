@@ -3,29 +3,59 @@
 use wl_base::Text;
 
 const HELP: &str = "\
-wasmld links relocatable WebAssembly objects into one WebAssembly module.
+wasmld links relocatable WebAssembly objects and static libraries into one
+WebAssembly module.
 
 Usage:
-  wasmld INPUT -o OUTPUT --no-entry --export=NAME
+  wasmld INPUT.. -o OUTPUT [OPTION]..
+  wasmld --make-case=N [-o OUTPUT] [OPTION]..
   wasmld --help
   wasmld --version
 
-So far one object is linked, and these words are read in this order alone:
-  INPUT           the object; it doesn't begin with '-'
-  -o OUTPUT       the module that is written
-  --no-entry      there is no entry function
-  --export=NAME   the function that is exported beside the memory; NAME is not
-                  'memory' and doesn't begin with two underscores
+A word that begins with '-' is an option, up to a word '--'; any other word is
+an input. An option with a value is '--x=V' or '--x V'; -o, -u, -z and -m take
+the next word. Where an option of one value is given again, the last counts.
+Numbers are decimal, or 0x and hexadecimal digits.
 
-The object has functions that take and give i32, whose bodies have no locals
-and only i32.const, call and end; a linking section of version 2 with function
-symbols; and relocations of calls. Any other object is refused.
+  -o FILE                    the module that is written
+  --entry=NAME, --no-entry   the entry function, by default _start; the later
+                             of the two counts
+  --export=NAME              export NAME
+  --export-if-defined=NAME   export NAME where it is defined
+  --export-table             export the table of functions
+  --export-dynamic           export every definition that is neither local nor
+                             hidden
+  --allow-undefined          import undefined functions and globals
+  -u NAME                    load library members as if NAME were referred to
+  --global-base=N            where data begin
+  --stack-first              the stack stands at 0
+  -z stack-size=N            the stack's bytes, a multiple of 16, by default
+                             65536
+  --initial-memory=N         the least size of the memory in bytes, a multiple
+                             of 65536
+  --max-memory=N             the greatest size of the memory in bytes, a
+                             multiple of 65536
+  --import-memory            import env.memory in place of an own memory
+  --gc-sections, --no-gc-sections
+                             drop what nothing refers to, which is the default,
+                             or keep it
+  --whole-archive, --no-whole-archive
+                             load the libraries that follow whole, or by need
+  --start-lib, --end-lib     load the objects between by need
+  --threads=N                1 to 64 workers, by default 4
+  --make-case=N              link N generated objects, 1 to 20000, and print
+                             what became of them
+  -m wasm32, -s, -S, --strip-all, --strip-debug
+                             have no effect
+
+Nothing is printed where the link succeeds, but of a generated case; else one
+line tells what is wrong.
 
 Exit status:
   0  the module is written
-  1  the link is refused: the object is malformed, or NAME isn't defined
+  1  the link is refused
   2  the words are not as above
-  3  the input can't be read
+  3  an input can't be read
   4  the output can't be written
   5  out of memory
 ";

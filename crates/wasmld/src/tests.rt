@@ -1,11 +1,12 @@
-//! Runs of the whole command over shelves in memory.
-ghost use Rattle.std.specs.Prelude.{◌≡◌, IfOk, length};
+//! Runs of the whole command over shelves and sinks in memory.
+mod gates;
 
 use crate::{Status, link_command};
 use std::alloc::Global;
 use std::test::Fail;
-use wl_base::{Fault, OutOfMemory, Part, Seq, Text, Usage};
-use wl_outside::{Held, MemShelf, NeverFails};
+use std::thread::Threads;
+use wl_base::{Fault, OutOfMemory, Part, Seq, Text};
+use wl_outside::{Gate, Held, MemShelf, MemSink, NeverFails, OpenGate, Shelf, Sink, names_differ};
 
 // f calls g, which gives 7.
 const OBJECT: [u8; 79] = [
@@ -25,149 +26,263 @@ const MODULE: [u8; 65] = [
     0x0B,
 ];
 
-fn words(alloc: Global, export: &str) -> Result<Seq<Text>, OutOfMemory>
-    ensures { IfOk result (λ words. length words ≡ 5) }
-{
-    let mut words = Seq::new(alloc);
-    words.push(Text::new(alloc, "a.o")?)?;
-    words.push(Text::new(alloc, "-o")?)?;
-    words.push(Text::new(alloc, "b.wasm")?)?;
-    words.push(Text::new(alloc, "--no-entry")?)?;
-    words.push(Text::new(alloc, export)?)?;
-    Ok(words)
+// An object without symbols.
+const EMPTY: [u8; 22] = [
+    0x00, 0x61, 0x73, 0x6D, 0x01, 0x00, 0x00, 0x00, 0x00, 0x0C, 0x07, 0x6C, 0x69, 0x6E, 0x6B, 0x69,
+    0x6E, 0x67, 0x02, 0x08, 0x01, 0x00,
+];
+
+const WORDS: [&str; 5] = ["a.o", "-o", "out", "--no-entry", "--export=f"];
+
+fn texts(alloc: Global, words: &[&str]) -> Result<Seq<Text>, OutOfMemory> {
+    let mut texts = Seq::new(alloc);
+    for word in words {
+        texts.push(Text::new(alloc, *word)?)?;
+    }
+    Ok(texts)
 }
 
-// The one input.
-fn input(alloc: Global, bytes: &[u8]) -> Result<Seq<Held>, OutOfMemory>
-    ensures { IfOk result (λ files. length files ≡ 1) }
-{
+fn file(alloc: Global, name: &str, bytes: &[u8]) -> Result<Held, OutOfMemory> {
+    let name = Text::new(alloc, name)?;
+    let bytes = Seq::from_slice(alloc, bytes)?;
+    Ok(Held { name, bytes })
+}
+
+// A shelf in memory, of files whose names differ.
+fn shelf_of(alloc: Global, files: Seq<Held>, failing: &[u32]) -> Result<MemShelf, OutOfMemory> {
+    if !names_differ(files.as_slice()) {
+        return Err(OutOfMemory);
+    }
+    let failing = Seq::from_slice(alloc, failing)?;
+    Ok(MemShelf::new(alloc, files, failing))
+}
+
+// A shelf that never fails, of one input.
+fn one_input(alloc: Global, bytes: &[u8], room: u32) -> Result<NeverFails, OutOfMemory> {
+    let output = Text::new(alloc, "out")?;
     let mut files = Seq::new(alloc);
-    files.push(Held {
-        name: Text::new(alloc, "a.o")?,
-        bytes: Seq::from_slice(alloc, bytes)?,
-    })?;
-    Ok(files)
+    files.push(file(alloc, "a.o", bytes)?)?;
+    if !names_differ(files.as_slice()) {
+        return Err(OutOfMemory);
+    }
+    NeverFails::new(alloc, files, output, room)
 }
 
-// The status of a link of these bytes, on a shelf that never fails.
-fn status(alloc: Global, bytes: &[u8], export: &str) -> Result<Status, OutOfMemory> {
-    let output = Text::new(alloc, "b.wasm")?;
-    let mut shelf = NeverFails::new(alloc, input(alloc, bytes)?, output, 100)?;
-    Ok(link_command(alloc, words(alloc, export)?.as_slice(), &mut shelf))
+// How a run of a few words ends.
+fn run<R: Threads + Sync, F: Shelf, E: Sink, G: Gate>(
+    rt: &R,
+    alloc: Global,
+    words: &[&str],
+    shelf: &mut F,
+    say: &mut E,
+    gate: &G,
+) -> Result<Status, OutOfMemory> {
+    let words = texts(alloc, words)?;
+    if words.len() > 100 {
+        return Err(OutOfMemory);
+    }
+    Ok(link_command(rt, alloc, words.as_slice(), shelf, say, gate))
+}
+
+fn is_held(found: Option<&[u8]>, bytes: &[u8]) -> bool {
+    match found {
+        Some(found) => found == bytes,
+        None => false,
+    }
+}
+
+// Whether the object gives its module, the input stays, and nothing is printed.
+fn gives_its_module<R: Threads + Sync>(rt: &R, alloc: Global) -> Result<bool, OutOfMemory> {
+    let mut shelf = one_input(alloc, &OBJECT, 65)?;
+    let mut say = MemSink::new(alloc, Seq::new(alloc));
+    let status = run(rt, alloc, &WORDS, &mut shelf, &mut say, &OpenGate)?;
+    Ok(
+        status == Status::Linked
+            && is_held(shelf.held("out"), &MODULE)
+            && is_held(shelf.held("a.o"), &OBJECT)
+            && say.bytes().is_empty(),
+    )
 }
 
 #[test]
 fn an_object_gives_its_module(rt: HostRuntime) -> Result<(), Fail> {
     let alloc = rt.alloc();
-    let output = Text::new(alloc, "b.wasm")?;
-    let mut shelf = NeverFails::new(alloc, input(alloc, &OBJECT)?, output, 65)?;
-    let status = link_command(alloc, words(alloc, "--export=f")?.as_slice(), &mut shelf);
-    assert_eq!(rt; status, Status::Linked);
-    assert_eq!(rt; shelf.held("b.wasm").ok_or("nothing")?, MODULE.as_slice());
-    assert_eq!(rt; shelf.held("a.o").ok_or("nothing")?, OBJECT.as_slice());
+    assert!(rt; gives_its_module(&rt, alloc)?);
     Ok(())
+}
+
+fn three_inputs(alloc: Global) -> Result<Seq<Held>, OutOfMemory> {
+    let mut files = Seq::new(alloc);
+    files.push(file(alloc, "a.o", &OBJECT)?)?;
+    files.push(file(alloc, "b.o", &EMPTY)?)?;
+    files.push(file(alloc, "c.o", &EMPTY)?)?;
+    Ok(files)
+}
+
+// How a run over the three inputs ends, where the line can't be written.
+fn run_of_three<R: Threads + Sync>(
+    rt: &R,
+    alloc: Global,
+    shelf: &mut MemShelf,
+) -> Result<Status, OutOfMemory> {
+    let words = ["a.o", "b.o", "c.o", "-o", "out", "--no-entry", "--export=f"];
+    let failing = Seq::from_slice(alloc, &[1])?;
+    let mut say = MemSink::new(alloc, failing);
+    run(rt, alloc, &words, shelf, &mut say, &OpenGate)
+}
+
+// The answer where this call of the shelf fails.
+fn answer_where(failing: u32) -> Status {
+    match failing {
+        1 => Status::ReadFault(0),
+        2 => Status::ReadFault(1),
+        3 => Status::ReadFault(2),
+        _ => Status::WriteFault,
+    }
+}
+
+// Whether the call that fails has its answer and nothing is saved; then the same again, where no call fails.
+fn fails_once<R: Threads + Sync>(rt: &R, alloc: Global, failing: u32) -> Result<bool, OutOfMemory> {
+    let mut shelf = shelf_of(alloc, three_inputs(alloc)?, &[failing])?;
+    let fails = run_of_three(rt, alloc, &mut shelf)? == answer_where(failing);
+    let saves = shelf.held("out").is_some();
+    let links = run_of_three(rt, alloc, &mut shelf)? == Status::Linked;
+    Ok(fails && !saves && links && is_held(shelf.held("out"), &MODULE))
 }
 
 #[test]
 fn each_failing_call_has_its_answer(rt: HostRuntime) -> Result<(), Fail> {
     let alloc = rt.alloc();
-    for (failing, code) in [(1u32, 3u8), (2, 4), (3, 0)] {
-        let calls = Seq::from_slice(alloc, &[failing])?;
-        let mut shelf = MemShelf::new(alloc, input(alloc, &OBJECT)?, calls);
-        let status = link_command(alloc, words(alloc, "--export=f")?.as_slice(), &mut shelf);
-        assert_eq!(rt; status.code(), code, "call {failing}");
-        assert_eq!(rt; shelf.held("b.wasm").is_some(), code == 0);
+    for failing in 1..5u32 {
+        assert!(rt; fails_once(&rt, alloc, failing)?, "call {failing}");
     }
     Ok(())
 }
 
+// Whether a run of these words over the object has this exit status and prints this line.
+fn prints<R: Threads + Sync>(
+    rt: &R,
+    alloc: Global,
+    words: &[&str],
+    code: u8,
+    line: &[u8],
+) -> Result<bool, OutOfMemory> {
+    let mut shelf = one_input(alloc, &OBJECT, 200)?;
+    let mut say = MemSink::new(alloc, Seq::new(alloc));
+    let status = run(rt, alloc, words, &mut shelf, &mut say, &OpenGate)?;
+    Ok(status.code() == code && say.bytes() == line)
+}
+
 #[test]
-fn what_is_no_such_object_is_refused(rt: HostRuntime) -> Result<(), Fail> {
+fn each_answer_has_its_line(rt: HostRuntime) -> Result<(), Fail> {
     let alloc = rt.alloc();
-    let frame = Status::Refused(Fault::Malformed {
-        input: 1,
-        part: Part::Frame,
-    });
-    // Cut at any place.
+    let cases = [
+        (
+            ["a.o", "-o", "out", "--no-entry", "--export=f"],
+            0u8,
+            b"".as_slice(),
+        ),
+        (
+            ["a.o", "-o", "out", "--no-entry", "--export=h"],
+            1,
+            b"wasmld: input 0: unresolved h\n".as_slice(),
+        ),
+        (
+            ["a.o", "a.o", "-o", "out", "--no-entry"],
+            1,
+            b"wasmld: duplicate f: input 1 and input 2\n".as_slice(),
+        ),
+        (
+            ["a.o", "-o", "out", "--no-entry", "-u"],
+            2,
+            b"wasmld: usage: MissingValue at word 4\n".as_slice(),
+        ),
+        (
+            ["a.o", "b.o", "-o", "out", "--no-entry"],
+            3,
+            b"wasmld: cannot read word 1\n".as_slice(),
+        ),
+        (
+            ["a.o", "-o", "other", "--no-entry", "--export=f"],
+            4,
+            b"wasmld: cannot write the output\n".as_slice(),
+        ),
+    ];
+    for (words, code, line) in cases {
+        assert!(rt; prints(&rt, alloc, &words, code, line)?, "code {code}");
+    }
+    Ok(())
+}
+
+// The part of the object that is broken where it is cut after this many bytes.
+fn part_of_cut(len: usize) -> Part {
+    match len {
+        // Between the sections before the linking section, and before the relocations.
+        8 | 15 | 20 | 37 => Part::Cross(1),
+        61 => Part::Cross(12),
+        _ => Part::Frame,
+    }
+}
+
+// Whether a run over these bytes is refused since that part of them is broken.
+fn is_malformed<R: Threads + Sync>(
+    rt: &R,
+    alloc: Global,
+    bytes: &[u8],
+    part: Part,
+) -> Result<bool, OutOfMemory> {
+    let mut shelf = one_input(alloc, bytes, 100)?;
+    let mut say = MemSink::new(alloc, Seq::new(alloc));
+    let status = run(rt, alloc, &WORDS, &mut shelf, &mut say, &OpenGate)?;
+    Ok(status == Status::Refused(Fault::Malformed { input: 1, part }))
+}
+
+#[test]
+fn what_is_cut_is_malformed(rt: HostRuntime) -> Result<(), Fail> {
+    let alloc = rt.alloc();
     for len in 0..OBJECT.len() {
-        assert_eq!(rt;
-            status(alloc, &OBJECT[..len], "--export=f")?,
-            frame,
+        assert!(rt;
+            is_malformed(&rt, alloc, &OBJECT[..len], part_of_cut(len))?,
             "cut at {len}"
         );
     }
-    // One byte changed: a parameter of i64, a local, another opcode, a window of four bytes, a weak symbol,
-    // an index without a function, two symbols of one name, another section as the target, an offset that isn't
-    // a call's, a symbol that isn't there.
-    let changes = [
-        (14usize, 0x7Eu8),
-        (24, 1),
-        (34, 0x42),
-        (29, 0),
-        (52, 1),
-        (53, 2),
-        (60, 0x66),
-        (74, 1),
-        (77, 5),
-        (78, 2),
-    ];
-    for (at, byte) in changes {
-        let mut object = OBJECT;
-        let Some(place) = object.get_mut(at) else {
-            return Err("no such place")?;
-        };
-        *place = byte;
-        assert_eq!(rt;
-            status(alloc, &object, "--export=f")?,
-            frame,
-            "byte {byte} at {at}"
-        );
-    }
     Ok(())
 }
 
-#[test]
-fn each_status_has_its_line(rt: HostRuntime) -> Result<(), Fail> {
-    let alloc = rt.alloc();
-    let name = Seq::from_slice(alloc, b"a\\ \xffz".as_slice())?;
-    let lines = [
-        (Status::Linked, ""),
-        (
-            Status::Usage(Usage::UnknownOption { at: 0 }),
-            "usage: UnknownOption { at: 0 }",
-        ),
-        (Status::ReadFault(7), "cannot read word 7"),
-        (Status::WriteFault, "cannot write the output"),
-        (Status::NoMemory, "out of memory"),
-        (
-            Status::Refused(Fault::Unresolved { name, input: 0 }),
-            "input 0: unresolved a\\x5C\\x20\\xFFz",
-        ),
-        (
-            Status::Refused(Fault::Malformed {
-                input: 1,
-                part: Part::Cross(12),
-            }),
-            "input 1: malformed: rule 12",
-        ),
-    ];
-    for (status, line) in lines.iter() {
-        assert_eq!(rt; format!(in alloc; "{status}")?.as_str(), *line);
-    }
-    Ok(())
+// Whether a run of a generated case is linked, where this call of the sink fails, and this much of its line is written.
+fn case_prints<R: Threads + Sync>(
+    rt: &R,
+    alloc: Global,
+    failing: u32,
+    line: &[u8],
+) -> Result<bool, OutOfMemory> {
+    let mut shelf = shelf_of(alloc, Seq::new(alloc), &[])?;
+    let failing = Seq::from_slice(alloc, &[failing])?;
+    let mut say = MemSink::new(alloc, failing);
+    let status = run(
+        rt,
+        alloc,
+        &["--make-case=2"],
+        &mut shelf,
+        &mut say,
+        &OpenGate,
+    )?;
+    Ok(status == Status::Linked && say.bytes() == line)
 }
 
 #[test]
-fn a_name_without_a_definition_is_unresolved(rt: HostRuntime) -> Result<(), Fail> {
+fn a_generated_case_has_its_line(rt: HostRuntime) -> Result<(), Fail> {
     let alloc = rt.alloc();
-    let name = Seq::from_slice(alloc, b"h".as_slice())?;
-    assert_eq!(rt;
-        status(alloc, &OBJECT, "--export=h")?,
-        Status::Refused(Fault::Unresolved { name, input: 0 })
-    );
-    assert_eq!(rt;
-        status(alloc, &OBJECT, "--export=memory")?,
-        Status::Usage(Usage::UnknownOption { at: 0 })
-    );
+    let cases = [
+        (
+            99u32,
+            b"case 2: functions 3 segments 2 bytes 124 sum 5691\n".as_slice(),
+        ),
+        (1, b"".as_slice()),
+        (4, b"case 2: functions ".as_slice()),
+    ];
+    for (failing, line) in cases {
+        assert!(rt; case_prints(&rt, alloc, failing, line)?, "call {failing}");
+    }
     Ok(())
 }

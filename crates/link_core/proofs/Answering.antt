@@ -1,0 +1,198 @@
+-- What the link answers, by what the calls of its steps answer.
+use Rattle.std.proofs.Common.{◌≡◌, ◌<◌, ◌^◌, ◌-◌, ℕ, List, [], length, map, refl, sym, ap, ◌∙◌, subst, Option, Some, None, Result, Ok, Err, ℤ, pos, All, Contains}
+use Rattle.std.proofs.lemmas.List.Elements.{All-filter, All-contains_itself}
+use Rattle.std.specs.List.{flat_map}
+use Rattle.std.specs.Prelude.{option_map}
+use Rattle.wl_base.specs.declared.fault.Fault.{Fault}
+use Rattle.wl_base.specs.declared.fault.Fault.TheVariants.{Overflow}
+use Rattle.wl_base.specs.declared.fault.What.{What}
+use Rattle.wl_base.specs.declared.fault.What.TheVariants.{TableSize, Reference}
+use Rattle.wl_base.specs.declared.layout_error.LayoutError.{LayoutError}
+use Rattle.wl_base.specs.declared.layout_error.LayoutError.TheVariants as layouts
+use Rattle.object_file.specs.declared.object.Object.{Object}
+use Rattle.made_symbols.specs.declared.mode.Mode.TheVariants.{Plain}
+use Rattle.lib_rounds.specs.Rounds.{Candidate, load}
+use Rattle.memory_layout.specs.Memory.{Passed, memory_overflow}
+use Rattle.table_layout.specs.Slots.{table_overflow}
+use Rattle.reloc_apply.specs.declared.window.Window.{Window}
+use Rattle.reloc_apply.specs.Windows.{value_overflow, patch_of}
+use Rattle.image_emit.specs.declared.tree.Image.{Image}
+use Rattle.image_emit.specs.declared.measuring.Measured.{Measured}
+use Rattle.image_emit.specs.Bytes.{bytes_of, tree_of}
+use Rattle.image_emit.specs.Filled.{tree_filled}
+use Rattle.link_plan.specs.declared.plan.Plan.{Plan}
+use Rattle.name_rules.specs.Entries.{Entry}
+use Rattle.link_rules.specs.Candidates.{candidates_of}
+use Rattle.link_rules.specs.Program.{Program, Part, program_of}
+use Rattle.link_rules.specs.Marks.{exported, is_exported_by, repeated_export, live, unresolved}
+use Rattle.link_rules.specs.Keys.{numbers}
+use Rattle.link_rules.specs.Values.{rules_of, shapes}
+use Rattle.link_rules.specs.Output.{layout, image, source_windows}
+use Rattle.link_rules.specs.LinkOf.{asked_names, the_readers, exporting, marked, laid_out, written, length_fault, link_program, link_of}
+use Rattle.link_inputs.specs.declared.fault.InputError.{InputError}
+use Rattle.link_inputs.specs.declared.fault.InputError.TheVariants as inputs
+use Rattle.link_inputs.specs.Answers.{Fails}
+use Rattle.link_inputs.specs.Inputs.{loaded_of}
+use Rattle.program_build.specs.declared.error.BuildError.{BuildError}
+use Rattle.program_build.specs.declared.error.BuildError.TheVariants as builds
+use Rattle.program_build.specs.declared.found.Found.{Found}
+use Rattle.program_build.specs.Found.{Finds, found_of}
+use Rattle.link_layout.specs.declared.placing.Placed.{Placed}
+use Rattle.link_layout.specs.Placed.{AnswersPlaced, IsPlaced}
+use Rattle.link_numbers.specs.Numbered.{TellsOverflow, IsNumbering}
+use Rattle.image_emit.specs.Measures.{LieIn}
+use Rattle.image_emit.specs.Pieces.{sources}
+use Rattle.link_program.specs.Live.{Stage, AreLive, AllMeant}
+use Rattle.link_program.specs.Program.{IsProgram}
+use Rattle.link_program.specs.Stand.{PartsStand}
+use Rattle.link_layout.specs.Layout.{IsLayout}
+use Rattle.link_layout.specs.declared.layout.Layout.{Layout as LayoutData}
+use Rattle.link_output.specs.Written.{Measures, Writes, StandInSources}
+use Rattle.link_core.specs.declared.error.LinkError.{LinkError}
+use Rattle.link_core.specs.declared.error.LinkError.TheVariants.{Refused, OutOfMemory}
+use Rattle.link_core.specs.Answers.{Answers, IsShort, of_inputs, of_build, of_layout}
+use Rattle.link_core.proofs.Steps as steps
+
+-- an error that is passed on
+passed : {E : Type 0} (f : E → LinkError) (said : Result (List ℕ) Fault) (e : E) (x : LinkError) → x ≡ f e → Answers (Err (f e)) said → Answers (Err x) said
+passed f said e x is a = subst (λ x. Answers (Err x) said) (sym is) a
+
+-- ---- loading
+
+pub load_failed : (plan : Plan) (files : List (List ℕ)) (e : InputError) (x : LinkError) → x ≡ of_inputs e → Fails e (loaded_of Plain plan files) → Answers (Err x) (link_of plan files)
+unfolding loaded_of
+load_failed plan files e x is fails = passed of_inputs (link_of plan files) e x is (by e fails)
+  where
+    by : (e : InputError) → Fails e (loaded_of Plain plan files) → Answers (Err (of_inputs e)) (link_of plan files)
+    by (inputs.Refused f) fails = steps.not_loaded plan files f fails
+    by inputs.OutOfMemory fails = tt
+
+pub goes_on_loaded : (plan : Plan) (files : List (List ℕ)) (all : List Candidate) (objects : List Object) (r : Result (List ℕ) LinkError)
+    → candidates_of the_readers plan files ≡ Ok all → load Plain (asked_names plan) all ≡ Ok objects
+    → Answers r (link_program Plain (program_of Plain plan files all objects)) → Answers r (link_of plan files)
+goes_on_loaded plan files all objects r found given a = subst (Answers r) (sym (steps.loaded plan files all objects found given)) a
+
+-- ---- names
+
+pub find_failed : (plan : Plan) (objects : List Object) (p : Program) (e : BuildError) (x : LinkError) → x ≡ of_build e → Finds Plain (Err e) plan objects p → Answers (Err x) (link_program Plain p)
+find_failed plan objects p e x is finds = passed of_build (link_program Plain p) e x is (by e finds)
+  where
+    by : (e : BuildError) → Finds Plain (Err e) plan objects p → Answers (Err (of_build e)) (link_program Plain p)
+    by (builds.Refused f) finds = steps.not_named p f finds
+    by builds.OutOfMemory finds = tt
+
+pub goes_on_found : (p : Program) (r : Result (List ℕ) LinkError) → found_of p ≡ Ok p → Answers r (exporting Plain p (exported Plain p)) → Answers r (link_program Plain p)
+goes_on_found p r found a = subst (Answers r) (sym (steps.named p found)) a
+
+-- ---- exports and marks
+
+pub exports_are_winners : (p : Program) → All (Contains p.winners) (exported Plain p)
+unfolding exported
+exports_are_winners p = All-filter (is_exported_by p.plan) (Contains p.winners) p.winners (All-contains_itself p.winners)
+
+pub repeated : (p : Program) (es : List Entry) (f : Fault) → Some f ≡ repeated_export Plain p es → Answers (Err (Refused f)) (exporting Plain p es)
+repeated p es f e = steps.repeats p es f (sym e)
+
+pub goes_on_exported : (p : Program) (es : List Entry) (r : Result (List ℕ) LinkError) → None ≡ repeated_export Plain p es → Answers r (marked Plain p es) → Answers r (exporting Plain p es)
+goes_on_exported p es r e a = subst (Answers r) (sym (steps.exports p es (sym e))) a
+
+pub left_open : (p : Program) (es : List Entry) (f : Fault) → Some f ≡ unresolved p (live p es) → Answers (Err (Refused f)) (marked Plain p es)
+left_open p es f e = steps.left_open p es f (sym e)
+
+pub goes_on_closed : (p : Program) (es : List Entry) (r : Result (List ℕ) LinkError) → None ≡ unresolved p (live p es) → Answers r (laid_out Plain p es (live p es)) → Answers r (marked Plain p es)
+goes_on_closed p es r e a = subst (Answers r) (sym (steps.closed p es (sym e))) a
+
+-- ---- layout
+
+module _ (p : Program) (es : List Entry) (parts : List Part) where
+  -- nothing passes the memory's limits
+  abbrev Fits : Type 0
+  Fits = memory_overflow (rules_of Plain p.plan) (shapes p parts) ≡ None
+
+  abbrev slots_end : Option ℕ
+  slots_end = table_overflow (numbers Plain p parts es).first_slot (length (numbers Plain p parts es).slots)
+
+  pub place_failed : (e : LayoutError) (x : LinkError) → x ≡ of_layout e → AnswersPlaced p parts (Err e) → Answers (Err x) (laid_out Plain p es parts)
+  place_failed e x is placed = passed of_layout (laid_out Plain p es parts) e x is (by e placed)
+    where
+      by : (e : LayoutError) → AnswersPlaced p parts (Err e) → Answers (Err (of_layout e)) (laid_out Plain p es parts)
+      by (layouts.Overflow what needed) (x, at, same, as_much) =
+          steps.too_far p es parts x at ∙ ap (λ w. Err (Overflow w (pos x.needed))) (sym same) ∙ ap (λ n. Err (Overflow what n)) (sym as_much)
+      by layouts.OutOfMemory placed = tt
+
+  too_many : (end : Option ℕ) (needed : ℤ) → Fits → slots_end ≡ end → Some needed ≡ option_map pos end → laid_out Plain p es parts ≡ Err (Overflow TableSize needed)
+  unfolding layout
+  too_many (Some k) needed fits at is = steps.too_many p es parts k fits at ∙ ap (λ n. Err (Overflow TableSize n)) (sym (some_is needed (pos k) is))
+    where
+      value : ℤ → Option ℤ → ℤ
+      value n (Some m) = m
+      value n None = n
+
+      some_is : (a b : ℤ) → Some a ≡ Some b → a ≡ b
+      some_is a b e = ap (value a) e
+  too_many None needed fits at is = absurd (subst HasOne is tt)
+    where
+      HasOne : Option ℤ → Type 0
+      HasOne (Some n) = Unit {0}
+      HasOne None = ⊥
+
+  pub number_failed : (A : Type 0) (e : LayoutError) (x : LinkError) → x ≡ of_layout e → Fits → TellsOverflow {A = A} (Err e) slots_end → Answers (Err x) (laid_out Plain p es parts)
+  number_failed A e x is fits tells = passed of_layout (laid_out Plain p es parts) e x is (by e tells)
+    where
+      by : (e : LayoutError) → TellsOverflow {A = A} (Err e) slots_end → Answers (Err (of_layout e)) (laid_out Plain p es parts)
+      by (layouts.Overflow what needed) both = too_many slots_end needed fits refl both.1 ∙ ap (λ w. Err (Overflow w needed)) (sym both.0)
+      by layouts.OutOfMemory both = tt
+
+  pub goes_on_placed : (r : Result (List ℕ) LinkError) → Fits → slots_end ≡ None
+      → Answers r (written Plain p (image Plain p parts es (layout Plain p parts es)) (source_windows Plain p parts es (layout Plain p parts es))) → Answers r (laid_out Plain p es parts)
+  unfolding layout
+  goes_on_placed r fits none a = subst (Answers r) (sym (steps.placed p es parts fits none)) a
+
+pub layout_is : (p : Program) (parts : List Part) (es : List Entry) (d : LayoutData) (ns : List ℕ) → IsProgram Plain d.program p → PartsStand p → AreLive p ns parts → AllMeant parts
+    → IsNumbering d.program.names.now.names d.program.resolution.now.imports d.program.tables.now.types p parts d.numbering.now (numbers Plain p parts es) → IsPlaced p parts d.placed.now → IsLayout p parts es d
+layout_is p parts es d ns program stand live meant numbering placed =
+    record { program = program; stand = stand; live = (ns, live); meant = meant; numbering = numbering; placed = placed }
+
+-- ---- the output
+
+-- The image of a stage, and the windows of its sources.
+abbrev pub the_image : Stage → Image
+the_image s = image Plain s.program s.parts s.exports (layout Plain s.program s.parts s.exports)
+
+abbrev pub the_windows : Stage → List (List Window)
+the_windows s = source_windows Plain s.program s.parts s.exports (layout Plain s.program s.parts s.exports)
+
+pub lie_there : (files others : List (List ℕ)) (i j : Image) → files ≡ others → j ≡ i → LieIn others i → LieIn files j
+lie_there files others i j same made lie = subst (λ k. LieIn files k) (sym made) (subst (λ fs. LieIn fs i) (sym same) lie)
+
+pub stand_there : (files others : List (List ℕ)) (i j : Image) (wss : List (List Window)) → files ≡ others → j ≡ i → StandInSources wss (sources (tree_of others i))
+    → StandInSources wss (sources (tree_of files j))
+stand_there files others i j wss same made stand =
+    subst (λ k. StandInSources wss (sources (tree_of files k))) (sym made) (subst (λ fs. StandInSources wss (sources (tree_of fs i))) (sym same) stand)
+
+module _ (p : Program) (i : Image) (wss : List (List Window)) (files : List (List ℕ)) (j : Image) (same : files ≡ p.files) (made : j ≡ i) where
+  -- what is known of the image that was made, said of the image
+  moved : (T : List (List ℕ) → Image → Type 0) → T files j → T p.files i
+  moved T t = subst (λ fs. T fs i) same (subst (T files) made t)
+
+  pub measure_failed : (e : LayoutError) (x : LinkError) → x ≡ of_layout e → Measures (Err e) files j → Answers (Err x) (written Plain p i wss)
+  measure_failed e x is measures = passed of_layout (written Plain p i wss) e x is (by e (moved (Measures (Err e)) measures))
+    where
+      by : (e : LayoutError) → Measures (Err e) p.files i → Answers (Err (of_layout e)) (written Plain p i wss)
+      by (layouts.Overflow what needed) long = steps.too_long p i wss (Overflow what needed) long
+      by layouts.OutOfMemory long = tt
+
+  is_short : (m : Measured) → Measures (Ok m) files j → length_fault (length (bytes_of (tree_of p.files i))) ≡ None
+  is_short m measures = (moved (Measures (Ok m)) measures).2
+
+  pub write_failed : (m : Measured) (e : LayoutError) (x : LinkError) → x ≡ of_layout e → Measures (Ok m) files j → Writes (Err e) wss files j → Answers (Err x) (written Plain p i wss)
+  write_failed m e x is measures writes = passed of_layout (written Plain p i wss) e x is (by e (moved (Writes (Err e) wss) writes))
+    where
+      by : (e : LayoutError) → Writes (Err e) wss p.files i → Answers (Err (of_layout e)) (written Plain p i wss)
+      by (layouts.Overflow what needed) both = steps.out_of_range p i wss needed (is_short m measures) both.1 ∙ ap (λ w. Err (Overflow w needed)) (sym both.0)
+      by layouts.OutOfMemory both = tt
+
+  pub wrote : (m : Measured) (bytes : List ℕ) → Measures (Ok m) files j → Writes (Ok bytes) wss files j → Answers (Ok bytes) (written Plain p i wss)
+  wrote m bytes measures writes =
+      let both = moved (Writes (Ok bytes) wss) writes in
+      steps.wrote p i wss (is_short m measures) both.0 ∙ ap (λ bs. Ok bs) (sym both.1)

@@ -1,0 +1,179 @@
+-- The steps of the link, one at a time: a fault ends it, and where there is none it goes on.
+use Rattle.std.proofs.Common.{◌≡◌, ℕ, List, [], length, map, refl, sym, ap, ◌∙◌, subst, Option, Some, None, Result, Ok, Err, ℤ, pos}
+use Rattle.std.specs.List.{flat_map}
+use Rattle.std.specs.Prelude.{option_map}
+use Rattle.wl_base.specs.Choice.{unless, ◌>>=◌}
+use Rattle.wl_base.specs.declared.fault.Fault.{Fault}
+use Rattle.wl_base.specs.declared.fault.Fault.TheVariants.{Overflow}
+use Rattle.wl_base.specs.declared.fault.What.TheVariants.{TableSize, Reference}
+use Rattle.object_file.specs.declared.object.Object.{Object}
+use Rattle.made_symbols.specs.declared.mode.Mode.TheVariants.{Plain}
+use Rattle.lib_rounds.specs.Rounds.{Candidate, load}
+use Rattle.memory_layout.specs.Memory.{Passed, memory_overflow}
+use Rattle.table_layout.specs.Slots.{table_overflow}
+use Rattle.reloc_apply.specs.declared.window.Window.{Window}
+use Rattle.reloc_apply.specs.Windows.{value_overflow, patch_of}
+use Rattle.image_emit.specs.declared.tree.Image.{Image}
+use Rattle.image_emit.specs.Bytes.{bytes_of, tree_of}
+use Rattle.image_emit.specs.Filled.{tree_filled}
+use Rattle.link_plan.specs.declared.plan.Plan.{Plan}
+use Rattle.name_rules.specs.Entries.{Entry}
+use Rattle.name_rules.specs.Cases.{clash, duplicate}
+use Rattle.link_rules.specs.Candidates.{candidates_of}
+use Rattle.link_rules.specs.Program.{Program, Part, program_of}
+use Rattle.link_rules.specs.Marks.{exported, repeated_export, live, pic_fault, unresolved}
+use Rattle.link_rules.specs.Values.{Layout, rules_of, shapes}
+use Rattle.link_rules.specs.Output.{layout, image, source_windows, held}
+use Rattle.link_rules.specs.LinkOf.{asked_names, the_readers, too_many_names, exporting, marked, laid_out, written, memory_fault, table_fault, output_fault, reference_fault, length_fault, passed_fault, output_bytes, link_program, link_by, link_of}
+
+step : {A B : Type 0} (o : Option Fault) (a : A) (next : A → Result B Fault) → o ≡ None → (unless o a >>= next) ≡ next a
+step o a next e = ap (λ (o : Option Fault). unless o a >>= next) e
+
+stop : {A B : Type 0} (o : Option Fault) (a : A) (next : A → Result B Fault) (f : Fault) → o ≡ Some f → (unless o a >>= next) ≡ Err f
+stop o a next f e = ap (λ (o : Option Fault). unless o a >>= next) e
+
+-- ---- loading
+
+pub not_loaded : (plan : Plan) (files : List (List ℕ)) (f : Fault)
+    → (candidates_of the_readers plan files >>= λ all. load Plain (asked_names plan) all) ≡ Err f → link_of plan files ≡ Err f
+unfolding link_of link_by
+not_loaded plan files f e = by (candidates_of the_readers plan files) e
+  where
+    inner : (all : List Candidate) (r : Result (List Object) Fault) → r ≡ Err f → (r >>= λ objects. link_program Plain (program_of Plain plan files all objects)) ≡ Err f
+    inner all r e = ap (λ (r : Result (List Object) Fault). r >>= λ objects. link_program Plain (program_of Plain plan files all objects)) e
+
+    failed : Result (List Object) Fault → Result (List ℕ) Fault
+    failed (Ok objects) = Ok []
+    failed (Err g) = Err g
+
+    by : (r : Result (List Candidate) Fault) → (r >>= λ all. load Plain (asked_names plan) all) ≡ Err f
+        → (r >>= λ all. load Plain (asked_names plan) all >>= λ objects. link_program Plain (program_of Plain plan files all objects)) ≡ Err f
+    by (Ok all) e = inner all (load Plain (asked_names plan) all) e
+    by (Err g) e = ap failed e
+
+pub loaded : (plan : Plan) (files : List (List ℕ)) (all : List Candidate) (objects : List Object)
+    → candidates_of the_readers plan files ≡ Ok all → load Plain (asked_names plan) all ≡ Ok objects
+    → link_of plan files ≡ link_program Plain (program_of Plain plan files all objects)
+unfolding link_of link_by
+loaded plan files all objects found given =
+    ap (λ (r : Result (List Candidate) Fault). r >>= λ all. load Plain (asked_names plan) all >>= λ objects. link_program Plain (program_of Plain plan files all objects)) found
+    ∙ ap (λ (r : Result (List Object) Fault). r >>= λ objects. link_program Plain (program_of Plain plan files all objects)) given
+
+-- ---- names
+
+abbrev names_of : Program → Result Program Fault
+names_of p = do
+  p ← unless (too_many_names p) p
+  p ← unless (clash p.entries) p
+  unless (duplicate p.entries) p
+
+module _ (p : Program) (b c : Program → Option Fault) (next : Program → Result (List ℕ) Fault) (r : Result Program Fault) where
+  third : (oc : Option Fault) → unless oc p ≡ r → (unless oc p >>= next) ≡ (r >>= next)
+  third oc e = ap (λ (r : Result Program Fault). r >>= next) e
+
+  second : (ob : Option Fault) → (unless ob p >>= λ p. unless (c p) p) ≡ r → (unless ob p >>= λ p. unless (c p) p >>= next) ≡ (r >>= next)
+  second (Some f) e = ap (λ (r : Result Program Fault). r >>= next) e
+  second None e = third (c p) e
+
+  named_by : (oa : Option Fault) → (unless oa p >>= λ p. unless (b p) p >>= λ p. unless (c p) p) ≡ r
+      → (unless oa p >>= λ p. unless (b p) p >>= λ p. unless (c p) p >>= next) ≡ (r >>= next)
+  named_by (Some f) e = ap (λ (r : Result Program Fault). r >>= next) e
+  named_by None e = second (b p) e
+
+pub not_named : (p : Program) (f : Fault) → names_of p ≡ Err f → link_program Plain p ≡ Err f
+unfolding link_program
+not_named p f e = named_by p (λ p. clash p.entries) (λ p. duplicate p.entries) (λ p. exporting Plain p (exported Plain p)) (Err f) (too_many_names p) e
+
+pub named : (p : Program) → names_of p ≡ Ok p → link_program Plain p ≡ exporting Plain p (exported Plain p)
+unfolding link_program
+named p e = named_by p (λ p. clash p.entries) (λ p. duplicate p.entries) (λ p. exporting Plain p (exported Plain p)) (Ok p) (too_many_names p) e
+
+-- ---- exports and marks
+
+pub repeats : (p : Program) (es : List Entry) (f : Fault) → repeated_export Plain p es ≡ Some f → exporting Plain p es ≡ Err f
+repeats p es f e = stop (repeated_export Plain p es) es (λ es. marked Plain p es) f e
+
+pub exports : (p : Program) (es : List Entry) → repeated_export Plain p es ≡ None → exporting Plain p es ≡ marked Plain p es
+exports p es e = step (repeated_export Plain p es) es (λ es. marked Plain p es) e
+
+no_pic : (parts : List Part) → pic_fault Plain parts ≡ None
+unfolding pic_fault
+no_pic parts = refl
+
+pub left_open : (p : Program) (es : List Entry) (f : Fault) → unresolved p (live p es) ≡ Some f → marked Plain p es ≡ Err f
+unfolding marked
+left_open p es f e =
+    step (pic_fault Plain (live p es)) (live p es) (λ parts. unless (unresolved p parts) parts >>= λ parts. laid_out Plain p es parts) (no_pic (live p es))
+    ∙ stop (unresolved p (live p es)) (live p es) (λ parts. laid_out Plain p es parts) f e
+
+pub closed : (p : Program) (es : List Entry) → unresolved p (live p es) ≡ None → marked Plain p es ≡ laid_out Plain p es (live p es)
+unfolding marked
+closed p es e =
+    step (pic_fault Plain (live p es)) (live p es) (λ parts. unless (unresolved p parts) parts >>= λ parts. laid_out Plain p es parts) (no_pic (live p es))
+    ∙ step (unresolved p (live p es)) (live p es) (λ parts. laid_out Plain p es parts) e
+
+-- ---- layout
+
+module _ (p : Program) (es : List Entry) (parts : List Part) where
+  abbrev l : Layout
+  l = layout Plain p parts es
+
+  abbrev after_table : Result (List ℕ) Fault
+  after_table = written Plain p (image Plain p parts es (layout Plain p parts es)) (source_windows Plain p parts es (layout Plain p parts es))
+
+  pub too_far : (x : Passed) → memory_overflow (rules_of Plain p.plan) (shapes p parts) ≡ Some x → laid_out Plain p es parts ≡ Err (Overflow x.what (pos x.needed))
+  unfolding laid_out memory_fault
+  too_far x e =
+      stop (option_map passed_fault (memory_overflow (rules_of Plain p.plan) (shapes p parts))) parts
+      (λ parts. unless (table_fault (layout Plain p parts es)) (layout Plain p parts es) >>= λ l. written Plain p (image Plain p parts es l) (source_windows Plain p parts es l))
+      (Overflow x.what (pos x.needed)) (ap (option_map passed_fault) e)
+
+  fits : memory_overflow (rules_of Plain p.plan) (shapes p parts) ≡ None
+      → laid_out Plain p es parts ≡ (unless (table_fault (layout Plain p parts es)) (layout Plain p parts es) >>= λ l. written Plain p (image Plain p parts es l) (source_windows Plain p parts es l))
+  unfolding laid_out memory_fault
+  fits e =
+      step (option_map passed_fault (memory_overflow (rules_of Plain p.plan) (shapes p parts))) parts
+      (λ parts. unless (table_fault (layout Plain p parts es)) (layout Plain p parts es) >>= λ l. written Plain p (image Plain p parts es l) (source_windows Plain p parts es l))
+      (ap (option_map passed_fault) e)
+
+  pub too_many : (k : ℕ) → memory_overflow (rules_of Plain p.plan) (shapes p parts) ≡ None
+      → table_overflow (layout Plain p parts es).numbers.first_slot (length (layout Plain p parts es).numbers.slots) ≡ Some k
+      → laid_out Plain p es parts ≡ Err (Overflow TableSize (pos k))
+  unfolding table_fault
+  too_many k first e =
+      fits first ∙ stop (table_fault (layout Plain p parts es)) (layout Plain p parts es) (λ l. written Plain p (image Plain p parts es l) (source_windows Plain p parts es l)) (Overflow TableSize (pos k))
+      (ap (option_map (λ n. Overflow TableSize (pos n))) e)
+
+  pub placed : memory_overflow (rules_of Plain p.plan) (shapes p parts) ≡ None
+      → table_overflow (layout Plain p parts es).numbers.first_slot (length (layout Plain p parts es).numbers.slots) ≡ None
+      → laid_out Plain p es parts ≡ written Plain p (image Plain p parts es (layout Plain p parts es)) (source_windows Plain p parts es (layout Plain p parts es))
+  unfolding table_fault
+  placed first e =
+      fits first ∙ step (table_fault (layout Plain p parts es)) (layout Plain p parts es) (λ l. written Plain p (image Plain p parts es l) (source_windows Plain p parts es l))
+      (ap (option_map (λ n. Overflow TableSize (pos n))) e)
+
+-- ---- the output
+
+module _ (p : Program) (i : Image) (wss : List (List Window)) where
+  abbrev after_length : Result (List ℕ) Fault
+  after_length = unless (reference_fault wss) wss >>= λ wss. Ok (output_bytes Plain p i wss)
+
+  pub too_long : (f : Fault) → length_fault (length (bytes_of (tree_of p.files i))) ≡ Some f → written Plain p i wss ≡ Err f
+  unfolding written output_fault
+  too_long f e = stop (length_fault (length (bytes_of (tree_of p.files i)))) i (λ i. unless (reference_fault wss) wss >>= λ wss. Ok (output_bytes Plain p i wss)) f e
+
+  short : length_fault (length (bytes_of (tree_of p.files i))) ≡ None → written Plain p i wss ≡ after_length
+  unfolding written output_fault
+  short e = step (length_fault (length (bytes_of (tree_of p.files i)))) i (λ i. unless (reference_fault wss) wss >>= λ wss. Ok (output_bytes Plain p i wss)) e
+
+  pub out_of_range : (needed : ℤ) → length_fault (length (bytes_of (tree_of p.files i))) ≡ None
+      → value_overflow (flat_map (λ ws. ws) wss) ≡ Some needed → written Plain p i wss ≡ Err (Overflow Reference needed)
+  unfolding reference_fault
+  out_of_range needed first e =
+      short first ∙ stop (reference_fault wss) wss (λ wss. Ok (output_bytes Plain p i wss)) (Overflow Reference needed) (ap (option_map (Overflow Reference)) e)
+
+  pub wrote : length_fault (length (bytes_of (tree_of p.files i))) ≡ None → value_overflow (flat_map (λ ws. ws) wss) ≡ None
+      → written Plain p i wss ≡ Ok (bytes_of (tree_filled (map (map patch_of) wss) (tree_of p.files i)))
+  unfolding reference_fault output_bytes
+  wrote first e =
+      short first ∙ step (reference_fault wss) wss (λ wss. Ok (output_bytes Plain p i wss)) (ap (option_map (Overflow Reference)) e)

@@ -1,0 +1,10 @@
+use Rattle.link_core.proofs.layers.lay_out.Given as goal
+
+abbrev pub ghost-place_segments : goal.ghost-place_segments
+ghost-place_segments g a = g.s
+
+abbrev pub ghost-number : goal.ghost-number
+ghost-number g a = record { program = g.s.program; exports = g.s.exports; parts = g.s.parts }
+
+abbrev pub ghost-write_out : goal.ghost-write_out
+ghost-write_out g a = g.s

@@ -1,0 +1,41 @@
+use Rattle.std.proofs.Common.{rules, ap, subst, sym, ◌∙◌, All}
+use Rattle.std.proofs.lemmas.Result.{err_from_is_err_and}
+use Rattle.reloc_apply.specs.Windows.{IsSum}
+use Rattle.link_program.specs.Moved.{moved_windows}
+use Rattle.link_core.proofs.Answering.{the_image, the_windows, lie_there, stand_there, measure_failed, write_failed, wrote}
+use Rattle.link_core.proofs.layers.write_out.Goals as goal
+
+pub measured-requires : goal.measured-requires
+measured-requires g c =
+    lie_there c.args.files.now g.s.program.files (the_image g.s) c.in_ok-image.image (search rules) c.in_ok-image.ensures
+    (c.windows_stand_in_sources.ensures.lie g.s.program c.args.live.now g.s.parts g.s.exports (search rules) (search rules))
+
+pub returns-in_err-m-clause-exact : goal.returns-in_err-m-clause-exact
+returns-in_err-m-clause-exact g c =
+    let p = err_from_is_err_and c.from_residual-in_err-m.result c.from_residual-in_err-m.ensures.1 in
+    rw (p.1)
+    (measure_failed g.s.program (the_image g.s) (the_windows g.s) c.args.files.now c.in_ok-image.image (search rules) c.in_ok-image.ensures c.in_err-m.field-0.0 p.0 p.2 c.in_err-m.ensures)
+
+pub write-requires : goal.write-requires
+write-requires g c κs within =
+    let files =
+    lie_there c.args.files.now g.s.program.files (the_image g.s) c.in_ok-image.image (search rules) c.in_ok-image.ensures
+    (c.windows_stand_in_sources.ensures.lie g.s.program c.args.live.now g.s.parts g.s.exports (search rules) (search rules)) in
+    let windows = c.as_slice-2.ensures ∙ c.in_ok-windows.ensures.is ∙ ap (λ ks. moved_windows ks (the_windows g.s)) c.as_slice.ensures in
+    let sums = subst (λ ws. All IsSum ws) (sym c.as_slice-2.ensures) c.in_ok-windows.ensures.sums in
+    let stand =
+    stand_there c.args.files.now g.s.program.files (the_image g.s) c.in_ok-image.image (the_windows g.s) (search rules) c.in_ok-image.ensures
+    (c.windows_stand_in_sources.ensures.stand g.s.program c.args.live.now g.s.parts g.s.exports (search rules) (search rules)) in
+    let measured = c.in_ok-m.ensures.0 in
+    search (rules, files, windows, sums, stand, measured)
+
+pub returns-in_err-bytes-clause-exact : goal.returns-in_err-bytes-clause-exact
+returns-in_err-bytes-clause-exact g c =
+    let p = err_from_is_err_and c.from_residual-in_err-bytes.result c.from_residual-in_err-bytes.ensures.1 in
+    rw (p.1)
+    (write_failed g.s.program (the_image g.s) (the_windows g.s) c.args.files.now c.in_ok-image.image (search rules) c.in_ok-image.ensures c.in_ok-m.m c.in_err-bytes.field-0.0 p.0 p.2 c.in_ok-m.ensures
+    c.in_err-bytes.ensures.is)
+
+pub returns-clause-exact : goal.returns-clause-exact
+returns-clause-exact g c =
+    wrote g.s.program (the_image g.s) (the_windows g.s) c.args.files.now c.in_ok-image.image (search rules) c.in_ok-image.ensures c.in_ok-m.m c.in_ok-bytes.bytes c.in_ok-m.ensures c.in_ok-bytes.ensures.is

@@ -1,0 +1,12 @@
+use Rattle.made_symbols.specs.declared.mode.Mode.TheVariants.{Plain}
+use Rattle.link_rules.specs.Output.{layout, source_windows}
+use Rattle.link_core.proofs.layers.write_out.Given as goal
+
+abbrev pub ghost-image : goal.ghost-image
+ghost-image g a = g.s
+
+abbrev pub ghost-windows : goal.ghost-windows
+ghost-windows g a = g.s
+
+abbrev pub ghost-write : goal.ghost-write
+ghost-write g a = source_windows Plain g.s.program g.s.parts g.s.exports (layout Plain g.s.program g.s.parts g.s.exports)

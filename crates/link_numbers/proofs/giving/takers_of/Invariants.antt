@@ -1,0 +1,10 @@
+use Rattle.std.proofs.Common.{◌≡◌, List, map, take}
+use Rattle.index_layout.specs.Numbers.{number_by}
+use Rattle.link_program.specs.declared.keys.FunctionKey.{FunctionKey}
+use Rattle.link_program.specs.Keys.{same_function_key}
+use Rattle.link_numbers.specs.Codes.{function_code}
+use Rattle.link_numbers.specs.Places.{ArePlaces}
+use Rattle.link_numbers.proofs.giving.takers_of.Given as goal
+
+abbrev pub invariant-loop-key : goal.invariant-loop-key
+invariant-loop-key l = l.takers.items ≡ map (number_by same_function_key l.functions) (take l.key-index l.slots)

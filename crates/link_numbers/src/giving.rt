@@ -1,0 +1,247 @@
+//! The numbers of the live parts of a program.
+ghost use Rattle.std.specs.Prelude.{◌≡◌, ◌+◌, ◌<◌, ◌^◌, List, map, length, replicate, None, IfOk};
+ghost use Rattle.index_layout.specs.Numbers.{number_by};
+ghost use Rattle.made_symbols.specs.declared.mode.Mode.TheVariants as modes;
+ghost use Rattle.name_entries.specs.Fits.{FitsObjects, Fits};
+ghost use Rattle.table_layout.specs.Slots.{table_overflow};
+ghost use Rattle.link_rules.specs.Keys.{numbers};
+ghost use Rattle.link_program.specs.Told.{told_winner};
+ghost use Rattle.link_program.specs.Keys.{same_function_key};
+ghost use Rattle.link_program.specs.Program.{IsProgram};
+ghost use Rattle.link_program.specs.Stand.{PartsStand};
+ghost use Rattle.link_program.specs.Live.{AreLive, AllMeant};
+ghost use Rattle.link_numbers.specs.Codes.{function_code, global_code};
+ghost use Rattle.link_numbers.specs.Places.{ArePlaces};
+ghost use Rattle.link_numbers.specs.Firsts.{firsts_rows};
+ghost use Rattle.link_numbers.specs.Lists.{slots_listed};
+ghost use Rattle.link_numbers.specs.Types.{type_number_in, types_listed};
+ghost use Rattle.link_numbers.specs.Numbered.{Linked, IsNumbering, TellsOverflow, numbered_by, numbered};
+
+use crate::firsts::firsts_of;
+use crate::function_code;
+use crate::lists::{function_codes, functions_listed, global_codes, globals_listed, slots_listed};
+use crate::marking::marks_of;
+use crate::marks::Marks;
+use crate::numbering::Numbering;
+use crate::places::Places;
+use crate::types::{TypeNumbers, numbers_in, types_of};
+use link_program::{FunctionKey, GlobalKey, Program, Winner};
+use name_entries::Entries;
+use std::alloc::Global;
+use wasm_types::FuncType;
+use wl_base::{LayoutError, OutOfMemory, Seq, What};
+
+/// The number of the first slot; slot 0 stays empty.
+const FIRST_SLOT: u32 = 1;
+
+/// Refuses more slots than a table can have.
+pub(crate) fn check_slots(count: usize) -> Result<(), LayoutError>
+    ensures end { TellsOverflow result (table_overflow 1 count) }
+    ensures few { IfOk result (λ _. 1 + count < 2 ^ 32) }
+{
+    let Some(end) = count.checked_add(1) else {
+        return Err(LayoutError::OutOfMemory);
+    };
+    if end > u32::MAX as usize {
+        if end > i64::MAX as usize {
+            return Err(LayoutError::OutOfMemory);
+        }
+        return Err(LayoutError::Overflow {
+            what: What::TableSize,
+            needed: end as i64,
+        });
+    }
+    Ok(())
+}
+
+/// The numbers of the functions that have slots, by the places of the functions.
+#[tactic(auto, using(crate::proofs::Coded::function_coded))]
+fn takers_of(
+    alloc: Global,
+    places: &Places,
+    functions: &[FunctionKey],
+    slots: &[FunctionKey],
+) -> Result<Vec<u32>, OutOfMemory>
+    requires { ArePlaces (map function_code functions.now) places.now }
+    ensures { IfOk result (λ takers. takers.items ≡ map (number_by same_function_key functions.now) slots.now) }
+{
+    let mut takers = Vec::with_capacity(alloc, slots.len())?;
+    for key in slots {
+        takers.push(places.of_or_first(function_code(*key)))?;
+    }
+    Ok(takers)
+}
+
+/// The places of functions.
+fn places_of_functions(alloc: Global, keys: &[FunctionKey]) -> Result<Places, OutOfMemory>
+    ensures { IfOk result (λ places. ArePlaces (map function_code keys.now) places) }
+{
+    let codes = function_codes(alloc, keys)?;
+    Places::new(alloc, codes.as_slice())
+}
+
+/// The places of globals.
+fn places_of_globals(alloc: Global, keys: &[GlobalKey]) -> Result<Places, OutOfMemory>
+    ensures { IfOk result (λ places. ArePlaces (map global_code keys.now) places) }
+{
+    let codes = global_codes(alloc, keys)?;
+    Places::new(alloc, codes.as_slice())
+}
+
+/// The numbers by these lists of keys, by the types of the functions, and by those that the program knows.
+#[tactic(auto, using(crate::proofs::Steps::longer))]
+pub(crate) fn numbering_of(
+    alloc: Global,
+    functions: Vec<FunctionKey>,
+    slots: Vec<FunctionKey>,
+    globals: Vec<GlobalKey>,
+    types: TypeNumbers,
+    known: &[FuncType],
+) -> Result<Numbering, OutOfMemory>
+    requires { 1 + length slots.items < 2 ^ 32 }
+    ensures { IfOk result (λ n. n ≡ record {
+      functions = functions.items;
+      slots = slots.items;
+      first_slot = 1;
+      globals = globals.items;
+      types = types.table;
+      function_types = types.numbers;
+      type_numbers = map (type_number_in types.table) known.now;
+    }) }
+{
+    let function_places = places_of_functions(alloc, functions.as_slice())?;
+    let slot_places = places_of_functions(alloc, slots.as_slice())?;
+    let global_places = places_of_globals(alloc, globals.as_slice())?;
+    let takers = takers_of(
+        alloc,
+        &function_places,
+        functions.as_slice(),
+        slots.as_slice(),
+    )?;
+    let TypeNumbers { mut table, numbers } = types;
+    let type_count = table.types().len();
+    let type_numbers = numbers_in(alloc, &mut table, known)?;
+    Ok(Numbering {
+        functions: Seq::from_vec(functions),
+        function_places,
+        slots: Seq::from_vec(slots),
+        slot_places,
+        takers: Seq::from_vec(takers),
+        first_slot: FIRST_SLOT,
+        globals: Seq::from_vec(globals),
+        global_places,
+        types: table,
+        type_count,
+        function_types: Seq::from_vec(numbers),
+        type_numbers: Seq::from_vec(type_numbers),
+    })
+}
+
+/// The functions that have slots, where a table can have so many.
+fn slots_of(
+    alloc: Global,
+    marks: &Marks,
+    functions: &[FunctionKey],
+) -> Result<Vec<FunctionKey>, LayoutError>
+    ensures slots { IfOk result (λ slots. slots.items ≡ slots_listed marks.now.taken functions.now) }
+    ensures few { IfOk result (λ slots. 1 + length slots.items < 2 ^ 32) }
+    ensures table { TellsOverflow result (table_overflow 1 (length (slots_listed marks.now.taken functions.now))) }
+{
+    let slots = slots_listed(alloc, &marks.taken, functions)?;
+    check_slots(slots.len())?;
+    Ok(slots)
+}
+
+/// The types, by the least entries of the names.
+fn types_told(
+    alloc: Global,
+    program: Program<'_>,
+    entries: Entries<'_>,
+    live: &[u32],
+    marks: &Marks,
+) -> Result<TypeNumbers, OutOfMemory>
+    requires fits { FitsObjects entries }
+    requires rows { length program.names.now.symbols ≡ length entries.objects.now }
+    ensures { IfOk result (λ types. types ≡ types_listed program.entry.resolution.now.imports (length program.entry.names.now.names)
+        program.entry.tables.now entries.entry.objects.now (firsts_rows 0 (replicate (length program.entry.names.now.names) None)
+        program.entry.names.now.symbols) live.now marks.now) }
+{
+    let firsts = firsts_of(alloc, program.names, entries.count())?;
+    types_of(alloc, program, entries, live, marks, firsts.as_slice())
+}
+
+/// The numbers by what the live parts ask for.
+fn numbers_marked(
+    alloc: Global,
+    program: Program<'_>,
+    entries: Entries<'_>,
+    exports: &[Winner],
+    live: &[u32],
+    marks: &Marks,
+) -> Result<Numbering, LayoutError>
+    requires fits { FitsObjects entries }
+    requires rows { length program.names.now.symbols ≡ length entries.objects.now }
+    ensures numbers { IfOk result (λ n. n ≡ numbered_by program.entry.resolution.now.imports (length program.entry.names.now.names)
+        program.entry.tables.now entries.entry.objects.now program.entry.names.now.symbols exports.now live.now marks.now) }
+    ensures table { TellsOverflow result (table_overflow 1 (length (numbered_by program.entry.resolution.now.imports
+        (length program.entry.names.now.names) program.entry.tables.now entries.entry.objects.now program.entry.names.now.symbols exports.now
+        live.now marks.now).slots)) }
+{
+    let functions = functions_listed(alloc, program, live, marks)?;
+    let slots = slots_of(alloc, marks, functions.as_slice())?;
+    let globals = globals_listed(alloc, program, live, exports, marks)?;
+    let types = types_told(alloc, program, entries, live, marks)?;
+    let known = program.tables.types.as_slice();
+    let numbering = numbering_of(alloc, functions, slots, globals, types, known)?;
+    Ok(numbering)
+}
+
+/// The numbers by what the data tell.
+fn numbers_told(
+    alloc: Global,
+    program: Program<'_>,
+    entries: Entries<'_>,
+    exports: &[Winner],
+    live: &[u32],
+) -> Result<Numbering, LayoutError>
+    requires fits { FitsObjects entries }
+    requires rows { length program.names.now.symbols ≡ length entries.objects.now }
+    ensures numbers { IfOk result (λ n. n ≡ numbered program.entry.resolution.now.imports (length program.entry.names.now.names)
+        program.entry.tables.now entries.entry.objects.now program.entry.names.now.symbols exports.now live.now) }
+    ensures table { TellsOverflow result (table_overflow 1 (length (numbered program.entry.resolution.now.imports
+        (length program.entry.names.now.names) program.entry.tables.now entries.entry.objects.now program.entry.names.now.symbols exports.now
+        live.now).slots)) }
+{
+    let imports = program.resolution.imports() as usize;
+    let names = program.names.count() as usize;
+    let marks = marks_of(alloc, program.tables, live, imports, names)?;
+    numbers_marked(alloc, program, entries, exports, live, &marks)
+}
+
+/// The numbers of the functions, slots, globals and types of the output, by the live parts of a program, in the order of the chunk
+/// table, and by its exports. It is refused with `TableSize` where the end of the slots is above 2^32 - 1; a list of 2^32 items and more is
+/// answered as want of memory.
+pub fn number(
+    alloc: Global,
+    program: Program<'_>,
+    entries: Entries<'_>,
+    exports: &[Winner],
+    live: &[u32],
+) -> Result<Numbering, LayoutError>
+    ghost link: { Linked }
+    requires fits { Fits modes.Plain entries }
+    requires objects { entries.objects.now ≡ program.objects.now }
+    requires names { entries.names.now ≡ program.names.now }
+    requires is_program { IsProgram modes.Plain program link.program }
+    requires stand { PartsStand link.program }
+    requires live { AreLive link.program live.now link.parts }
+    requires meant { AllMeant link.parts }
+    requires exports { exports.now ≡ map (told_winner program.names.now.names) link.exports }
+    ensures numbers { IfOk result (λ n. IsNumbering program.entry.names.now.names program.entry.resolution.now.imports
+        program.entry.tables.now.types link.program link.parts n (numbers modes.Plain link.program link.parts link.exports)) }
+    ensures table { TellsOverflow result (table_overflow (numbers modes.Plain link.program link.parts link.exports).first_slot
+        (length (numbers modes.Plain link.program link.parts link.exports).slots)) }
+{
+    let numbering = numbers_told(alloc, program, entries, exports, live)?;
+    Ok(numbering)
+}
