@@ -171,4 +171,4 @@ class Module:
 
     def word_at(self, place):
         image = self.image()
-        return sum(image.get(place + k, 0) << (8 * k) for k in range(4))
+        return sum(image.get(place + step, 0) << (8 * step) for step in range(4))

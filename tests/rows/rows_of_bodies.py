@@ -60,7 +60,9 @@ def floats():
     object = Object().function("g", [hexa("43 00 00 80 3F 1A")])
     module = linked([object], "--export=g")
     same(module.body("g"), hexa("00 43 00 00 80 3F 1A 0B"), "the body")
-    object = Object().data("d", hexa("00 00 C0 3F")).function("h", [const(0), b"\x2A\x02", Window(3, "d"), hexa("43 00 00 00 40 94")], ((), (F32,)))
+    float_load = [b"\x2A\x02", Window(MEMORY_ADDR_LEB, "d")]
+    times_two = hexa("43 00 00 00 40 94")
+    object = Object().data("d", hexa("00 00 C0 3F")).function("h", [const(0), float_load, times_two], ((), (F32,)))
     calls(linked([object], "--export=h"), ("h", [], 3))
 
 

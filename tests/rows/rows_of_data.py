@@ -125,7 +125,7 @@ def forms():
         .data("p", [word("high", -1), word("low", 0x10)])
         .function("f", [const(0), load("high", 1)], INT)
         .function("g", address("high", -5), INT)
-        .function("h", [b"\x41", Window(11, "high", 2)], INT)
+        .function("h", relative_address("high", 2), INT)
     )
     module = linked([object], "--export=f", "--export=g", "--export=h", "--export=p")
     same(module.body("f"), hexa("00 41 00 28 02 85 88 80 80 00 0B"), "the load's offset")

@@ -1,7 +1,7 @@
 """Imports, exports, the table, types and numbers."""
 
 from objects import *
-from program import calls, linked, refused, row, same, Trap
+from program import Trap, calls, linked, refused, row, same
 from samples import CALL_OBJECT
 
 TABLE_NAME = "__indirect_function_table"
@@ -228,7 +228,9 @@ def made_globals():
 
 @row("an object's global is spelled as short as possible, and numbers in bodies keep their bytes")
 def spellings():
-    object = Object().function("f", [hexa("41 80 80 00 1A 20 80 00")], ((I32,), (I32,))).function("g", [const(1), b"\x11", Window(6, NOTHING), b"\x80\x00"])
+    long_numbers = hexa("41 80 80 00 1A 20 80 00")
+    long_table_number = [b"\x11", Window(TYPE_INDEX_LEB, NOTHING), b"\x80\x00"]
+    object = Object().function("f", long_numbers, ((I32,), (I32,))).function("g", [const(1), long_table_number])
     object.own_global("h")
     object.globals[0] = hexa("7F 01 41 87 80 00 0B")
     module = linked([object], "--export=f", "--export=g", "--export=h")
@@ -241,7 +243,7 @@ def spellings():
 def slots():
     object = explicit("i", "m", "i").function("c", const(3), INT).function("b", const(2), INT).function("unused", const(0), INT).function("a", const(1), INT)
     object.data("p", [slot_word("a"), slot_word("i")])
-    object.function("f", [slot("c"), address("p"), LOAD, ADD, [b"\x41", Window(12, "b")], ADD], INT)
+    object.function("f", [slot("c"), address("p"), LOAD, ADD, relative_slot("b"), ADD], INT)
     module = linked([object], "--export=f")
     same(module.elements, [(0, ("i32", 1), [0, 1, 2, 3])], "the elements")
     same((module.word_at(1024), module.word_at(1028)), (4, 1), "the words of data")

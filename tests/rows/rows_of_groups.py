@@ -1,7 +1,7 @@
 """COMDAT groups: one copy of what several inputs have."""
 
 from objects import *
-from program import calls, linked, refused, row, same, Trap
+from program import Trap, calls, linked, refused, row, same
 
 
 def sharing(place):
