@@ -1,25 +1,21 @@
 -- What the link answers, by what the calls of its steps answer.
-use Rattle.std.proofs.Common.{◌≡◌, ◌<◌, ◌^◌, ◌-◌, ℕ, List, [], length, map, refl, sym, ap, ◌∙◌, subst, Option, Some, None, Result, Ok, Err, ℤ, pos, All, Contains}
+use Rattle.std.proofs.Common.{◌≡◌, ℕ, List, length, refl, sym, ap, ◌∙◌, subst, Option, Some, None, Result, Ok, Err, ℤ, pos, All, Contains}
 use Rattle.std.proofs.lemmas.List.Elements.{All-filter, All-contains_itself}
-use Rattle.std.specs.List.{flat_map}
 use Rattle.std.specs.Prelude.{option_map}
 use Rattle.wl_base.specs.declared.fault.Fault.{Fault}
 use Rattle.wl_base.specs.declared.fault.Fault.TheVariants.{Overflow}
-use Rattle.wl_base.specs.declared.fault.What.{What}
-use Rattle.wl_base.specs.declared.fault.What.TheVariants.{TableSize, Reference}
+use Rattle.wl_base.specs.declared.fault.What.TheVariants.{TableSize}
 use Rattle.wl_base.specs.declared.layout_error.LayoutError.{LayoutError}
 use Rattle.wl_base.specs.declared.layout_error.LayoutError.TheVariants as layouts
 use Rattle.object_file.specs.declared.object.Object.{Object}
 use Rattle.made_symbols.specs.declared.mode.Mode.TheVariants.{Plain}
 use Rattle.lib_rounds.specs.Rounds.{Candidate, load}
-use Rattle.memory_layout.specs.Memory.{Passed, memory_overflow}
+use Rattle.memory_layout.specs.Memory.{memory_overflow}
 use Rattle.table_layout.specs.Slots.{table_overflow}
 use Rattle.reloc_apply.specs.declared.window.Window.{Window}
-use Rattle.reloc_apply.specs.Windows.{value_overflow, patch_of}
 use Rattle.image_emit.specs.declared.tree.Image.{Image}
 use Rattle.image_emit.specs.declared.measuring.Measured.{Measured}
 use Rattle.image_emit.specs.Bytes.{bytes_of, tree_of}
-use Rattle.image_emit.specs.Filled.{tree_filled}
 use Rattle.link_plan.specs.declared.plan.Plan.{Plan}
 use Rattle.name_rules.specs.Entries.{Entry}
 use Rattle.link_rules.specs.Candidates.{candidates_of}
@@ -35,9 +31,7 @@ use Rattle.link_inputs.specs.Answers.{Fails}
 use Rattle.link_inputs.specs.Inputs.{loaded_of}
 use Rattle.program_build.specs.declared.error.BuildError.{BuildError}
 use Rattle.program_build.specs.declared.error.BuildError.TheVariants as builds
-use Rattle.program_build.specs.declared.found.Found.{Found}
 use Rattle.program_build.specs.Found.{Finds, found_of}
-use Rattle.link_layout.specs.declared.placing.Placed.{Placed}
 use Rattle.link_layout.specs.Placed.{AnswersPlaced, IsPlaced}
 use Rattle.link_numbers.specs.Numbered.{TellsOverflow, IsNumbering}
 use Rattle.image_emit.specs.Measures.{LieIn}
@@ -49,8 +43,8 @@ use Rattle.link_layout.specs.Layout.{IsLayout}
 use Rattle.link_layout.specs.declared.layout.Layout.{Layout as LayoutData}
 use Rattle.link_output.specs.Written.{Measures, Writes, StandInSources}
 use Rattle.link_core.specs.declared.error.LinkError.{LinkError}
-use Rattle.link_core.specs.declared.error.LinkError.TheVariants.{Refused, OutOfMemory}
-use Rattle.link_core.specs.Answers.{Answers, IsShort, of_inputs, of_build, of_layout}
+use Rattle.link_core.specs.declared.error.LinkError.TheVariants.{Refused}
+use Rattle.link_core.specs.Answers.{Answers, of_inputs, of_build, of_layout}
 use Rattle.link_core.proofs.Steps as steps
 
 -- an error that is passed on

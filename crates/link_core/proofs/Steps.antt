@@ -1,5 +1,5 @@
 -- The steps of the link, one at a time: a fault ends it, and where there is none it goes on.
-use Rattle.std.proofs.Common.{◌≡◌, ℕ, List, [], length, map, refl, sym, ap, ◌∙◌, subst, Option, Some, None, Result, Ok, Err, ℤ, pos}
+use Rattle.std.proofs.Common.{◌≡◌, ℕ, List, [], length, map, refl, ap, ◌∙◌, Option, Some, None, Result, Ok, Err, ℤ, pos}
 use Rattle.std.specs.List.{flat_map}
 use Rattle.std.specs.Prelude.{option_map}
 use Rattle.wl_base.specs.Choice.{unless, ◌>>=◌}
@@ -23,7 +23,7 @@ use Rattle.link_rules.specs.Candidates.{candidates_of}
 use Rattle.link_rules.specs.Program.{Program, Part, program_of}
 use Rattle.link_rules.specs.Marks.{exported, repeated_export, live, pic_fault, unresolved}
 use Rattle.link_rules.specs.Values.{Layout, rules_of, shapes}
-use Rattle.link_rules.specs.Output.{layout, image, source_windows, held}
+use Rattle.link_rules.specs.Output.{layout, image, source_windows}
 use Rattle.link_rules.specs.LinkOf.{asked_names, the_readers, too_many_names, exporting, marked, laid_out, written, memory_fault, table_fault, output_fault, reference_fault, length_fault, passed_fault, output_bytes, link_program, link_by, link_of}
 
 step : {A B : Type 0} (o : Option Fault) (a : A) (next : A → Result B Fault) → o ≡ None → (unless o a >>= next) ≡ next a

@@ -1,5 +1,5 @@
 -- What a link answers, beside what its definition gives.
-use Rattle.std.specs.Prelude.{◌≡◌, ◌<◌, ◌^◌, ℕ, List, length, Option, Some, None, Result, Ok, Err}
+use Rattle.std.specs.Prelude.{◌≡◌, ◌<◌, ◌^◌, ℕ, List, length, Result, Ok, Err}
 use Rattle.wl_base.specs.declared.fault.Fault.{Fault}
 use Rattle.wl_base.specs.declared.fault.Fault.TheVariants.{Overflow}
 use Rattle.wl_base.specs.declared.layout_error.LayoutError.{LayoutError}
