@@ -10,8 +10,6 @@ mod marking;
 mod marks;
 mod numbering;
 mod places;
-#[cfg(test)]
-mod tests;
 mod types;
 
 pub(crate) use codes::{Code, function_code, global_code, got_code};
