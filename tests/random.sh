@@ -4,11 +4,6 @@
 # the files of each link that differs. The last line is 'N passed, M failed'.
 set -u
 top=$(cd "$(dirname "${BASH_SOURCE[0]}")/.." && pwd)
-if [ -z "${WASMLD:-}" ]; then
-  "$top/bin/wasmld" --version >/dev/null || exit 2
-  WASMLD=$top/crates/wasmld/out/wasmld
-fi
-export WASMLD
-export PYTHONDONTWRITEBYTECODE=1
+. "$top/tests/common/program.bash"
 export PYTHONPATH=$top/tests/rows
 exec python3 "$top/tests/random/run.py" "$@"

@@ -3,10 +3,5 @@
 # isn't set; a word chooses the rows whose sentences have it. The last line is 'N passed, M failed'.
 set -u
 top=$(cd "$(dirname "${BASH_SOURCE[0]}")/.." && pwd)
-if [ -z "${WASMLD:-}" ]; then
-  "$top/bin/wasmld" --version >/dev/null || exit 2
-  WASMLD=$top/crates/wasmld/out/wasmld
-fi
-export WASMLD
-export PYTHONDONTWRITEBYTECODE=1
+. "$top/tests/common/program.bash"
 exec python3 "$top/tests/rows/run.py" "$@"
