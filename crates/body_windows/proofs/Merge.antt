@@ -5,7 +5,7 @@ use Rattle.std.specs.Prelude.{map, ◌&&◌, nat_le, nat_lt}
 use Rattle.std.specs.List.{list_any}
 use Rattle.std.proofs.lemmas.Bool.{eqb-true, ne_eqb, eq-eqb, leb-true, leb-false, ltb-false}
 use Rattle.std.proofs.lemmas.List.{append-nil}
-use Rattle.wl_base.specs.Choice.{first_some, unless}
+use Rattle.wasm_instr.specs.wl_base.Choice.{first_some, unless}
 use Rattle.reloc_section.specs.declared.entry.Reloc.{Reloc}
 use Rattle.body_windows.specs.declared.operand.Operand.{Operand}
 use Rattle.body_windows.specs.declared.fault.Mismatch.{Mismatch}

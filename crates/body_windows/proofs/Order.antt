@@ -1,7 +1,7 @@
 -- The immediates of a body that was read stand in order.
 use Rattle.std.proofs.Common.{◌≡◌, ℕ, ◌+◌, ◌-◌, ◌≤◌, ◌∙◌, false, List, [], ◌∷◌, ◌++◌, length, refl, sym, ap, subst, arith}
 use Rattle.std.proofs.lemmas.List.{length-append}
-use Rattle.leb_codec.specs.Spelling.{EndsOnce}
+use Rattle.wasm_instr.specs.leb_codec.Spelling.{EndsOnce}
 use Rattle.wasm_instr.specs.declared.body.Body.{Body}
 use Rattle.wasm_instr.specs.declared.body.Placed.{Placed}
 use Rattle.wasm_instr.specs.declared.instr.BlockKind.TheVariants as blocks

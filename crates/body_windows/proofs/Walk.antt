@@ -1,12 +1,12 @@
 -- The pass over the bytes of code, one instruction after another.
 use Rattle.std.proofs.Common.{◌≡◌, ℕ, suc, ◌+◌, ◌-◌, ◌<◌, ◌≤◌, ◌^◌, ◌∙◌, false, List, [], ◌∷◌, length, refl, sym, ap, subst, arith, Result, Ok, Err, Option}
 use Rattle.std.specs.Prelude.{IfOk}
-use Rattle.wasm_grammar.specs.declared.fault.Stop.{Stop}
-use Rattle.wasm_grammar.specs.declared.fault.ReadFault.{ReadFault}
-use Rattle.wasm_grammar.specs.declared.fault.ReadFault.TheVariants.{Stopped, OutOfMemory}
-use Rattle.wasm_grammar.specs.Fault.{Fails}
-use Rattle.wasm_grammar.specs.Reading.{◌>>=◌, none_at}
-use Rattle.wasm_grammar.specs.ReaderLaws.{bind_ok, ok_is, taken_length}
+use Rattle.wasm_instr.specs.wasm_grammar.declared.fault.Stop.{Stop}
+use Rattle.wasm_instr.specs.wasm_grammar.declared.fault.ReadFault.{ReadFault}
+use Rattle.wasm_instr.specs.wasm_grammar.declared.fault.ReadFault.TheVariants.{Stopped, OutOfMemory}
+use Rattle.wasm_instr.specs.wasm_grammar.Fault.{Fails}
+use Rattle.wasm_instr.specs.wasm_grammar.Reading.{◌>>=◌, none_at}
+use Rattle.wasm_instr.specs.wasm_grammar.ReaderLaws.{bind_ok, ok_is, taken_length}
 use Rattle.wasm_instr.specs.declared.body.Body.{Body}
 use Rattle.wasm_instr.specs.declared.body.LocalRun.{LocalRun}
 use Rattle.wasm_instr.specs.declared.body.Placed.{Placed}

@@ -1,6 +1,6 @@
 -- What one pass over immediates and relocations keeps, and its step.
 use Rattle.std.specs.Prelude.{ℕ, ◌+◌, nat_le, if◌then◌else◌, ◌<◌, ◌^◌, true, List, [], ◌∷◌, ◌++◌, Option, Some, None, Result}
-use Rattle.wl_base.specs.Choice.{first_some, unless}
+use Rattle.wasm_instr.specs.wl_base.Choice.{first_some, unless}
 use Rattle.wasm_instr.specs.declared.outline.Outline.{Outline}
 use Rattle.wasm_instr.specs.declared.outline.Outline.TheVariants as outlines
 use Rattle.reloc_section.specs.declared.entry.Reloc.{Reloc}

@@ -1,10 +1,10 @@
 -- Worked examples.
 use Rattle.std.specs.Prelude.{◌≡◌, ℕ, pos, List, [], ◌∷◌, Ok, Err}
 use Rattle.std.proofs.Common.{refl}
-use Rattle.leb_codec.specs.Reading.{number_at, end_of, end_within}
-use Rattle.wl_base.specs.declared.item.Item.TheVariants.{Opcode}
-use Rattle.wasm_grammar.specs.declared.fault.Stop.TheVariants.{Foreign}
-use Rattle.wasm_grammar.specs.Reading.{u32_at}
+use Rattle.wasm_instr.specs.leb_codec.Reading.{number_at, end_of, end_within}
+use Rattle.wasm_instr.specs.wl_base.declared.item.Item.TheVariants.{Opcode}
+use Rattle.wasm_instr.specs.wasm_grammar.declared.fault.Stop.TheVariants.{Foreign}
+use Rattle.wasm_instr.specs.wasm_grammar.Reading.{u32_at}
 use Rattle.wasm_instr.specs.Classes.{class_of}
 use Rattle.wasm_instr.specs.Reading.{instr_at}
 use Rattle.wasm_instr.specs.Bodies.{locals_at, runs_at, code_at, body_at}

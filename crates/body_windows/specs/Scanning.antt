@@ -1,7 +1,7 @@
 -- The operands of a body that is read from its bytes.
 use Rattle.std.specs.Prelude.{ℕ, List, length, Result, Ok}
-use Rattle.wasm_grammar.specs.declared.fault.Stop.{Stop}
-use Rattle.wasm_grammar.specs.Reading.{◌>>=◌}
+use Rattle.wasm_instr.specs.wasm_grammar.declared.fault.Stop.{Stop}
+use Rattle.wasm_instr.specs.wasm_grammar.Reading.{◌>>=◌}
 use Rattle.wasm_instr.specs.Bodies.{Nest, code_at, body_at}
 use Rattle.reloc_section.specs.declared.entry.Reloc.{Reloc}
 use Rattle.body_windows.specs.declared.operand.Operand.{Operand}

@@ -4,7 +4,7 @@
 -- immediates from the body's first byte, which stands at base. A window has five bytes.
 use Rattle.std.specs.Prelude.{ℕ, ◌+◌, min, nat_lt, Bool, false, ◌==◌, if◌then◌else◌, List, [], ◌∷◌, map, Option, Some, None, Result}
 use Rattle.std.specs.List.{list_any}
-use Rattle.wl_base.specs.Choice.{first_some, unless}
+use Rattle.wasm_instr.specs.wl_base.Choice.{first_some, unless}
 use Rattle.wasm_instr.specs.declared.body.Body.{Body}
 use Rattle.reloc_section.specs.declared.entry.Reloc.{Reloc}
 use Rattle.body_windows.specs.declared.operand.Operand.{Operand}

@@ -1,6 +1,6 @@
 //! Scanning a body: its operands from its bytes, in one pass that keeps no instruction.
 ghost use Rattle.std.specs.Prelude.{◌≡◌, ◌↔◌, IsTrue, ◌+◌, ◌<◌, ◌≤◌, ◌^◌, ◌∷◌, [], false, length, IfOk};
-ghost use Rattle.wasm_grammar.specs.Fault.{Gives};
+ghost use Rattle.wasm_instr.specs.wasm_grammar.Fault.{Gives};
 ghost use Rattle.wasm_instr.specs.declared.outline.Outline.TheVariants as outlines;
 ghost use Rattle.body_windows.specs.Operands.{StandIn};
 ghost use Rattle.body_windows.specs.Scanning.{scan_of, walked};
@@ -11,9 +11,9 @@ use crate::operands::Operands;
 use crate::overlap::least_overlap;
 use reloc_section::Reloc;
 use std::alloc::Global;
-use wasm_grammar::{ReadFault, none_at, place};
+use wasm_instr::wasm_grammar::{ReadFault, none_at, place};
+use wasm_instr::wl_base::Seq;
 use wasm_instr::{Outline, outline_step, skim_at, skip_locals_at};
-use wl_base::Seq;
 
 /// Whether the outline is of an instruction that neither opens, turns nor closes a block, and has no
 /// immediate that can be a reference. Most are.

@@ -1,8 +1,8 @@
 -- The count that is read of a module is that of its functions.
 use Rattle.std.proofs.Common.{◌≡◌, ℕ, zero, suc, ◌+◌, ◌≤◌, Bool, true, false, cond, eqb, List, [], ◌∷◌, ◌++◌, length, Some, None, Ok, refl, sym, ap, ◌∙◌, append_assoc, arith, ◌⊎◌, inl, inr}
 use Rattle.std.proofs.lemmas.List.{length-append, append-nil}
-use Rattle.wasm_grammar.specs.Grammar.{SpellsByte, SpellsU32, SpellsSized, SpellsVector, Then}
-use Rattle.wasm_grammar.specs.ReaderLaws.{part_again, u32_reader}
+use Rattle.wasm_instr.specs.wasm_grammar.Grammar.{SpellsByte, SpellsU32, SpellsSized, SpellsVector, Then}
+use Rattle.wasm_instr.specs.wasm_grammar.ReaderLaws.{part_again, u32_reader}
 use Rattle.wasm_sections.specs.Sections.{header}
 use Rattle.wasm_instr.specs.Bodies.{SpellsBody}
 use Rattle.wasm_module.specs.declared.structure.Module.{Module}

@@ -1,9 +1,9 @@
 -- Walking over sections, as a loop does that keeps the first one of an id.
 use Rattle.std.proofs.Common.{◌≡◌, ℕ, suc, ◌-◌, ◌+◌, ◌≤◌, ◌<◌, Bool, true, false, cond, eqb, List, [], ◌∷◌, Option, Some, None, Result, Ok, Err, length, refl, sym, ap, ◌∙◌, arith}
 use Rattle.std.proofs.lemmas.Bool.{eqb-true}
-use Rattle.wasm_grammar.specs.declared.fault.Stop.{Stop}
+use Rattle.wasm_instr.specs.wasm_grammar.declared.fault.Stop.{Stop}
 use Rattle.case_objects.specs.Functions.{Section, section_at, sections_at, contents_of, found_first, found_at, found_with}
-use Rattle.wasm_grammar.specs.Reading.{◌>>=◌}
+use Rattle.wasm_instr.specs.wasm_grammar.Reading.{◌>>=◌}
 
 -- nothing more is found
 no_more : (before : Option (List ℕ)) → found_first before None ≡ before

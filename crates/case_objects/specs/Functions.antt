@@ -1,7 +1,7 @@
 -- How many functions a module defines, read off its function section.
 use Rattle.std.specs.Prelude.{ℕ, zero, suc, List, [], ◌∷◌, length, Option, Some, None, Result, Ok, Err, ◌==◌, if◌then◌else◌}
-use Rattle.wasm_grammar.specs.declared.fault.Stop.{Stop}
-use Rattle.wasm_grammar.specs.Reading.{Read, ◌>>=◌, byte_at, part_at, u32_at}
+use Rattle.wasm_instr.specs.wasm_grammar.declared.fault.Stop.{Stop}
+use Rattle.wasm_instr.specs.wasm_grammar.Reading.{Read, ◌>>=◌, byte_at, part_at, u32_at}
 use Rattle.wasm_sections.specs.Sections.{header}
 use Rattle.wasm_module.specs.ModuleReading.{behind}
 

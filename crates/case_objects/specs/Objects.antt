@@ -5,7 +5,7 @@
 use Rattle.std.specs.Prelude.{ℕ, zero, suc, ◌+◌, Bool, List, [], ◌∷◌, ◌++◌, codes, if◌then◌else◌, nat_lt, pos}
 use Rattle.std.specs.List.{flat_map}
 use Rattle.std.specs.Int.{w32, to_le_bytes}
-use Rattle.leb_codec.specs.Shortest.{s32_padded}
+use Rattle.wasm_instr.specs.leb_codec.Shortest.{s32_padded}
 use Rattle.case_objects.specs.Parts.{sized, section, custom, letter_name}
 
 abbrev pub f_name : ℕ → List ℕ

@@ -2,7 +2,7 @@
 use Rattle.std.specs.Prelude.{ℕ, List, ◌∷◌, ◌++◌, length, decimal}
 use Rattle.std.specs.List.{flat_map}
 use Rattle.std.specs.Borrow.{Bor}
-use Rattle.leb_codec.specs.Shortest.{u32}
+use Rattle.wasm_instr.specs.leb_codec.Shortest.{u32}
 
 -- the parts that are lent, one behind the other
 abbrev pub joined : List (Bor (List ℕ)) → List ℕ

@@ -2,9 +2,9 @@
 use Rattle.std.specs.Prelude.{◌≡◌, ℕ, Bool, true, false, take, drop, List, [], ◌∷◌, ◌++◌, length, refl}
 use Rattle.std.specs.List.{sum}
 use Rattle.std.specs.Fmt.{digits}
-use Rattle.leb_codec.specs.Shortest.{u32, s32_padded}
-use Rattle.leb_codec.specs.Reading.{number_at, end_of, end_within}
-use Rattle.wasm_grammar.specs.Reading.{u32_at, part_at}
+use Rattle.wasm_instr.specs.leb_codec.Shortest.{u32, s32_padded}
+use Rattle.wasm_instr.specs.leb_codec.Reading.{number_at, end_of, end_within}
+use Rattle.wasm_instr.specs.wasm_grammar.Reading.{u32_at, part_at}
 use Rattle.wasm_sections.specs.Sections.{header}
 use Rattle.case_objects.specs.Objects.{object, object_of, objects, symbols, bodies, window}
 use Rattle.case_objects.specs.Functions.{section_at, sections_at, functions_at, functions_in}

@@ -1,11 +1,11 @@
 //! How many functions a module defines.
 ghost use Rattle.std.specs.Prelude.{◌≡◌, length, option_map, None};
-ghost use Rattle.wasm_grammar.specs.Fault.{Reads};
+ghost use Rattle.wasm_instr.specs.wasm_grammar.Fault.{Reads};
 ghost use Rattle.wasm_sections.specs.Sections.{header};
 ghost use Rattle.wasm_module.specs.ModuleReading.{behind};
 ghost use Rattle.case_objects.specs.Functions.{Section, section_at, sections_at, found_at, found_with, count_of, functions_at, functions_in};
 
-use wasm_grammar::{Stop, byte_at, part_at, u32_at};
+use wasm_instr::wasm_grammar::{Stop, byte_at, part_at, u32_at};
 
 /// The id of the function section (Core 5.5.6).
 const FUNCTION_SECTION: u8 = 3;

@@ -4,9 +4,9 @@ ghost use Rattle.case_objects.specs.Parts.{section as section_of};
 ghost use Rattle.case_objects.specs.Objects.{object_of, first, head as head_of, functions as functions_of, imports as imports_of, f_body as f_body_of, w_body as w_body_of, code as code_of, data_section as data_of, symbols as symbols_of, infos as infos_of, groups as groups_of, linking as linking_of, relocs as relocs_of};
 
 use crate::parts::{custom, join, numbered, section, sized};
-use leb_codec::put_s32_5;
 use std::alloc::Global;
-use wl_base::{OutOfMemory, Seq};
+use wasm_instr::leb_codec::put_s32_5;
+use wasm_instr::wl_base::{OutOfMemory, Seq};
 
 /// `call`, with a window that holds 0.
 const CALL: &[u8] = &[0x10, 0x80, 0x80, 0x80, 0x80, 0];
@@ -214,7 +214,7 @@ impl CaseObject {
 }
 
 /// The magic and the version, and the type section: type 0 is () to i32.
-#[tactic(auto, unfolding(leb_codec::specs::Shortest::u32))]
+#[tactic(auto, unfolding(wasm_instr::specs::leb_codec::Shortest::u32))]
 fn head() -> &'static [u8]
     ensures { result.now ≡ head_of }
 {
@@ -222,7 +222,7 @@ fn head() -> &'static [u8]
 }
 
 /// The function section: two functions of type 0.
-#[tactic(auto, unfolding(leb_codec::specs::Shortest::u32))]
+#[tactic(auto, unfolding(wasm_instr::specs::leb_codec::Shortest::u32))]
 fn functions() -> &'static [u8]
     ensures { result.now ≡ functions_of }
 {

@@ -3,8 +3,8 @@ use Rattle.std.proofs.Common.{◌≡◌, ℕ, suc, ◌+◌, ◌-◌, ◌≤◌, 
 use Rattle.std.specs.Prelude.{if◌then◌else◌}
 use Rattle.std.proofs.lemmas.List.{length-replicate, length-map}
 use Rattle.std.specs.List.{flat_map}
-use Rattle.wasm_types.specs.declared.const_expr.ConstExpr.{ConstExpr}
-use Rattle.leb_codec.specs.Shortest.{u32}
+use Rattle.wasm_instr.specs.wasm_types.declared.const_expr.ConstExpr.{ConstExpr}
+use Rattle.wasm_instr.specs.leb_codec.Shortest.{u32}
 use Rattle.image_emit.specs.declared.tree.Image.{Image}
 use Rattle.image_emit.specs.declared.tree.Source.{Source}
 use Rattle.image_emit.specs.declared.tree.Source.TheVariants.{File, Own}

@@ -5,12 +5,12 @@ use Rattle.std.specs.Prelude.{⊤, None, Ok}
 use Rattle.std.specs.List.{AllZip}
 use Rattle.std.proofs.lemmas.List.{append-nil}
 use Rattle.std.proofs.lemmas.Slice.Zip.{AllZip-long}
-use Rattle.wasm_grammar.specs.Grammar.{SpellsNothing, SpellsU32, SpellsBytes, SpellsSized, SpellsMany, SpellsVector, Then}
-use Rattle.wasm_grammar.specs.Readers.{IsReader}
-use Rattle.wasm_grammar.specs.Reading.{Read}
-use Rattle.wasm_grammar.specs.ReaderLaws.{ok_is, u32_reader, bytes_reader, vector_reader}
-use Rattle.wasm_types.specs.Types.{SpellsFuncType, SpellsImport, SpellsTableType, SpellsLimits}
-use Rattle.wasm_types.specs.TypeLaws.{func_type_reader, import_reader, table_type_reader, limits_reader}
+use Rattle.wasm_instr.specs.wasm_grammar.Grammar.{SpellsNothing, SpellsU32, SpellsBytes, SpellsSized, SpellsMany, SpellsVector, Then}
+use Rattle.wasm_instr.specs.wasm_grammar.Readers.{IsReader}
+use Rattle.wasm_instr.specs.wasm_grammar.Reading.{Read}
+use Rattle.wasm_instr.specs.wasm_grammar.ReaderLaws.{ok_is, u32_reader, bytes_reader, vector_reader}
+use Rattle.wasm_instr.specs.wasm_types.Types.{SpellsFuncType, SpellsImport, SpellsTableType, SpellsLimits}
+use Rattle.wasm_instr.specs.wasm_types.TypeLaws.{func_type_reader, import_reader, table_type_reader, limits_reader}
 use Rattle.wasm_instr.specs.declared.body.Body.{Body}
 use Rattle.wasm_instr.specs.Bodies.{SpellsBody}
 use Rattle.wasm_module.specs.declared.structure.Module.{Module}

@@ -3,9 +3,9 @@ use Rattle.std.proofs.Common.{◌≡◌, ℕ, List, [], ◌∷◌, length, refl,
 use Rattle.std.specs.Prelude.{Ok, codes, pos, IsUtf8}
 use Rattle.std.proofs.lemmas.List.Elements.{All-nil, All-cons}
 use Rattle.std.proofs.lemmas.Str.{IsUtf8-from_ascii}
-use Rattle.leb_codec.specs.Shortest.{u32}
-use Rattle.leb_codec.specs.Reading.{number_at, end_of, end_within}
-use Rattle.wasm_grammar.specs.Reading.{u32_at, s32_at}
+use Rattle.wasm_instr.specs.leb_codec.Shortest.{u32}
+use Rattle.wasm_instr.specs.leb_codec.Reading.{number_at, end_of, end_within}
+use Rattle.wasm_instr.specs.wasm_grammar.Reading.{u32_at, s32_at}
 use Rattle.wasm_instr.specs.declared.body.Body.{Body}
 use Rattle.wasm_instr.specs.declared.instr.Instr.TheVariants.{Plain, Call, I32Const}
 use Rattle.wasm_instr.specs.Classes.{class_of}

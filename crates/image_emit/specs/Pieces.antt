@@ -1,7 +1,7 @@
 -- The bytes of a module as pieces: what stands before the first source, and then each source behind what leads to it.
 use Rattle.std.specs.Prelude.{ℕ, ◌+◌, ◌-◌, ◌==◌, List, [], ◌∷◌, ◌++◌, length, map, replicate, if◌then◌else◌}
-use Rattle.leb_codec.specs.Shortest.{u32}
-use Rattle.wasm_types.specs.declared.const_expr.ConstExpr.{ConstExpr}
+use Rattle.wasm_instr.specs.leb_codec.Shortest.{u32}
+use Rattle.wasm_instr.specs.wasm_types.declared.const_expr.ConstExpr.{ConstExpr}
 use Rattle.image_emit.specs.Bytes.{Tree, Block, header, custom_section, section, func_type, import_entry, table, limits, global, export, element, sized, vector, const_expr, data_bytes}
 
 -- A source, which is a body or a block of data, behind what leads to it.

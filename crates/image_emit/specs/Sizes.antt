@@ -1,7 +1,7 @@
 -- How long the parts of an image are, whatever its files hold.
 use Rattle.std.specs.Prelude.{ℕ, ◌+◌, ◌-◌, ◌==◌, List, [], ◌∷◌, ◌++◌, length, if◌then◌else◌}
-use Rattle.leb_codec.specs.Shortest.{u32}
-use Rattle.wasm_types.specs.declared.const_expr.ConstExpr.{ConstExpr}
+use Rattle.wasm_instr.specs.leb_codec.Shortest.{u32}
+use Rattle.wasm_instr.specs.wasm_types.declared.const_expr.ConstExpr.{ConstExpr}
 use Rattle.image_emit.specs.Bytes.{const_expr, tree_of}
 use Rattle.image_emit.specs.Pieces.{sections}
 use Rattle.image_emit.specs.declared.tree.Image.{Image}

@@ -1,6 +1,6 @@
 //! How long an image is.
 ghost use Rattle.std.specs.Prelude.{◌≡◌, ◌+◌, ◌<◌, ◌≤◌, ◌^◌, ◌++◌, length, OnOk, IfOk};
-ghost use Rattle.wl_base.specs.Answers.{Answers};
+ghost use Rattle.wasm_instr.specs.wl_base.Answers.{Answers};
 ghost use Rattle.image_emit.specs.Bytes.{tree_of};
 ghost use Rattle.image_emit.specs.Measures.{image_measure};
 ghost use Rattle.image_emit.specs.Pieces.{sections};
@@ -13,7 +13,7 @@ use crate::sizes::{
 };
 use crate::{Image, PlacedSource, Source};
 use std::alloc::Global;
-use wl_base::{LayoutError, OutOfMemory, Seq, What};
+use wasm_instr::wl_base::{LayoutError, OutOfMemory, Seq, What};
 
 /// The length of an image's bytes, and where the bytes of each source begin in them.
 #[derive(Debug, Drop)]

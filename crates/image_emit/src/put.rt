@@ -1,10 +1,10 @@
 //! What can be written into a slice, from left to right.
 ghost use Rattle.std.specs.Prelude.{◌≡◌, ◌+◌, ◌<◌, ◌≤◌, ◌^◌, ◌∷◌, [], List, ℕ, length};
-ghost use Rattle.leb_codec.specs.Shortest.{u32 as shortest_u32};
+ghost use Rattle.wasm_instr.specs.leb_codec.Shortest.{u32 as shortest_u32};
 ghost use Rattle.image_emit.specs.Bytes.{vector, sized};
 ghost use Rattle.image_emit.specs.Put.{IsPut, HasRoom, capped};
 
-use leb_codec::write_u32;
+use wasm_instr::leb_codec::write_u32;
 
 /// A value with one spelling.
 pub trait Put {

@@ -10,9 +10,9 @@ use Rattle.std.specs.BTreeMap.Range.{IsLtBy}
 use Rattle.std.proofs.lemmas.Bool.{cases_Bool, cases_eq, ne_eqb, eq-eqb}
 use Rattle.std.proofs.lemmas.List.Elements.{All-nil, All-cons, All-head, All-tail}
 use Rattle.std.proofs.lemmas.Option.{slice_get_within, get_or_from_slice_get, slice_get-map}
-use Rattle.wl_base.specs.declared.fault.Fault.{Fault}
-use Rattle.wl_base.specs.declared.fault.Fault.TheVariants.{IndexLies}
-use Rattle.wl_base.specs.Choice.{first_some, has_name}
+use Rattle.object_file.specs.wl_base.declared.fault.Fault.{Fault}
+use Rattle.object_file.specs.wl_base.declared.fault.Fault.TheVariants.{IndexLies}
+use Rattle.object_file.specs.wl_base.Choice.{first_some, has_name}
 use Rattle.object_file.specs.declared.object.Object.{Object}
 use Rattle.made_symbols.specs.declared.mode.Mode.{Mode}
 use Rattle.made_symbols.specs.Made.{made}

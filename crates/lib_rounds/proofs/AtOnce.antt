@@ -3,9 +3,9 @@ use Rattle.std.proofs.Common.{◌≡◌, ℕ, ◌+◌, Bool, true, false, not, L
 use Rattle.std.specs.Prelude.{Contains, map, filter, flat_map, slice_index_or, if◌then◌else◌}
 use Rattle.std.proofs.lemmas.Bool.{cases_Bool}
 use Rattle.std.proofs.lemmas.List.Elements.{filter-append}
-use Rattle.wl_base.specs.declared.span.Span.{Span}
-use Rattle.wl_base.specs.declared.fault.Fault.{Fault}
-use Rattle.wl_base.specs.Choice.{first_some}
+use Rattle.object_file.specs.wl_base.declared.span.Span.{Span}
+use Rattle.object_file.specs.wl_base.declared.fault.Fault.{Fault}
+use Rattle.object_file.specs.wl_base.Choice.{first_some}
 use Rattle.lib_rounds.specs.declared.given.Given.{Given}
 use Rattle.lib_rounds.specs.declared.given.LibraryFile.{LibraryFile}
 use Rattle.lib_rounds.specs.Rounds.{Candidate, fault_in, object_fault, is_loaded, at_once, is_given, given_fault}

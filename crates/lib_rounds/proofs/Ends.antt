@@ -5,8 +5,8 @@ use Rattle.std.proofs.lemmas.Bool.{cases_Bool}
 use Rattle.std.proofs.lemmas.List.{append-nil}
 use Rattle.std.proofs.lemmas.List.Elements.{All-append, Contains-append_left, Contains-append_right}
 use Rattle.std.proofs.lemmas.List.Folds.{list_any-append}
-use Rattle.wl_base.specs.Choice.{first_some, unless, ◌>>=◌}
-use Rattle.wl_base.specs.declared.fault.Fault.{Fault}
+use Rattle.object_file.specs.wl_base.Choice.{first_some, unless, ◌>>=◌}
+use Rattle.object_file.specs.wl_base.declared.fault.Fault.{Fault}
 use Rattle.made_symbols.specs.declared.mode.Mode.{Mode}
 use Rattle.lib_rounds.specs.Rounds.{Candidate, Added, is_loaded, objects_of, wanted_names, added_with, adds_any, added_fault, inputs_of, go_on, next_adds, rounds, at_once, given_fault, loaded_inputs}
 use Rattle.lib_rounds.specs.RoundLaws.{inputs_in, Differ, next_round, round_after, round_fault, fault_within, Grows, IsFirstEqual, RoundsEnd, LoadedIsFirstEqual, NothingIsLeft, AddedRise, RoundsOnce, LoadedOnce}

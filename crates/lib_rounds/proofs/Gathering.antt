@@ -12,9 +12,9 @@ use Rattle.std.proofs.lemmas.Option.{get_or_from_slice_get, slice_get_within}
 use Rattle.std.proofs.lemmas.Map.Views.{All-found}
 use Rattle.std.proofs.lemmas.Map.Entries.{place_from_lookup}
 use Rattle.std.proofs.lemmas.Bool.{cases_Bool}
-use Rattle.wl_base.specs.declared.fault.Fault.{Fault}
-use Rattle.linking_section.specs.declared.symbol.Symbol.{Symbol}
-use Rattle.linking_section.specs.Flags.{is_strong_reference}
+use Rattle.object_file.specs.wl_base.declared.fault.Fault.{Fault}
+use Rattle.object_file.specs.linking_section.declared.symbol.Symbol.{Symbol}
+use Rattle.object_file.specs.linking_section.Flags.{is_strong_reference}
 use Rattle.object_file.specs.declared.object.Object.{Object}
 use Rattle.lib_rounds.specs.declared.given.LibraryFile.{LibraryFile}
 use Rattle.lib_rounds.specs.declared.offer.Offer.{Offer}

@@ -11,8 +11,8 @@ use Rattle.std.proofs.lemmas.Slice.Eq.{bytes_eq-Decides}
 use Rattle.indexmap.specs.IndexMap.{insert_entry}
 use Rattle.std.proofs.lemmas.List.{drop_all}
 use Rattle.std.proofs.Math.ListN.{get_or}
-use Rattle.wl_base.specs.Choice.{has_name}
-use Rattle.linking_section.specs.declared.symbol.Symbol.{Symbol}
+use Rattle.object_file.specs.wl_base.Choice.{has_name}
+use Rattle.object_file.specs.linking_section.declared.symbol.Symbol.{Symbol}
 use Rattle.std.specs.Ordering.{nat_cmp, is_lt}
 use Rattle.std.specs.Cmp.Lexicographic.{slice_cmp}
 use Rattle.lib_rounds.specs.Rounds.{comes_before, lesser_name, least_name}

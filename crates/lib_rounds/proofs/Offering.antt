@@ -8,8 +8,8 @@ use Rattle.std.proofs.lemmas.List.Elements.{All-nil, All-cons, All-head, All-tai
 use Rattle.std.proofs.lemmas.List.Folds.{find-append}
 use Rattle.std.proofs.lemmas.Option.{get_or_from_slice_get}
 use Rattle.std.proofs.lemmas.Slice.Eq.{bytes_eq-Decides}
-use Rattle.wl_base.specs.declared.span.Span.{Span}
-use Rattle.wl_base.specs.Choice.{first_some, has_name}
+use Rattle.object_file.specs.wl_base.declared.span.Span.{Span}
+use Rattle.object_file.specs.wl_base.Choice.{first_some, has_name}
 use Rattle.lib_index.specs.Library.{IsLibrary, leasts, bytes_of}
 use Rattle.lib_index.proofs.LibraryLaws.{library_offers}
 use Rattle.object_file.specs.ObjectOf.{object_of}

@@ -3,7 +3,7 @@ use Rattle.std.proofs.Common.{◌≡◌, ℕ, ◌≤◌, ◌<◌, Bool, true, no
 use Rattle.std.specs.Prelude.{AllPairs, Contains, find, option_map, ◌==◌}
 use Rattle.std.proofs.lemmas.Bool.{cases_Bool, eqb-true, eq-eqb, ne_eqb}
 use Rattle.std.proofs.lemmas.List.Elements.{All-contains, Contains-append_left, Contains-append_right, Contains-append_cases}
-use Rattle.wl_base.specs.Choice.{has_name}
+use Rattle.object_file.specs.wl_base.Choice.{has_name}
 use Rattle.made_symbols.specs.declared.mode.Mode.{Mode}
 use Rattle.lib_rounds.specs.Rounds.{Candidate, is_loaded, offering, is_just, names_for, inputs_of, next_adds}
 use Rattle.lib_rounds.specs.RoundLaws.{inputs_in, next_round, NextIs, LeastOffers}

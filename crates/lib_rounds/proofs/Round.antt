@@ -8,8 +8,8 @@ use Rattle.std.proofs.lemmas.List.{length-map}
 use Rattle.std.proofs.lemmas.List.Folds.{list_any-append}
 use Rattle.std.proofs.lemmas.List.Elements.{Contains-append_right}
 use Rattle.std.proofs.lemmas.Option.{get_or_from_slice_get}
-use Rattle.wl_base.specs.Choice.{first_some, unless, ◌>>=◌}
-use Rattle.wl_base.specs.declared.fault.Fault.{Fault}
+use Rattle.object_file.specs.wl_base.Choice.{first_some, unless, ◌>>=◌}
+use Rattle.object_file.specs.wl_base.declared.fault.Fault.{Fault}
 use Rattle.made_symbols.specs.declared.mode.Mode.{Mode}
 use Rattle.object_file.specs.declared.object.Object.{Object}
 use Rattle.lib_rounds.specs.declared.given.LibraryFile.{LibraryFile}

@@ -4,8 +4,8 @@ use Rattle.std.specs.Prelude.{Contains, filter, filter_map, flat_map, slice_get,
 use Rattle.std.specs.List.{cons_option}
 use Rattle.std.proofs.lemmas.Bool.{cases_Bool, or_cases}
 use Rattle.std.proofs.lemmas.Option.{slice_get-map, get_or_from_slice_get}
-use Rattle.wl_base.specs.Choice.{first_some}
-use Rattle.wl_base.specs.declared.fault.Fault.{Fault}
+use Rattle.object_file.specs.wl_base.Choice.{first_some}
+use Rattle.object_file.specs.wl_base.declared.fault.Fault.{Fault}
 use Rattle.object_file.specs.declared.object.Object.{Object}
 use Rattle.lib_rounds.specs.Rounds.{Candidate, Added, fault_in, object_in, object_fault, is_loaded, strong_names, added_with, round_adds, added_fault, added_fault_in, inputs_of, at_once, is_given, given_fault}
 use Rattle.lib_rounds.specs.RoundLaws.{inputs_in, Rise}

@@ -3,7 +3,7 @@ use Rattle.std.proofs.Common.{◌≡◌, ℕ, zero, suc, ◌+◌, ◌<◌, ◌�
 use Rattle.std.specs.Prelude.{filter, flat_map, slice_get, slice_index_or, if◌then◌else◌}
 use Rattle.std.proofs.lemmas.List.{append-nil, length-append, length-map}
 use Rattle.std.proofs.lemmas.List.Elements.{filter-append}
-use Rattle.wl_base.specs.declared.span.Span.{Span}
+use Rattle.object_file.specs.wl_base.declared.span.Span.{Span}
 use Rattle.lib_index.specs.Library.{bytes_of}
 use Rattle.object_file.specs.ObjectOf.{object_of}
 use Rattle.lib_rounds.specs.declared.given.Given.{Given}

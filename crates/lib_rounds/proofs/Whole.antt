@@ -6,9 +6,9 @@ use Rattle.std.proofs.lemmas.Bool.{cases_Bool, eqb-true}
 use Rattle.std.proofs.lemmas.List.{append-nil, map-append, drop_more, length-map}
 use Rattle.std.proofs.lemmas.List.Folds.{list_any-append}
 use Rattle.std.proofs.lemmas.Option.{slice_get_within, get_or_from_slice_get}
-use Rattle.wl_base.specs.declared.fault.Fault.{Fault}
-use Rattle.wl_base.specs.declared.span.Span.{Span}
-use Rattle.wl_base.specs.Choice.{first_some}
+use Rattle.object_file.specs.wl_base.declared.fault.Fault.{Fault}
+use Rattle.object_file.specs.wl_base.declared.span.Span.{Span}
+use Rattle.object_file.specs.wl_base.Choice.{first_some}
 use Rattle.object_file.specs.declared.object.Object.{Object}
 use Rattle.lib_rounds.specs.declared.given.LibraryFile.{LibraryFile}
 use Rattle.lib_rounds.specs.declared.given.RoundError.{RoundError}

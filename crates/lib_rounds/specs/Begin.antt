@@ -3,8 +3,8 @@ use Rattle.std.specs.Prelude.{◌≡◌, ◌<◌, ◌^◌, ◌+◌, ◌-◌, ℕ
 use Rattle.std.specs.Map.{lookup}
 use Rattle.std.specs.List.{list_any}
 use Rattle.std.specs.Str.{bytes_eq}
-use Rattle.wl_base.specs.Choice.{first_some}
-use Rattle.wl_base.specs.declared.span.Span.{Span}
+use Rattle.object_file.specs.wl_base.Choice.{first_some}
+use Rattle.object_file.specs.wl_base.declared.span.Span.{Span}
 use Rattle.made_symbols.specs.declared.mode.Mode.{Mode}
 use Rattle.lib_index.specs.Table.{shown}
 use Rattle.lib_rounds.specs.declared.begin.Start.{Start}

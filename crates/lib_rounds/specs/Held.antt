@@ -1,8 +1,8 @@
 -- What is kept of each candidate while inputs are loaded.
 use Rattle.std.specs.Prelude.{Bool, true, false, List, filter_map, Option, Some, None, if◌then◌else◌, Result, Ok, Err, ℕ}
 use Rattle.std.specs.Global.{Box}
-use Rattle.wl_base.specs.declared.fault.Fault.{Fault}
-use Rattle.linking_section.specs.declared.symbol.Symbol.{Symbol}
+use Rattle.object_file.specs.wl_base.declared.fault.Fault.{Fault}
+use Rattle.object_file.specs.linking_section.declared.symbol.Symbol.{Symbol}
 use Rattle.object_file.specs.declared.object.Object.{Object}
 use Rattle.lib_rounds.specs.Rounds.{Candidate}
 

@@ -1,7 +1,7 @@
 -- What the driver has read, as candidates: the relation by which `load_rounds` is called.
 use Rattle.std.specs.Prelude.{◌≡◌, ◌<◌, ◌+◌, ◌^◌, ℕ, true, false, not, List, [], ◌∷◌, ◌==◌, filter, flat_map, map, length, if◌then◌else◌, Option, Some, None, option_map, slice_get, slice_index_or, Ok, min}
-use Rattle.wl_base.specs.declared.span.Span.{Span}
-use Rattle.wl_base.specs.Choice.{first_some, has_name}
+use Rattle.object_file.specs.wl_base.declared.span.Span.{Span}
+use Rattle.object_file.specs.wl_base.Choice.{first_some, has_name}
 use Rattle.lib_index.specs.Library.{IsLibrary, offer_of, bytes_of}
 use Rattle.object_file.specs.ObjectOf.{object_of}
 use Rattle.lib_rounds.specs.declared.given.Given.{Given}

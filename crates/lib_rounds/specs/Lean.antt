@@ -4,8 +4,8 @@ use Rattle.std.specs.Ordering.{nat_cmp}
 use Rattle.std.specs.BTreeMap.{is_at}
 use Rattle.std.specs.Map.{lookup, keys_of}
 use Rattle.std.specs.List.Sorted.{IsStrictlySortedBy}
-use Rattle.wl_base.specs.Choice.{first_some, unless, ◌>>=◌}
-use Rattle.wl_base.specs.declared.fault.Fault.{Fault}
+use Rattle.object_file.specs.wl_base.Choice.{first_some, unless, ◌>>=◌}
+use Rattle.object_file.specs.wl_base.declared.fault.Fault.{Fault}
 use Rattle.object_file.specs.declared.object.Object.{Object}
 use Rattle.made_symbols.specs.declared.mode.Mode.{Mode}
 use Rattle.lib_rounds.specs.Rounds.{Candidate, Added, object_in, objects_of, strong_names, is_defined, round_adds, added_fault, inputs_of, is_loaded, names_for}

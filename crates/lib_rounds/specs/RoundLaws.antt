@@ -1,7 +1,7 @@
 -- What holds of the rounds of loading: they end, and the loaded inputs are the first round that equals its successor.
 use Rattle.std.specs.Prelude.{◌≡◌, ◌≢◌, ◌≤◌, ◌<◌, ◌↔◌, ◌⊎◌, ℕ, zero, suc, true, List, [], ◌∷◌, ◌++◌, map, length, Option, Some, None, Ok, All, AllPairs, Contains}
-use Rattle.wl_base.specs.Choice.{first_some, unless, has_name}
-use Rattle.wl_base.specs.declared.fault.Fault.{Fault}
+use Rattle.object_file.specs.wl_base.Choice.{first_some, unless, has_name}
+use Rattle.object_file.specs.wl_base.declared.fault.Fault.{Fault}
 use Rattle.made_symbols.specs.declared.mode.Mode.{Mode}
 use Rattle.lib_rounds.specs.Rounds.{Candidate, objects_of, wanted_names, offering, added_fault, inputs_of, next_adds, rounds, at_once, given_fault, loaded_inputs}
 

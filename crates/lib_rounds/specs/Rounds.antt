@@ -2,11 +2,11 @@
 -- words need them.
 use Rattle.std.specs.Prelude.{ℕ, zero, suc, ◌+◌, ◌==◌, nat_lt, Bool, true, false, not, ◌&&◌, ◌||◌, List, [], ◌∷◌, ◌++◌, filter, filter_map, map, find, flat_map, length, if◌then◌else◌, Option, Some, None, option_map, bytes_eq, Result, Ok, Err}
 use Rattle.std.specs.List.{list_any}
-use Rattle.wl_base.specs.Choice.{first_some, unless, ◌>>=◌, has_name}
-use Rattle.wl_base.specs.declared.fault.Fault.{Fault}
-use Rattle.wl_base.specs.declared.fault.Fault.TheVariants.{IndexLies}
-use Rattle.linking_section.specs.declared.symbol.Symbol.{Symbol}
-use Rattle.linking_section.specs.Flags.{is_definition, is_strong_reference}
+use Rattle.object_file.specs.wl_base.Choice.{first_some, unless, ◌>>=◌, has_name}
+use Rattle.object_file.specs.wl_base.declared.fault.Fault.{Fault}
+use Rattle.object_file.specs.wl_base.declared.fault.Fault.TheVariants.{IndexLies}
+use Rattle.object_file.specs.linking_section.declared.symbol.Symbol.{Symbol}
+use Rattle.object_file.specs.linking_section.Flags.{is_definition, is_strong_reference}
 use Rattle.object_file.specs.declared.object.Object.{Object}
 use Rattle.made_symbols.specs.declared.mode.Mode.{Mode}
 use Rattle.made_symbols.specs.Made.{made}

@@ -1,11 +1,11 @@
 -- Worked rows: which inputs are loaded.
 use Rattle.std.specs.Prelude.{◌≡◌, ℕ, false, true, List, [], ◌∷◌, Some, Result, Ok, Err, codes}
 use Rattle.std.proofs.Common.{refl}
-use Rattle.wl_base.specs.declared.fault.Fault.{Fault}
-use Rattle.wl_base.specs.declared.fault.Fault.TheVariants.{IndexLies, Malformed}
-use Rattle.wl_base.specs.declared.fault.Part.TheVariants.{Frame}
-use Rattle.linking_section.specs.declared.symbol.Symbol.{Symbol}
-use Rattle.linking_section.specs.declared.symbol.SymbolKind.TheVariants.{Function}
+use Rattle.object_file.specs.wl_base.declared.fault.Fault.{Fault}
+use Rattle.object_file.specs.wl_base.declared.fault.Fault.TheVariants.{IndexLies, Malformed}
+use Rattle.object_file.specs.wl_base.declared.fault.Part.TheVariants.{Frame}
+use Rattle.object_file.specs.linking_section.declared.symbol.Symbol.{Symbol}
+use Rattle.object_file.specs.linking_section.declared.symbol.SymbolKind.TheVariants.{Function}
 use Rattle.object_file.specs.declared.object.Object.{Object}
 use Rattle.made_symbols.specs.declared.mode.Mode.TheVariants.{Plain}
 use Rattle.lib_rounds.specs.Rounds.{Candidate, loaded_inputs}

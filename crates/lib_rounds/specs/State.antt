@@ -5,10 +5,10 @@ use Rattle.std.specs.BTreeMap.{BTreeMap, IsOrdered}
 use Rattle.std.specs.List.{list_any}
 use Rattle.std.specs.Map.{lookup}
 use Rattle.std.specs.Str.{bytes_eq}
-use Rattle.wl_base.specs.declared.fault.Fault.{Fault}
-use Rattle.wl_base.specs.declared.fault.Fault.TheVariants.{TooManyNames}
-use Rattle.wl_base.specs.declared.span.Span.{Span}
-use Rattle.wl_base.specs.Choice.{first_some, has_name}
+use Rattle.object_file.specs.wl_base.declared.fault.Fault.{Fault}
+use Rattle.object_file.specs.wl_base.declared.fault.Fault.TheVariants.{TooManyNames}
+use Rattle.object_file.specs.wl_base.declared.span.Span.{Span}
+use Rattle.object_file.specs.wl_base.Choice.{first_some, has_name}
 use Rattle.lib_index.specs.Library.{bytes_of}
 use Rattle.object_file.specs.declared.object.Object.{Object}
 use Rattle.object_file.specs.ObjectOf.{object_of}

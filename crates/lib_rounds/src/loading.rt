@@ -4,8 +4,8 @@ ghost use Rattle.std.specs.Ordering.{nat_cmp};
 ghost use Rattle.std.specs.BTreeMap.{IsOrdered};
 ghost use Rattle.std.specs.Map.{lookup};
 ghost use Rattle.std.specs.Str.{bytes_eq};
-ghost use Rattle.wl_base.specs.declared.fault.Fault.{Fault as Why};
-ghost use Rattle.wl_base.specs.declared.fault.Fault.TheVariants as faults;
+ghost use Rattle.object_file.specs.wl_base.declared.fault.Fault.{Fault as Why};
+ghost use Rattle.object_file.specs.wl_base.declared.fault.Fault.TheVariants as faults;
 ghost use Rattle.object_file.specs.declared.object.Object.{Object as Read};
 ghost use Rattle.lib_index.specs.Table.{shown};
 ghost use Rattle.lib_rounds.specs.Rounds.{Candidate, Added, is_just};
@@ -18,9 +18,9 @@ use crate::lies::least_lie;
 use crate::offer::{Inputs, Offer};
 use crate::slot::Slot;
 use crate::table::{Table, define};
+use object_file::wl_base::{Fault, InputId, Seq};
 use object_file::{Object, ObjectError, read_object};
 use std::alloc::Global;
-use wl_base::{Fault, InputId, Seq};
 
 /// The object of a library's member.
 fn read_member(inputs: Inputs<'_>, offer: Offer) -> Result<Object, RoundError>

@@ -2,16 +2,16 @@
 ghost use Rattle.std.specs.Prelude.{◌≡◌, ℕ, List, Some, OnOk, cond, option_copied, option_and_then, slice_get, length};
 ghost use Rattle.std.specs.Map.{lookup};
 ghost use Rattle.std.specs.Str.{bytes_eq};
-ghost use Rattle.wl_base.specs.Choice.{has_name};
+ghost use Rattle.object_file.specs.wl_base.Choice.{has_name};
 ghost use Rattle.lib_index.specs.Table.{shown};
-ghost use Rattle.linking_section.specs.Flags.{is_definition, is_strong_reference};
+ghost use Rattle.object_file.specs.linking_section.Flags.{is_definition, is_strong_reference};
 ghost use Rattle.lib_rounds.specs.Held.{name_if};
 ghost use Rattle.lib_rounds.specs.Rounds.{defined_names};
 
 use indexmap::IndexMap;
 use object_file::Object;
+use object_file::wl_base::{InputId, OutOfMemory};
 use std::alloc::Global;
-use wl_base::{InputId, OutOfMemory};
 
 /// An input for each of some names.
 pub type Table = IndexMap<Vec<u8>, InputId>;

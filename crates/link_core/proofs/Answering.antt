@@ -2,29 +2,29 @@
 use Rattle.std.proofs.Common.{◌≡◌, ℕ, List, length, refl, sym, ap, ◌∙◌, subst, Option, Some, None, Result, Ok, Err, ℤ, pos, All, Contains}
 use Rattle.std.proofs.lemmas.List.Elements.{All-filter, All-contains_itself}
 use Rattle.std.specs.Prelude.{option_map}
-use Rattle.wl_base.specs.declared.fault.Fault.{Fault}
-use Rattle.wl_base.specs.declared.fault.Fault.TheVariants.{Overflow}
-use Rattle.wl_base.specs.declared.fault.What.TheVariants.{TableSize}
-use Rattle.wl_base.specs.declared.layout_error.LayoutError.{LayoutError}
-use Rattle.wl_base.specs.declared.layout_error.LayoutError.TheVariants as layouts
-use Rattle.object_file.specs.declared.object.Object.{Object}
-use Rattle.made_symbols.specs.declared.mode.Mode.TheVariants.{Plain}
-use Rattle.lib_rounds.specs.Rounds.{Candidate, load}
-use Rattle.memory_layout.specs.Memory.{memory_overflow}
-use Rattle.table_layout.specs.Slots.{table_overflow}
-use Rattle.reloc_apply.specs.declared.window.Window.{Window}
-use Rattle.image_emit.specs.declared.tree.Image.{Image}
-use Rattle.image_emit.specs.declared.measuring.Measured.{Measured}
-use Rattle.image_emit.specs.Bytes.{bytes_of, tree_of}
-use Rattle.link_plan.specs.declared.plan.Plan.{Plan}
-use Rattle.name_rules.specs.Entries.{Entry}
-use Rattle.link_rules.specs.Candidates.{candidates_of}
-use Rattle.link_rules.specs.Program.{Program, Part, program_of}
-use Rattle.link_rules.specs.Marks.{exported, is_exported_by, repeated_export, live, unresolved}
-use Rattle.link_rules.specs.Keys.{numbers}
-use Rattle.link_rules.specs.Values.{rules_of, shapes}
-use Rattle.link_rules.specs.Output.{layout, image, source_windows}
-use Rattle.link_rules.specs.LinkOf.{asked_names, the_readers, exporting, marked, laid_out, written, length_fault, link_program, link_of}
+use Rattle.link_program.specs.wl_base.declared.fault.Fault.{Fault}
+use Rattle.link_program.specs.wl_base.declared.fault.Fault.TheVariants.{Overflow}
+use Rattle.link_program.specs.wl_base.declared.fault.What.TheVariants.{TableSize}
+use Rattle.link_program.specs.wl_base.declared.layout_error.LayoutError.{LayoutError}
+use Rattle.link_program.specs.wl_base.declared.layout_error.LayoutError.TheVariants as layouts
+use Rattle.link_program.specs.object_file.declared.object.Object.{Object}
+use Rattle.link_program.specs.made_symbols.declared.mode.Mode.TheVariants.{Plain}
+use Rattle.link_program.specs.lib_rounds.Rounds.{Candidate, load}
+use Rattle.link_program.specs.memory_layout.Memory.{memory_overflow}
+use Rattle.link_program.specs.table_layout.Slots.{table_overflow}
+use Rattle.link_program.specs.reloc_apply.declared.window.Window.{Window}
+use Rattle.link_program.specs.image_emit.declared.tree.Image.{Image}
+use Rattle.link_program.specs.image_emit.declared.measuring.Measured.{Measured}
+use Rattle.link_program.specs.image_emit.Bytes.{bytes_of, tree_of}
+use Rattle.link_program.specs.link_plan.declared.plan.Plan.{Plan}
+use Rattle.link_program.specs.name_rules.Entries.{Entry}
+use Rattle.link_program.specs.link_rules.Candidates.{candidates_of}
+use Rattle.link_program.specs.link_rules.Program.{Program, Part, program_of}
+use Rattle.link_program.specs.link_rules.Marks.{exported, is_exported_by, repeated_export, live, unresolved}
+use Rattle.link_program.specs.link_rules.Keys.{numbers}
+use Rattle.link_program.specs.link_rules.Values.{rules_of, shapes}
+use Rattle.link_program.specs.link_rules.Output.{layout, image, source_windows}
+use Rattle.link_program.specs.link_rules.LinkOf.{asked_names, the_readers, exporting, marked, laid_out, written, length_fault, link_program, link_of}
 use Rattle.link_inputs.specs.declared.fault.InputError.{InputError}
 use Rattle.link_inputs.specs.declared.fault.InputError.TheVariants as inputs
 use Rattle.link_inputs.specs.Answers.{Fails}
@@ -34,8 +34,8 @@ use Rattle.program_build.specs.declared.error.BuildError.TheVariants as builds
 use Rattle.program_build.specs.Found.{Finds, found_of}
 use Rattle.link_layout.specs.Placed.{AnswersPlaced, IsPlaced}
 use Rattle.link_numbers.specs.Numbered.{TellsOverflow, IsNumbering}
-use Rattle.image_emit.specs.Measures.{LieIn}
-use Rattle.image_emit.specs.Pieces.{sources}
+use Rattle.link_program.specs.image_emit.Measures.{LieIn}
+use Rattle.link_program.specs.image_emit.Pieces.{sources}
 use Rattle.link_program.specs.Live.{Stage, AreLive, AllMeant}
 use Rattle.link_program.specs.Program.{IsProgram}
 use Rattle.link_program.specs.Stand.{PartsStand}

@@ -1,9 +1,9 @@
 -- What a link answers, beside what its definition gives.
 use Rattle.std.specs.Prelude.{◌≡◌, ◌<◌, ◌^◌, ℕ, List, length, Result, Ok, Err}
-use Rattle.wl_base.specs.declared.fault.Fault.{Fault}
-use Rattle.wl_base.specs.declared.fault.Fault.TheVariants.{Overflow}
-use Rattle.wl_base.specs.declared.layout_error.LayoutError.{LayoutError}
-use Rattle.wl_base.specs.declared.layout_error.LayoutError.TheVariants as layouts
+use Rattle.link_program.specs.wl_base.declared.fault.Fault.{Fault}
+use Rattle.link_program.specs.wl_base.declared.fault.Fault.TheVariants.{Overflow}
+use Rattle.link_program.specs.wl_base.declared.layout_error.LayoutError.{LayoutError}
+use Rattle.link_program.specs.wl_base.declared.layout_error.LayoutError.TheVariants as layouts
 use Rattle.link_inputs.specs.declared.fault.InputError.{InputError}
 use Rattle.link_inputs.specs.declared.fault.InputError.TheVariants as inputs
 use Rattle.program_build.specs.declared.error.BuildError.{BuildError}

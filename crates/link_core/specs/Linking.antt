@@ -1,10 +1,10 @@
 -- When what is linked is that of a program.
 use Rattle.std.specs.Prelude.{◌≡◌, List, ℕ}
-use Rattle.made_symbols.specs.declared.mode.Mode.TheVariants.{Plain}
-use Rattle.name_entries.specs.declared.lookups.Entries.{Entries}
-use Rattle.name_entries.specs.Fits.{Fits}
-use Rattle.link_plan.specs.Plan.{IsPlan}
-use Rattle.link_rules.specs.Program as rules
+use Rattle.link_program.specs.made_symbols.declared.mode.Mode.TheVariants.{Plain}
+use Rattle.link_program.specs.name_entries.declared.lookups.Entries.{Entries}
+use Rattle.link_program.specs.name_entries.Fits.{Fits}
+use Rattle.link_program.specs.link_plan.Plan.{IsPlan}
+use Rattle.link_program.specs.link_rules.Program as rules
 use Rattle.link_program.specs.declared.program.Program.{Program}
 use Rattle.link_program.specs.Program.{IsProgram}
 use Rattle.link_program.specs.Stand.{PartsStand}

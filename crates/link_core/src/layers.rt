@@ -1,11 +1,11 @@
 //! From what is live to bytes.
 ghost use Rattle.std.specs.Prelude.{◌≡◌, map, All, Contains};
-ghost use Rattle.made_symbols.specs.declared.mode.Mode.TheVariants as modes;
-ghost use Rattle.link_rules.specs.LinkOf.{laid_out, written};
-ghost use Rattle.link_rules.specs.Output as output;
+ghost use Rattle.link_program.specs.made_symbols.declared.mode.Mode.TheVariants as modes;
+ghost use Rattle.link_program.specs.link_rules.LinkOf.{laid_out, written};
+ghost use Rattle.link_program.specs.link_rules.Output as output;
 ghost use Rattle.link_program.specs.Told.{told_winner};
 ghost use Rattle.link_program.specs.Live.{Stage, AreLive, AllMeant};
-ghost use Rattle.link_rules.specs.Keys.{numbers};
+ghost use Rattle.link_program.specs.link_rules.Keys.{numbers};
 ghost use Rattle.link_program.specs.Program.{IsProgram};
 ghost use Rattle.link_program.specs.Stand.{PartsStand};
 ghost use Rattle.link_numbers.specs.Numbered.{IsNumbering};
@@ -19,13 +19,13 @@ use link_layout::{Layout, Placed, place_segments};
 use link_numbers::{Numbering, number};
 use link_output::laws::windows_stand_in_sources;
 use link_output::{measured, write};
+use link_program::name_entries::Entries;
+use link_program::wl_base::Seq;
+use link_program::wl_fan::Workers;
+use link_program::wl_outside::Gate;
 use link_program::{Program, Winner};
-use name_entries::Entries;
 use std::alloc::Global;
 use std::thread::Threads;
-use wl_base::Seq;
-use wl_fan::Workers;
-use wl_outside::Gate;
 
 /// Gives all that is live its place and its number, and writes the output.
 pub(crate) fn lay_out<R: Threads + Sync, G: Gate>(

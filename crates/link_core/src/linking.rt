@@ -1,9 +1,9 @@
 //! From what was found of the objects to what is live.
 ghost use Rattle.std.specs.Prelude.{◌≡◌, map, All, Contains};
-ghost use Rattle.made_symbols.specs.declared.mode.Mode.TheVariants as modes;
-ghost use Rattle.link_rules.specs.Program as rules;
-ghost use Rattle.link_rules.specs.Marks as marks;
-ghost use Rattle.link_rules.specs.LinkOf.{exporting, marked};
+ghost use Rattle.link_program.specs.made_symbols.declared.mode.Mode.TheVariants as modes;
+ghost use Rattle.link_program.specs.link_rules.Program as rules;
+ghost use Rattle.link_program.specs.link_rules.Marks as marks;
+ghost use Rattle.link_program.specs.link_rules.LinkOf.{exporting, marked};
 ghost use Rattle.link_program.specs.Told.{told_winner};
 ghost use Rattle.link_core.specs.Answers.{Answers, IsShort};
 ghost use Rattle.link_core.specs.Linking.{IsLinking};
@@ -12,13 +12,13 @@ ghost use Rattle.link_marks.specs.About.{Exporting};
 use crate::LinkError;
 use crate::layers::lay_out;
 use link_marks::{all_are_meant, exports, live_parts, repeated_export, unresolved};
+use link_program::name_entries::Entries;
+use link_program::wl_base::Seq;
+use link_program::wl_fan::Workers;
+use link_program::wl_outside::Gate;
 use link_program::{Program, Winner};
-use name_entries::Entries;
 use std::alloc::Global;
 use std::thread::Threads;
-use wl_base::Seq;
-use wl_fan::Workers;
-use wl_outside::Gate;
 
 /// Links a program: what it exports, and then the rest.
 pub(crate) fn link_found<R: Threads + Sync, G: Gate>(

@@ -1,6 +1,6 @@
 -- The end of a list of pairs.
 use Rattle.std.proofs.Common.{◌≡◌, ℕ, zero, suc, ◌+◌, ◌≤◌, List, [], ◌∷◌, ◌++◌, drop, length, refl, sym, ap, ◌∙◌, arith, append-nil}
-use Rattle.name_rules.specs.Entries.{ImportKey}
+use Rattle.link_program.specs.name_rules.Entries.{ImportKey}
 use Rattle.link_image.specs.Imports.{functions_seen}
 use Rattle.link_image.specs.Sections.{types_seen}
 

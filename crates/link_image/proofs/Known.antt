@@ -4,15 +4,15 @@ use Rattle.std.specs.Prelude.{if◌then◌else◌}
 use Rattle.std.specs.List.{list_any, All}
 use Rattle.std.proofs.lemmas.Bool.{and_parts}
 use Rattle.std.proofs.lemmas.List.Elements.{All-head, All-tail, All-cons, All-append}
-use Rattle.wl_base.specs.Choice.{distinct, distinct_onto}
-use Rattle.linking_section.specs.declared.symbol.SymbolKind.TheVariants.{GlobalVar, Datum}
-use Rattle.made_symbols.specs.declared.mode.Mode.TheVariants.{Plain}
-use Rattle.name_rules.specs.Entries.{Entry, ImportKey, same_import, is_kind}
-use Rattle.link_rules.specs.Program as rules
-use Rattle.link_rules.specs.Program.{Ref, refs}
-use Rattle.link_rules.specs.Marks.{refs_of, reads_cell}
-use Rattle.link_rules.specs.Keys as keys
-use Rattle.link_rules.specs.Keys.{outside_global, linker_global, own_global, got, exported_datum, got_entries, needs_got, parts_of_kind, ref_got, ref_global, meant_global, same_got, global_imports_in, has_import, used_imports, imports_by, is_global_type, imports_in_order, numbers}
+use Rattle.link_program.specs.wl_base.Choice.{distinct, distinct_onto}
+use Rattle.link_program.specs.linking_section.declared.symbol.SymbolKind.TheVariants.{GlobalVar, Datum}
+use Rattle.link_program.specs.made_symbols.declared.mode.Mode.TheVariants.{Plain}
+use Rattle.link_program.specs.name_rules.Entries.{Entry, ImportKey, same_import, is_kind}
+use Rattle.link_program.specs.link_rules.Program as rules
+use Rattle.link_program.specs.link_rules.Program.{Ref, refs}
+use Rattle.link_program.specs.link_rules.Marks.{refs_of, reads_cell}
+use Rattle.link_program.specs.link_rules.Keys as keys
+use Rattle.link_program.specs.link_rules.Keys.{outside_global, linker_global, own_global, got, exported_datum, got_entries, needs_got, parts_of_kind, ref_got, ref_global, meant_global, same_got, global_imports_in, has_import, used_imports, imports_by, is_global_type, imports_in_order, numbers}
 use Rattle.link_program.specs.declared.program.Program.{Program as Data}
 use Rattle.link_program.specs.Program.{IsProgram}
 use Rattle.link_program.specs.Stand.{PartsStand}

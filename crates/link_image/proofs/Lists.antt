@@ -4,9 +4,9 @@ use Rattle.std.specs.Prelude.{if◌then◌else◌}
 use Rattle.std.specs.List.{list_any, list_all, All, cons_option}
 use Rattle.std.proofs.lemmas.Bool.{and_parts}
 use Rattle.std.proofs.lemmas.List.Elements.{All-head, All-tail, All-cons}
-use Rattle.wl_base.specs.Choice.{given}
-use Rattle.index_layout.specs.Numbers.{number_by}
-use Rattle.name_rules.specs.Entries.{ImportKey, same_import}
+use Rattle.link_program.specs.wl_base.Choice.{given}
+use Rattle.link_program.specs.index_layout.Numbers.{number_by}
+use Rattle.link_program.specs.name_rules.Entries.{ImportKey, same_import}
 use Rattle.std.proofs.lemmas.Option.{slice_get-get_or}
 use Rattle.link_numbers.proofs.Equals.{stands, number_is, holds_at}
 use Rattle.link_numbers.proofs.Imports.{import_equal, import_itself}

@@ -5,30 +5,30 @@ use Rattle.std.specs.List.{list_any, list_all, All, cons_option}
 use Rattle.std.proofs.lemmas.Bool.{and_parts, and_from}
 use Rattle.std.proofs.lemmas.List.Elements.{All-head, All-tail, All-cons, All-append}
 use Rattle.std.proofs.lemmas.Option.{slice_get-map, get_or_from_slice_get}
-use Rattle.wasm_types.specs.declared.function.FuncType.{FuncType}
-use Rattle.wasm_module.specs.declared.parts.ModuleGlobal.{ModuleGlobal}
-use Rattle.index_layout.specs.Numbers.{number_by}
-use Rattle.linking_section.specs.Flags.{kind_code}
-use Rattle.linking_section.specs.declared.symbol.SymbolKind.TheVariants.{Datum}
-use Rattle.made_symbols.specs.declared.mode.Mode.TheVariants.{Plain}
-use Rattle.mark_bits.specs.declared.chunk.Chunk.{Chunk}
-use Rattle.memory_layout.specs.declared.rules.Places.{Places}
+use Rattle.link_program.specs.wasm_types.declared.function.FuncType.{FuncType}
+use Rattle.link_program.specs.wasm_module.declared.parts.ModuleGlobal.{ModuleGlobal}
+use Rattle.link_program.specs.index_layout.Numbers.{number_by}
+use Rattle.link_program.specs.linking_section.Flags.{kind_code}
+use Rattle.link_program.specs.linking_section.declared.symbol.SymbolKind.TheVariants.{Datum}
+use Rattle.link_program.specs.made_symbols.declared.mode.Mode.TheVariants.{Plain}
+use Rattle.link_program.specs.mark_bits.declared.chunk.Chunk.{Chunk}
+use Rattle.link_program.specs.memory_layout.declared.rules.Places.{Places}
 use Rattle.ctor_call.specs.Body.{ctor_body}
-use Rattle.image_emit.specs.declared.tree.Source.{Source}
-use Rattle.image_emit.specs.declared.tree.Source.TheVariants.{File, Own}
-use Rattle.name_rules.specs.Entries.{Entry, ImportKey, is_kind}
-use Rattle.name_rules.specs.Meanings.{is_nothing}
+use Rattle.link_program.specs.image_emit.declared.tree.Source.{Source}
+use Rattle.link_program.specs.image_emit.declared.tree.Source.TheVariants.{File, Own}
+use Rattle.link_program.specs.name_rules.Entries.{Entry, ImportKey, is_kind}
+use Rattle.link_program.specs.name_rules.Meanings.{is_nothing}
 use Rattle.dylink_out.specs.Shared.{apply_body}
-use Rattle.link_rules.specs.Loader.{words}
-use Rattle.link_rules.specs.Program as rules
-use Rattle.link_rules.specs.Program.{chunk_at, same_chunk, a_symbol, a_type, named_ref, refs, function, segment, global, linker_made}
-use Rattle.link_rules.specs.Keys as keys
-use Rattle.link_rules.specs.Keys.{outside, linker_function, stub, own, outside_global, linker_global, own_global, got, exported_datum, got_entry, got_import, got_null, is_function_at, made_function_key, own_function_key, ref_function, same_function}
-use Rattle.link_rules.specs.Marks.{refs_of}
-use Rattle.link_rules.specs.Values as values
-use Rattle.link_rules.specs.Values.{segments, solid_segments}
-use Rattle.link_rules.specs.Output as output
-use Rattle.link_rules.specs.Output.{layout}
+use Rattle.link_program.specs.link_rules.Loader.{words}
+use Rattle.link_program.specs.link_rules.Program as rules
+use Rattle.link_program.specs.link_rules.Program.{chunk_at, same_chunk, a_symbol, a_type, named_ref, refs, function, segment, global, linker_made}
+use Rattle.link_program.specs.link_rules.Keys as keys
+use Rattle.link_program.specs.link_rules.Keys.{outside, linker_function, stub, own, outside_global, linker_global, own_global, got, exported_datum, got_entry, got_import, got_null, is_function_at, made_function_key, own_function_key, ref_function, same_function}
+use Rattle.link_program.specs.link_rules.Marks.{refs_of}
+use Rattle.link_program.specs.link_rules.Values as values
+use Rattle.link_program.specs.link_rules.Values.{segments, solid_segments}
+use Rattle.link_program.specs.link_rules.Output as output
+use Rattle.link_program.specs.link_rules.Output.{layout}
 use Rattle.link_program.specs.declared.named.Named.{Named}
 use Rattle.link_program.specs.declared.named.Named.TheVariants as names_of
 use Rattle.link_program.specs.declared.part.Content.{Content}

@@ -6,21 +6,21 @@ use Rattle.std.proofs.lemmas.Bool.{and_parts, and_from}
 use Rattle.std.proofs.lemmas.List.{length-map}
 use Rattle.std.proofs.lemmas.List.Elements.{All-head, All-tail, All-cons, All-append}
 use Rattle.std.proofs.lemmas.Option.{slice_get-map}
-use Rattle.wl_base.specs.Choice.{given}
-use Rattle.wasm_types.specs.declared.function.FuncType.{FuncType}
-use Rattle.wasm_types.specs.declared.import.Import.{Import}
-use Rattle.wasm_types.specs.declared.import.ImportKind.TheVariants as kinds
-use Rattle.index_layout.specs.Numbers.{number_by}
-use Rattle.made_symbols.specs.declared.mode.Mode.TheVariants.{Plain}
-use Rattle.mark_bits.specs.declared.chunk.Chunk.{Chunk}
-use Rattle.name_rules.specs.Entries.{Entry, ImportKey, SymbolType, of_function, of_global, untyped, same_import}
-use Rattle.link_rules.specs.Program as rules
-use Rattle.link_rules.specs.Program.{chunk_at}
-use Rattle.link_rules.specs.Keys as keys
-use Rattle.link_rules.specs.Keys.{outside, linker_function, stub, own, outside_global, linker_global, own_global, got, exported_datum, type_of, function_type_of, type_place}
-use Rattle.link_rules.specs.Values as values
-use Rattle.link_rules.specs.Output as output
-use Rattle.link_rules.specs.Output.{imported_kind}
+use Rattle.link_program.specs.wl_base.Choice.{given}
+use Rattle.link_program.specs.wasm_types.declared.function.FuncType.{FuncType}
+use Rattle.link_program.specs.wasm_types.declared.import.Import.{Import}
+use Rattle.link_program.specs.wasm_types.declared.import.ImportKind.TheVariants as kinds
+use Rattle.link_program.specs.index_layout.Numbers.{number_by}
+use Rattle.link_program.specs.made_symbols.declared.mode.Mode.TheVariants.{Plain}
+use Rattle.link_program.specs.mark_bits.declared.chunk.Chunk.{Chunk}
+use Rattle.link_program.specs.name_rules.Entries.{Entry, ImportKey, SymbolType, of_function, of_global, untyped, same_import}
+use Rattle.link_program.specs.link_rules.Program as rules
+use Rattle.link_program.specs.link_rules.Program.{chunk_at}
+use Rattle.link_program.specs.link_rules.Keys as keys
+use Rattle.link_program.specs.link_rules.Keys.{outside, linker_function, stub, own, outside_global, linker_global, own_global, got, exported_datum, type_of, function_type_of, type_place}
+use Rattle.link_program.specs.link_rules.Values as values
+use Rattle.link_program.specs.link_rules.Output as output
+use Rattle.link_program.specs.link_rules.Output.{imported_kind}
 use Rattle.link_program.specs.Keys.{told_function, told_global}
 use Rattle.link_numbers.specs.Knows.{KnowsFunction, KnowsGlobal}
 use Rattle.link_numbers.specs.Numbered.{is_import}

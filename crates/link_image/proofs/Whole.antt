@@ -3,26 +3,26 @@ use Rattle.std.proofs.Common.{◌≡◌, ℕ, ◌+◌, ◌==◌, ◌/◌, Bool, 
 use Rattle.std.specs.Prelude.{if◌then◌else◌}
 use Rattle.std.specs.List.{list_all, All}
 use Rattle.std.proofs.lemmas.List.{length-map}
-use Rattle.wasm_types.specs.declared.table.Limits.{Limits}
-use Rattle.wasm_types.specs.declared.import.Import.{Import}
-use Rattle.wasm_types.specs.declared.const_expr.ConstExpr.TheVariants as constants
-use Rattle.wasm_module.specs.declared.parts.Export.{Export}
-use Rattle.wasm_module.specs.declared.parts.Element.{Element}
-use Rattle.linking_section.specs.declared.symbol.SymbolKind.{SymbolKind}
-use Rattle.linking_section.specs.declared.symbol.SymbolKind.TheVariants.{Function, Datum, GlobalVar, Section, Table}
-use Rattle.index_layout.specs.Numbers.{number_by}
-use Rattle.made_symbols.specs.declared.mode.Mode.TheVariants.{Plain}
-use Rattle.reloc_apply.specs.Windows.{signed32}
-use Rattle.image_emit.specs.declared.tree.Image.{Image}
-use Rattle.memory_layout.specs.declared.rules.Places.{Places}
-use Rattle.link_plan.specs.declared.plan.Plan.{Plan}
-use Rattle.name_rules.specs.Entries.{Entry}
-use Rattle.link_rules.specs.Program as rules
-use Rattle.link_rules.specs.Marks.{export_name}
-use Rattle.link_rules.specs.Keys as keys
-use Rattle.link_rules.specs.Values.{solid_segments}
-use Rattle.link_rules.specs.Output as output
-use Rattle.link_rules.specs.Output.{layout, image}
+use Rattle.link_program.specs.wasm_types.declared.table.Limits.{Limits}
+use Rattle.link_program.specs.wasm_types.declared.import.Import.{Import}
+use Rattle.link_program.specs.wasm_types.declared.const_expr.ConstExpr.TheVariants as constants
+use Rattle.link_program.specs.wasm_module.declared.parts.Export.{Export}
+use Rattle.link_program.specs.wasm_module.declared.parts.Element.{Element}
+use Rattle.link_program.specs.linking_section.declared.symbol.SymbolKind.{SymbolKind}
+use Rattle.link_program.specs.linking_section.declared.symbol.SymbolKind.TheVariants.{Function, Datum, GlobalVar, Section, Table}
+use Rattle.link_program.specs.index_layout.Numbers.{number_by}
+use Rattle.link_program.specs.made_symbols.declared.mode.Mode.TheVariants.{Plain}
+use Rattle.link_program.specs.reloc_apply.Windows.{signed32}
+use Rattle.link_program.specs.image_emit.declared.tree.Image.{Image}
+use Rattle.link_program.specs.memory_layout.declared.rules.Places.{Places}
+use Rattle.link_program.specs.link_plan.declared.plan.Plan.{Plan}
+use Rattle.link_program.specs.name_rules.Entries.{Entry}
+use Rattle.link_program.specs.link_rules.Program as rules
+use Rattle.link_program.specs.link_rules.Marks.{export_name}
+use Rattle.link_program.specs.link_rules.Keys as keys
+use Rattle.link_program.specs.link_rules.Values.{solid_segments}
+use Rattle.link_program.specs.link_rules.Output as output
+use Rattle.link_program.specs.link_rules.Output.{layout, image}
 use Rattle.link_program.specs.Told.{told_definition}
 use Rattle.link_program.specs.Keys.{told_function, told_global, same_function_key, same_global_key}
 use Rattle.link_program.specs.declared.keys.GlobalKey.{GlobalKey}

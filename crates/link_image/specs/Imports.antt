@@ -1,10 +1,10 @@
 -- The imports of the output, by the data alone.
 use Rattle.std.specs.Prelude.{ℕ, List, [], ◌∷◌, slice_get, Option, Some, None, option_map}
 use Rattle.std.specs.List.{cons_option}
-use Rattle.wasm_types.specs.declared.import.Import.{Import}
-use Rattle.wasm_types.specs.declared.import.ImportKind.{ImportKind}
-use Rattle.wasm_types.specs.declared.import.ImportKind.TheVariants as kinds
-use Rattle.name_rules.specs.Entries.{ImportKey, SymbolType, of_function, of_global, untyped}
+use Rattle.link_program.specs.wasm_types.declared.import.Import.{Import}
+use Rattle.link_program.specs.wasm_types.declared.import.ImportKind.{ImportKind}
+use Rattle.link_program.specs.wasm_types.declared.import.ImportKind.TheVariants as kinds
+use Rattle.link_program.specs.name_rules.Entries.{ImportKey, SymbolType, of_function, of_global, untyped}
 use Rattle.link_program.specs.declared.keys.FunctionKey.{FunctionKey}
 use Rattle.link_program.specs.declared.keys.FunctionKey.TheVariants as functions
 use Rattle.link_program.specs.declared.keys.GlobalKey.{GlobalKey}

@@ -1,6 +1,6 @@
 -- The image of its parts.
 use Rattle.std.specs.Prelude.{None}
-use Rattle.image_emit.specs.declared.tree.Image.{Image}
+use Rattle.link_program.specs.image_emit.declared.tree.Image.{Image}
 use Rattle.link_image.specs.declared.making.Declared.{Declared}
 use Rattle.link_image.specs.declared.making.Defined.{Defined}
 use Rattle.link_image.specs.declared.making.Held.{Held}

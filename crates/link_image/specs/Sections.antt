@@ -1,30 +1,30 @@
 -- The sections of the output, by the data alone.
 use Rattle.std.specs.Prelude.{ℕ, ◌+◌, ◌==◌, ◌/◌, Bool, true, false, List, [], ◌∷◌, ◌++◌, map, filter, filter_map, length, slice_index_or, if◌then◌else◌, Option, Some, None, option_map, pos, codes}
 use Rattle.std.specs.List.{cons_option}
-use Rattle.wasm_types.specs.declared.table.Limits.{Limits}
-use Rattle.wasm_types.specs.declared.table.TableType.{TableType}
-use Rattle.wasm_types.specs.declared.value.ValType.TheVariants.{I32}
-use Rattle.wasm_types.specs.declared.const_expr.ConstExpr.TheVariants as constants
-use Rattle.wasm_types.specs.declared.import.Import.{Import}
-use Rattle.wasm_types.specs.declared.import.ImportKind.TheVariants as kinds
-use Rattle.wasm_module.specs.declared.parts.Export.{Export}
-use Rattle.wasm_module.specs.declared.parts.ModuleGlobal.{ModuleGlobal}
-use Rattle.wasm_module.specs.declared.parts.Element.{Element}
-use Rattle.linking_section.specs.declared.symbol.SymbolKind.{SymbolKind}
-use Rattle.linking_section.specs.declared.symbol.SymbolKind.TheVariants.{Function, Datum, GlobalVar, Section, Table}
-use Rattle.linking_section.specs.Flags.{kind_code}
-use Rattle.made_symbols.specs.declared.mode.Mode.TheVariants.{Plain}
-use Rattle.name_rules.specs.Entries.{Entry, untyped}
-use Rattle.mark_bits.specs.declared.chunk.Chunk.{Chunk}
-use Rattle.reloc_apply.specs.Windows.{signed32}
+use Rattle.link_program.specs.wasm_types.declared.table.Limits.{Limits}
+use Rattle.link_program.specs.wasm_types.declared.table.TableType.{TableType}
+use Rattle.link_program.specs.wasm_types.declared.value.ValType.TheVariants.{I32}
+use Rattle.link_program.specs.wasm_types.declared.const_expr.ConstExpr.TheVariants as constants
+use Rattle.link_program.specs.wasm_types.declared.import.Import.{Import}
+use Rattle.link_program.specs.wasm_types.declared.import.ImportKind.TheVariants as kinds
+use Rattle.link_program.specs.wasm_module.declared.parts.Export.{Export}
+use Rattle.link_program.specs.wasm_module.declared.parts.ModuleGlobal.{ModuleGlobal}
+use Rattle.link_program.specs.wasm_module.declared.parts.Element.{Element}
+use Rattle.link_program.specs.linking_section.declared.symbol.SymbolKind.{SymbolKind}
+use Rattle.link_program.specs.linking_section.declared.symbol.SymbolKind.TheVariants.{Function, Datum, GlobalVar, Section, Table}
+use Rattle.link_program.specs.linking_section.Flags.{kind_code}
+use Rattle.link_program.specs.made_symbols.declared.mode.Mode.TheVariants.{Plain}
+use Rattle.link_program.specs.name_rules.Entries.{Entry, untyped}
+use Rattle.link_program.specs.mark_bits.declared.chunk.Chunk.{Chunk}
+use Rattle.link_program.specs.reloc_apply.Windows.{signed32}
 use Rattle.ctor_call.specs.Body.{ctor_body}
-use Rattle.index_layout.specs.Numbers.{number_by}
-use Rattle.image_emit.specs.declared.tree.PlacedSource.{PlacedSource}
-use Rattle.image_emit.specs.declared.tree.Source.{Source}
-use Rattle.image_emit.specs.declared.tree.Source.TheVariants.{File, Own}
-use Rattle.link_rules.specs.Program.{chunk_at}
-use Rattle.link_rules.specs.Marks.{memory_name}
-use Rattle.link_rules.specs.Values as values
+use Rattle.link_program.specs.index_layout.Numbers.{number_by}
+use Rattle.link_program.specs.image_emit.declared.tree.PlacedSource.{PlacedSource}
+use Rattle.link_program.specs.image_emit.declared.tree.Source.{Source}
+use Rattle.link_program.specs.image_emit.declared.tree.Source.TheVariants.{File, Own}
+use Rattle.link_program.specs.link_rules.Program.{chunk_at}
+use Rattle.link_program.specs.link_rules.Marks.{memory_name}
+use Rattle.link_program.specs.link_rules.Values as values
 use Rattle.link_program.specs.declared.symbol.Definition.{Definition}
 use Rattle.link_program.specs.declared.symbol.Symbol.{Symbol}
 use Rattle.link_program.specs.declared.named.Named.{Named}
@@ -40,10 +40,10 @@ use Rattle.link_program.specs.declared.keys.GlobalKey.TheVariants as globals
 use Rattle.link_program.specs.Keys.{same_function_key, same_global_key}
 use Rattle.link_program.specs.Seen.{no_symbol}
 use Rattle.link_numbers.specs.Numbered.{Numbered}
-use Rattle.image_emit.specs.declared.tree.Image.{Image}
-use Rattle.link_rules.specs.Program.{Program}
-use Rattle.link_rules.specs.Marks.{export_name}
-use Rattle.link_rules.specs.Output.{layout}
+use Rattle.link_program.specs.image_emit.declared.tree.Image.{Image}
+use Rattle.link_program.specs.link_rules.Program.{Program}
+use Rattle.link_program.specs.link_rules.Marks.{export_name}
+use Rattle.link_program.specs.link_rules.Output.{layout}
 use Rattle.link_program.specs.Told.{told_definition}
 use Rattle.link_program.specs.Live.{Stage}
 use Rattle.link_layout.specs.declared.layout.Layout.{Layout}

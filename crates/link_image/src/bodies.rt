@@ -2,21 +2,21 @@
 ghost use Rattle.std.specs.Prelude.{◌≡◌, ◌++◌, [], ◌∷◌, filter_map, drop, true, IfOk, OnOk};
 ghost use Rattle.std.specs.Option.{option_to_list};
 ghost use Rattle.std.specs.List.{list_all};
-ghost use Rattle.image_emit.specs.declared.tree.Source.TheVariants.{Own};
-ghost use Rattle.link_rules.specs.Program.{chunk_at};
+ghost use Rattle.link_program.specs.image_emit.declared.tree.Source.TheVariants.{Own};
+ghost use Rattle.link_program.specs.link_rules.Program.{chunk_at};
 ghost use Rattle.link_layout.specs.Seen.{Looked, chunk_number};
 ghost use Rattle.link_layout.specs.Layout.{looked};
 ghost use Rattle.link_image.specs.Sections.{call_seen, calls_seen, file_seen, body_seen, is_plain};
 
 use crate::keys::{function_meant, symbol_at};
 use crate::parts::{number_of, part_at, row_at};
-use image_emit::Source;
 use link_layout::Layout;
 use link_numbers::Numbering;
+use link_program::image_emit::Source;
+use link_program::mark_bits::Chunk;
+use link_program::wl_base::{OutOfMemory, Seq};
 use link_program::{FunctionKey, Named, Symbol, Tables};
-use mark_bits::Chunk;
 use std::alloc::Global;
-use wl_base::{OutOfMemory, Seq};
 
 // The function that an item names.
 fn call(numbering: &Numbering, symbols: &[Symbol], named: &Named) -> Option<u32>

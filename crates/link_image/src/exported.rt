@@ -1,9 +1,9 @@
 //! The export section (Core 5.5.10).
 ghost use Rattle.std.specs.Prelude.{◌≡◌, ◌++◌, map, drop, List, All, Contains, IfOk, OnOk};
-ghost use Rattle.made_symbols.specs.declared.mode.Mode.TheVariants.{Plain};
-ghost use Rattle.name_rules.specs.Entries.{Entry};
-ghost use Rattle.link_rules.specs.Marks as marks;
-ghost use Rattle.link_rules.specs.Program as rules;
+ghost use Rattle.link_program.specs.made_symbols.declared.mode.Mode.TheVariants.{Plain};
+ghost use Rattle.link_program.specs.name_rules.Entries.{Entry};
+ghost use Rattle.link_program.specs.link_rules.Marks as marks;
+ghost use Rattle.link_program.specs.link_rules.Program as rules;
 ghost use Rattle.link_program.specs.Told.{told_definition, told_winner};
 ghost use Rattle.link_program.specs.Program.{IsProgram};
 ghost use Rattle.link_marks.specs.Names.{IsWinner};
@@ -14,11 +14,11 @@ use crate::keys::{function_of, index_of};
 use link_layout::Layout;
 use link_marks::export_name;
 use link_numbers::Numbering;
+use link_program::linking_section::SymbolKind;
+use link_program::wasm_module::Export;
+use link_program::wl_base::{Name, OutOfMemory, Seq};
 use link_program::{Definition, GlobalKey, Program, Winner};
-use linking_section::SymbolKind;
 use std::alloc::Global;
-use wasm_module::Export;
-use wl_base::{Name, OutOfMemory, Seq};
 
 // What kind of export a symbol is.
 fn space_of(kind: SymbolKind) -> u8

@@ -1,11 +1,11 @@
 //! The global section (Core 5.5.9).
 ghost use Rattle.std.specs.Prelude.{◌≡◌, ◌++◌, ◌==◌, if◌then◌else◌, filter_map, drop, IfOk, OnOk};
 ghost use Rattle.std.specs.Option.{option_to_list};
-ghost use Rattle.made_symbols.specs.declared.mode.Mode.TheVariants.{Plain};
-ghost use Rattle.reloc_apply.specs.Windows.{signed32};
-ghost use Rattle.link_rules.specs.Program.{chunk_at};
-ghost use Rattle.link_rules.specs.Values as values;
-ghost use Rattle.link_rules.specs.Output.{layout as laid_out};
+ghost use Rattle.link_program.specs.made_symbols.declared.mode.Mode.TheVariants.{Plain};
+ghost use Rattle.link_program.specs.reloc_apply.Windows.{signed32};
+ghost use Rattle.link_program.specs.link_rules.Program.{chunk_at};
+ghost use Rattle.link_program.specs.link_rules.Values as values;
+ghost use Rattle.link_program.specs.link_rules.Output.{layout as laid_out};
 ghost use Rattle.link_program.specs.Live.{Stage};
 ghost use Rattle.link_layout.specs.Seen.{Looked, chunk_number};
 ghost use Rattle.link_layout.specs.Layout.{looked, IsLayout};
@@ -14,13 +14,13 @@ ghost use Rattle.link_image.specs.Sections.{constant, entry_of, cell_seen, conte
 use crate::keys::function_of;
 use crate::parts::{number_of, part_at};
 use link_layout::Layout;
+use link_program::linking_section::SymbolKind;
+use link_program::mark_bits::Chunk;
+use link_program::wasm_module::ModuleGlobal;
+use link_program::wasm_types::{ConstExpr, GlobalType, ValType};
+use link_program::wl_base::{OutOfMemory, Seq};
 use link_program::{Content, Definition, FunctionKey, GlobalKey, GotKey, Tables};
-use linking_section::SymbolKind;
-use mark_bits::Chunk;
 use std::alloc::Global;
-use wasm_module::ModuleGlobal;
-use wasm_types::{ConstExpr, GlobalType, ValType};
-use wl_base::{OutOfMemory, Seq};
 
 /// A number below 2^32 as the signed number of the same bits. Another one is answered as want of memory.
 pub(crate) fn signed(n: u64) -> Result<i32, OutOfMemory>

@@ -1,14 +1,14 @@
 //! The image of the output.
 ghost use Rattle.std.specs.Prelude.{◌≡◌, [], ◌∷◌, if◌then◌else◌, length, map, filter_map, true, All, Contains, IfOk};
 ghost use Rattle.std.specs.List.{list_all};
-ghost use Rattle.made_symbols.specs.declared.mode.Mode.TheVariants.{Plain};
-ghost use Rattle.link_rules.specs.Output as output;
+ghost use Rattle.link_program.specs.made_symbols.declared.mode.Mode.TheVariants.{Plain};
+ghost use Rattle.link_program.specs.link_rules.Output as output;
 ghost use Rattle.link_program.specs.Told.{told_winner};
 ghost use Rattle.link_program.specs.Program.{IsProgram};
 ghost use Rattle.link_program.specs.Live.{Stage, AreLive};
 ghost use Rattle.link_marks.specs.About.{Exporting};
-ghost use Rattle.wasm_types.specs.declared.const_expr.ConstExpr.TheVariants as constants;
-ghost use Rattle.reloc_apply.specs.Windows.{signed32};
+ghost use Rattle.link_program.specs.wasm_types.declared.const_expr.ConstExpr.TheVariants as constants;
+ghost use Rattle.link_program.specs.reloc_apply.Windows.{signed32};
 ghost use Rattle.link_layout.specs.Layout.{looked, IsLayout};
 ghost use Rattle.link_image.specs.Joined.{joined_image};
 ghost use Rattle.link_image.specs.Sections.{is_plain, types_seen, takers_of, table_seen, elements_seen, global_made, body_seen, blocks_seen, first_of, imports_seen, exports_seen, memory_of, image_seen};
@@ -22,13 +22,13 @@ use crate::made_globals::globals;
 use crate::memory::{memories, memory, memory_exports, memory_imports};
 use crate::placed::{blocks, offset};
 use crate::types::copied;
-use image_emit::{Image, PlacedSource, Source};
 use link_layout::Layout;
 use link_program::Winner;
+use link_program::image_emit::{Image, PlacedSource, Source};
+use link_program::wasm_module::{Element, Export, ModuleGlobal};
+use link_program::wasm_types::{ConstExpr, FuncType, Import, Limits, TableType};
+use link_program::wl_base::{OutOfMemory, Seq};
 use std::alloc::Global;
-use wasm_module::{Element, Export, ModuleGlobal};
-use wasm_types::{ConstExpr, FuncType, Import, Limits, TableType};
-use wl_base::{OutOfMemory, Seq};
 
 // The imports: the memory, if it is imported, then functions, then globals.
 fn imports(alloc: Global, layout: Layout<'_>, memory: Limits) -> Result<Seq<Import>, OutOfMemory>

@@ -1,18 +1,18 @@
 //! The data section (Core 5.5.14).
 ghost use Rattle.std.specs.Prelude.{◌≡◌, ◌++◌, map, filter, drop, false, pos, slice_index_or, IfOk};
-ghost use Rattle.wasm_types.specs.declared.const_expr.ConstExpr.TheVariants as constants;
-ghost use Rattle.reloc_apply.specs.Windows.{signed32};
+ghost use Rattle.link_program.specs.wasm_types.declared.const_expr.ConstExpr.TheVariants as constants;
+ghost use Rattle.link_program.specs.reloc_apply.Windows.{signed32};
 ghost use Rattle.link_layout.specs.Seen.{is_solid_at};
 ghost use Rattle.link_layout.specs.Layout.{looked};
 ghost use Rattle.link_image.specs.Sections.{block_at, first_of};
 
 use crate::made_globals::signed;
 use crate::parts::part_at;
-use image_emit::{PlacedSource, Source};
 use link_layout::{Layout, Placed};
+use link_program::image_emit::{PlacedSource, Source};
+use link_program::wasm_types::ConstExpr;
+use link_program::wl_base::{OutOfMemory, Seq};
 use std::alloc::Global;
-use wasm_types::ConstExpr;
-use wl_base::{OutOfMemory, Seq};
 
 // Whether the part of a number is a live segment that isn't zero.
 #[tactic(auto, using(crate::proofs::ReadAt::read))]

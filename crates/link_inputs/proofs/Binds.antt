@@ -1,6 +1,6 @@
 -- Steps one after another.
 use Rattle.std.proofs.Common.{◌≡◌, Result, Ok, Err, refl}
-use Rattle.wl_base.specs.Choice.{◌>>=◌}
+use Rattle.link_program.specs.wl_base.Choice.{◌>>=◌}
 
 module _ {F : Type 0} where
   pub bind_same : {A B : Type 0} (r : Result A F) (f g : A → Result B F) → ((x : A) → f x ≡ g x) → (r >>= f) ≡ (r >>= g)

@@ -3,19 +3,19 @@ use Rattle.std.proofs.Common.{◌≡◌, ◌∙◌, ◌+◌, ◌^◌, ℕ, Bool,
 use Rattle.std.specs.Prelude.{nat_le}
 use Rattle.std.proofs.lemmas.List.{length-append, append_assoc, append-nil}
 use Rattle.std.proofs.lemmas.List.Sums.{sum_by-cons}
-use Rattle.wl_base.specs.Choice.{given, unless, ◌>>=◌}
-use Rattle.wl_base.specs.declared.fault.Fault.{Fault}
-use Rattle.wl_base.specs.declared.fault.Fault.TheVariants.{TooManyInputs}
-use Rattle.wl_base.specs.declared.fault.LibFault.{LibFault}
-use Rattle.wl_base.specs.declared.span.Span.{Span}
-use Rattle.lib_index.specs.Library.{Contents}
-use Rattle.lib_index.specs.Reading.{library_of}
-use Rattle.lib_rounds.specs.Rounds.{Candidate}
-use Rattle.link_plan.specs.declared.plan.Plan.{Plan}
-use Rattle.link_plan.specs.declared.plan.InputWord.{InputWord}
-use Rattle.link_rules.specs.Candidates as rules
-use Rattle.link_rules.specs.Candidates.{is_library, members_from, candidates_from, candidates_of, too_much_input, too_many_inputs, words_for}
-use Rattle.link_rules.specs.LinkOf.{the_readers}
+use Rattle.link_program.specs.wl_base.Choice.{given, unless, ◌>>=◌}
+use Rattle.link_program.specs.wl_base.declared.fault.Fault.{Fault}
+use Rattle.link_program.specs.wl_base.declared.fault.Fault.TheVariants.{TooManyInputs}
+use Rattle.link_program.specs.wl_base.declared.fault.LibFault.{LibFault}
+use Rattle.link_program.specs.wl_base.declared.span.Span.{Span}
+use Rattle.link_program.specs.lib_index.Library.{Contents}
+use Rattle.link_program.specs.lib_index.Reading.{library_of}
+use Rattle.link_program.specs.lib_rounds.Rounds.{Candidate}
+use Rattle.link_program.specs.link_plan.declared.plan.Plan.{Plan}
+use Rattle.link_program.specs.link_plan.declared.plan.InputWord.{InputWord}
+use Rattle.link_program.specs.link_rules.Candidates as rules
+use Rattle.link_program.specs.link_rules.Candidates.{is_library, members_from, candidates_from, candidates_of, too_much_input, too_many_inputs, words_for}
+use Rattle.link_program.specs.link_rules.LinkOf.{the_readers}
 use Rattle.link_inputs.specs.declared.opening.OpenFile.{OpenFile}
 use Rattle.link_inputs.specs.declared.opening.OpenFile.TheVariants.{Object, Library}
 use Rattle.link_inputs.specs.Opened.{library_file, opened_as, opened_file, opened_from, opened_files, count_in, input_count, too_many}

@@ -3,9 +3,9 @@ use Rattle.std.proofs.Common.{◌≡◌, ◌∙◌, ◌+◌, ◌-◌, ◌<◌, �
 use Rattle.std.specs.Prelude.{slice_get, slice_set, slice_range}
 use Rattle.std.proofs.Math.Seq.{take-add, take-length}
 use Rattle.std.proofs.lemmas.List.{drop-drop, take_more_set}
-use Rattle.wl_fan.specs.Slices.{Works}
-use Rattle.wl_fan.proofs.Whole.{whole}
-use Rattle.lib_rounds.specs.declared.given.Given.{Given}
+use Rattle.link_program.specs.wl_fan.Slices.{Works}
+use Rattle.link_program.proofs.wl_fan_lemmas.Whole.{whole}
+use Rattle.link_program.specs.lib_rounds.declared.given.Given.{Given}
 use Rattle.link_inputs.specs.declared.numbering.ObjectFile.{ObjectFile}
 use Rattle.link_inputs.specs.declared.reading.ReadError.{ReadError}
 use Rattle.link_inputs.specs.Parts.{first_of}

@@ -2,19 +2,19 @@
 use Rattle.std.proofs.Common.{◌≡◌, ◌∙◌, ◌+◌, ◌<◌, ◌≤◌, ℕ, Bool, true, false, cond, List, [], ◌∷◌, ◌++◌, length, take, drop, Option, Some, None, Result, Ok, Err, refl, sym, ap, arith}
 use Rattle.std.specs.Prelude.{map, filter, nat_le, ◌&&◌, ◌==◌}
 use Rattle.std.proofs.lemmas.Bool.{lt-leb, le-leb}
-use Rattle.lib_index.specs.Library.{Contents}
-use Rattle.wl_base.specs.Choice.{first_some, ◌>>=◌}
-use Rattle.wl_base.specs.declared.fault.Fault.{Fault}
-use Rattle.wl_base.specs.declared.span.Span.{Span}
-use Rattle.object_file.specs.declared.object.Object.{Object}
-use Rattle.object_file.specs.ObjectOf.{object_of}
-use Rattle.lib_rounds.specs.declared.given.Given.{Given}
-use Rattle.lib_rounds.specs.declared.given.LibraryFile.{LibraryFile}
-use Rattle.lib_rounds.specs.Rounds.{Candidate, object_fault, fault_in, is_given, given_fault}
-use Rattle.lib_rounds.specs.Inputs.{members_of}
-use Rattle.link_plan.specs.declared.plan.InputWord.{InputWord}
-use Rattle.link_rules.specs.Candidates.{plain_candidate, members_from}
-use Rattle.link_rules.specs.LinkOf.{the_readers}
+use Rattle.link_program.specs.lib_index.Library.{Contents}
+use Rattle.link_program.specs.wl_base.Choice.{first_some, ◌>>=◌}
+use Rattle.link_program.specs.wl_base.declared.fault.Fault.{Fault}
+use Rattle.link_program.specs.wl_base.declared.span.Span.{Span}
+use Rattle.link_program.specs.object_file.declared.object.Object.{Object}
+use Rattle.link_program.specs.object_file.ObjectOf.{object_of}
+use Rattle.link_program.specs.lib_rounds.declared.given.Given.{Given}
+use Rattle.link_program.specs.lib_rounds.declared.given.LibraryFile.{LibraryFile}
+use Rattle.link_program.specs.lib_rounds.Rounds.{Candidate, object_fault, fault_in, is_given, given_fault}
+use Rattle.link_program.specs.lib_rounds.Inputs.{members_of}
+use Rattle.link_program.specs.link_plan.declared.plan.InputWord.{InputWord}
+use Rattle.link_program.specs.link_rules.Candidates.{plain_candidate, members_from}
+use Rattle.link_program.specs.link_rules.LinkOf.{the_readers}
 use Rattle.link_inputs.specs.declared.numbering.ObjectFile.{ObjectFile}
 use Rattle.link_inputs.specs.declared.opening.OpenFile.{OpenFile}
 use Rattle.link_inputs.specs.declared.opening.OpenFile.TheVariants as files

@@ -1,16 +1,16 @@
 -- Files that are opened, as a relation.
 use Rattle.std.proofs.Common.{◌≡◌, ◌∙◌, ◌+◌, ◌≤◌, ℕ, Bool, true, false, List, [], ◌∷◌, ◌++◌, length, Result, Ok, Err, refl, ap, arith}
 use Rattle.std.proofs.lemmas.List.Sums.{sum_by-cons}
-use Rattle.wl_base.specs.Choice.{◌>>=◌}
-use Rattle.wl_base.specs.declared.fault.Fault.{Fault}
-use Rattle.wl_base.specs.declared.fault.LibFault.{LibFault}
+use Rattle.link_program.specs.wl_base.Choice.{◌>>=◌}
+use Rattle.link_program.specs.wl_base.declared.fault.Fault.{Fault}
+use Rattle.link_program.specs.wl_base.declared.fault.LibFault.{LibFault}
 use Rattle.std.proofs.lemmas.List.{length-append}
-use Rattle.lib_index.specs.Archive.{magic}
-use Rattle.lib_index.specs.Library.{Contents, IsLibrary}
-use Rattle.lib_index.specs.Reading.{library_of}
-use Rattle.lib_index.proofs.LibraryLaws.{library_found}
-use Rattle.lib_index.proofs.MemberLaws.{members_few, headers_few, spans_many}
-use Rattle.link_rules.specs.Candidates.{is_library, total_len}
+use Rattle.link_program.specs.lib_index.Archive.{magic}
+use Rattle.link_program.specs.lib_index.Library.{Contents, IsLibrary}
+use Rattle.link_program.specs.lib_index.Reading.{library_of}
+use Rattle.link_program.proofs.lib_index_lemmas.LibraryLaws.{library_found}
+use Rattle.link_program.proofs.lib_index_lemmas.MemberLaws.{members_few, headers_few, spans_many}
+use Rattle.link_program.specs.link_rules.Candidates.{is_library, total_len}
 use Rattle.link_inputs.specs.declared.opening.OpenFile.{OpenFile}
 use Rattle.link_inputs.specs.declared.opening.OpenFile.TheVariants.{Object, Library}
 use Rattle.link_inputs.specs.Opened.{library_file, opened_as, opened_file, opened_from, count_in, input_count}

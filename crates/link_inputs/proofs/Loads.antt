@@ -3,15 +3,15 @@ use Rattle.std.proofs.Common.{◌≡◌, ◌∙◌, ◌+◌, ◌-◌, ◌<◌, �
 use Rattle.std.specs.Prelude.{slice_get, map, filter, filter_map, All}
 use Rattle.std.proofs.lemmas.Bool.{cases_Bool}
 use Rattle.std.proofs.lemmas.List.Elements.{All-nil, All-cons}
-use Rattle.wl_base.specs.Choice.{unless, ◌>>=◌}
-use Rattle.wl_base.specs.declared.fault.Fault.{Fault}
-use Rattle.object_file.specs.declared.object.Object.{Object}
-use Rattle.object_file.specs.Sound.{Sound}
-use Rattle.object_file.proofs.Read.{object_found}
-use Rattle.object_file.proofs.SoundObject.{input_is, read_is_sound}
-use Rattle.made_symbols.specs.declared.mode.Mode.{Mode}
-use Rattle.lib_rounds.specs.Rounds.{Candidate, object_in, objects_of, is_loaded, at_once, given_fault, rounds, loaded_inputs, load}
-use Rattle.name_entries.specs.View.{InputsRise}
+use Rattle.link_program.specs.wl_base.Choice.{unless, ◌>>=◌}
+use Rattle.link_program.specs.wl_base.declared.fault.Fault.{Fault}
+use Rattle.link_program.specs.object_file.declared.object.Object.{Object}
+use Rattle.link_program.specs.object_file.Sound.{Sound}
+use Rattle.link_program.proofs.object_file_lemmas.Read.{object_found}
+use Rattle.link_program.proofs.object_file_lemmas.SoundObject.{input_is, read_is_sound}
+use Rattle.link_program.specs.made_symbols.declared.mode.Mode.{Mode}
+use Rattle.link_program.specs.lib_rounds.Rounds.{Candidate, object_in, objects_of, is_loaded, at_once, given_fault, rounds, loaded_inputs, load}
+use Rattle.link_program.specs.name_entries.View.{InputsRise}
 use Rattle.link_program.specs.declared.home.Home.{Home}
 use Rattle.link_program.specs.Loaded.{home_of, IsReadFrom, IsLoaded}
 use Rattle.link_inputs.proofs.Binds.{bind_ok, ok_is}

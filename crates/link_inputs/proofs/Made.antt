@@ -3,22 +3,22 @@ use Rattle.std.proofs.Common.{◌≡◌, ◌∙◌, ◌+◌, ◌<◌, ◌≤◌,
 use Rattle.std.specs.Prelude.{not, slice_get, map, filter, flat_map, All}
 use Rattle.std.proofs.lemmas.List.Sums.{sum_by-cons}
 use Rattle.std.proofs.lemmas.List.Elements.{All-nil, All-cons}
-use Rattle.wl_base.specs.Choice.{◌>>=◌}
-use Rattle.wl_base.specs.declared.fault.Fault.{Fault}
-use Rattle.wl_base.specs.declared.span.Span.{Span}
-use Rattle.object_file.specs.declared.object.Object.{Object}
-use Rattle.object_file.specs.ObjectOf.{object_of}
-use Rattle.object_file.proofs.Read.{object_found}
-use Rattle.object_file.proofs.SoundObject.{input_is}
-use Rattle.lib_index.specs.Library.{Contents}
-use Rattle.lib_rounds.specs.declared.given.Given.{Given}
-use Rattle.lib_rounds.specs.declared.given.LibraryFile.{LibraryFile}
-use Rattle.lib_rounds.specs.Rounds.{Candidate}
-use Rattle.lib_rounds.specs.Inputs as inputs
-use Rattle.lib_rounds.specs.Inputs.{IsGivenAs, AreGiven, AreCandidates, IsRead, members_of}
-use Rattle.link_plan.specs.declared.plan.InputWord.{InputWord}
-use Rattle.link_rules.specs.Candidates.{plain_candidate, members_from, names_in}
-use Rattle.link_rules.specs.LinkOf.{the_readers}
+use Rattle.link_program.specs.wl_base.Choice.{◌>>=◌}
+use Rattle.link_program.specs.wl_base.declared.fault.Fault.{Fault}
+use Rattle.link_program.specs.wl_base.declared.span.Span.{Span}
+use Rattle.link_program.specs.object_file.declared.object.Object.{Object}
+use Rattle.link_program.specs.object_file.ObjectOf.{object_of}
+use Rattle.link_program.proofs.object_file_lemmas.Read.{object_found}
+use Rattle.link_program.proofs.object_file_lemmas.SoundObject.{input_is}
+use Rattle.link_program.specs.lib_index.Library.{Contents}
+use Rattle.link_program.specs.lib_rounds.declared.given.Given.{Given}
+use Rattle.link_program.specs.lib_rounds.declared.given.LibraryFile.{LibraryFile}
+use Rattle.link_program.specs.lib_rounds.Rounds.{Candidate}
+use Rattle.link_program.specs.lib_rounds.Inputs as inputs
+use Rattle.link_program.specs.lib_rounds.Inputs.{IsGivenAs, AreGiven, AreCandidates, IsRead, members_of}
+use Rattle.link_program.specs.link_plan.declared.plan.InputWord.{InputWord}
+use Rattle.link_program.specs.link_rules.Candidates.{plain_candidate, members_from, names_in}
+use Rattle.link_program.specs.link_rules.LinkOf.{the_readers}
 use Rattle.link_program.specs.declared.home.Home.{Home}
 use Rattle.link_program.specs.Loaded.{home_of}
 use Rattle.link_inputs.specs.declared.numbering.ObjectFile.{ObjectFile}

@@ -4,15 +4,15 @@ use Rattle.std.specs.Prelude.{slice_get, map}
 use Rattle.std.proofs.lemmas.List.{drop_more, drop_all}
 use Rattle.std.proofs.lemmas.List.Elements.{All-get_or}
 use Rattle.std.proofs.lemmas.Option.{get_or_from_slice_get, slice_get_within}
-use Rattle.wl_base.specs.Choice.{first_some}
-use Rattle.wl_base.specs.declared.fault.Fault.{Fault}
-use Rattle.wl_base.specs.declared.span.Span.{Span}
-use Rattle.object_file.specs.ObjectOf.{object_of}
-use Rattle.lib_index.specs.Library.{bytes_of}
-use Rattle.lib_index.proofs.LibraryLaws.{library_within}
-use Rattle.lib_rounds.specs.declared.given.LibraryFile.{LibraryFile}
-use Rattle.lib_rounds.specs.Rounds.{Candidate, object_fault, fault_in}
-use Rattle.lib_rounds.specs.Inputs.{IsRead, members_from}
+use Rattle.link_program.specs.wl_base.Choice.{first_some}
+use Rattle.link_program.specs.wl_base.declared.fault.Fault.{Fault}
+use Rattle.link_program.specs.wl_base.declared.span.Span.{Span}
+use Rattle.link_program.specs.object_file.ObjectOf.{object_of}
+use Rattle.link_program.specs.lib_index.Library.{bytes_of}
+use Rattle.link_program.proofs.lib_index_lemmas.LibraryLaws.{library_within}
+use Rattle.link_program.specs.lib_rounds.declared.given.LibraryFile.{LibraryFile}
+use Rattle.link_program.specs.lib_rounds.Rounds.{Candidate, object_fault, fault_in}
+use Rattle.link_program.specs.lib_rounds.Inputs.{IsRead, members_from}
 use Rattle.link_inputs.specs.declared.fault.InputError.{InputError}
 use Rattle.link_inputs.specs.declared.fault.InputError.TheVariants.{Refused, OutOfMemory}
 use Rattle.link_inputs.specs.Reading.{file_at, fault_of, FailsBy, early_members, whole_before}

@@ -3,10 +3,10 @@ use Rattle.std.proofs.Common.{◌≡◌, ◌∙◌, ◌+◌, ◌<◌, ℕ, zero,
 use Rattle.std.proofs.lemmas.List.{drop_more, append_assoc, append-nil}
 use Rattle.std.proofs.lemmas.List.Sums.{sum_by-cons}
 use Rattle.std.specs.Prelude.{map, slice_get}
-use Rattle.wl_base.specs.declared.span.Span.{Span}
-use Rattle.lib_index.specs.Library.{Contents}
-use Rattle.link_plan.specs.declared.plan.InputWord.{InputWord}
-use Rattle.lib_rounds.specs.declared.given.LibraryFile.{LibraryFile}
+use Rattle.link_program.specs.wl_base.declared.span.Span.{Span}
+use Rattle.link_program.specs.lib_index.Library.{Contents}
+use Rattle.link_program.specs.link_plan.declared.plan.InputWord.{InputWord}
+use Rattle.link_program.specs.lib_rounds.declared.given.LibraryFile.{LibraryFile}
 use Rattle.link_program.specs.declared.home.Home.{Home}
 use Rattle.link_inputs.specs.declared.numbering.ObjectFile.{ObjectFile}
 use Rattle.link_inputs.specs.declared.numbering.Sources.{Sources}

@@ -1,8 +1,8 @@
 -- Files that are opened one after another.
 use Rattle.std.proofs.Common.{◌≡◌, ◌∙◌, ◌+◌, ◌<◌, ◌≤◌, ℕ, List, [], ◌∷◌, ◌++◌, length, drop, Result, Ok, Err, refl, sym, ap, get_or}
 use Rattle.std.proofs.lemmas.List.{drop_more, drop_all, append_assoc, append-nil}
-use Rattle.wl_base.specs.Choice.{◌>>=◌}
-use Rattle.wl_base.specs.declared.fault.Fault.{Fault}
+use Rattle.link_program.specs.wl_base.Choice.{◌>>=◌}
+use Rattle.link_program.specs.wl_base.declared.fault.Fault.{Fault}
 use Rattle.link_inputs.specs.declared.opening.OpenFile.{OpenFile}
 use Rattle.link_inputs.specs.Opened.{opened_file, opened_from}
 

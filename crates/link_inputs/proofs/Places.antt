@@ -3,13 +3,13 @@ use Rattle.std.proofs.Common.{◌≡◌, ◌∙◌, ◌+◌, ◌<◌, ◌≤◌,
 use Rattle.std.specs.Prelude.{slice_get, All}
 use Rattle.std.proofs.lemmas.List.{length-take-le, length-drop}
 use Rattle.std.proofs.lemmas.List.Elements.{All-head, All-tail}
-use Rattle.wl_base.specs.declared.span.Span.{Span}
-use Rattle.object_file.specs.ObjectOf.{object_of}
-use Rattle.lib_index.proofs.LibraryLaws.{library_within}
-use Rattle.lib_rounds.specs.Rounds.{Candidate}
-use Rattle.link_plan.specs.declared.plan.InputWord.{InputWord}
-use Rattle.link_rules.specs.Candidates.{members_from}
-use Rattle.link_rules.specs.LinkOf.{the_readers}
+use Rattle.link_program.specs.wl_base.declared.span.Span.{Span}
+use Rattle.link_program.specs.object_file.ObjectOf.{object_of}
+use Rattle.link_program.proofs.lib_index_lemmas.LibraryLaws.{library_within}
+use Rattle.link_program.specs.lib_rounds.Rounds.{Candidate}
+use Rattle.link_program.specs.link_plan.declared.plan.InputWord.{InputWord}
+use Rattle.link_program.specs.link_rules.Candidates.{members_from}
+use Rattle.link_program.specs.link_rules.LinkOf.{the_readers}
 use Rattle.link_inputs.specs.declared.opening.OpenFile.{OpenFile}
 use Rattle.link_inputs.specs.declared.opening.OpenFile.TheVariants.{Object as ObjectFile, Library}
 use Rattle.link_inputs.specs.Opened.{count_in}

@@ -4,20 +4,20 @@ use Rattle.std.specs.Prelude.{slice_get, map, replicate, unwrap_or, nat_le, All,
 use Rattle.std.proofs.lemmas.List.{length-replicate}
 use Rattle.std.proofs.lemmas.List.Elements.{All-weaker}
 use Rattle.std.proofs.lemmas.Bool.{leb-false}
-use Rattle.wl_base.specs.Choice.{given, unless, ◌>>=◌}
-use Rattle.wl_base.specs.declared.fault.Fault.{Fault}
-use Rattle.wl_base.specs.declared.fault.Fault.TheVariants.{TooManyInputs}
-use Rattle.made_symbols.specs.declared.mode.Mode.{Mode}
-use Rattle.made_symbols.specs.declared.mode.Mode.TheVariants.{Plain}
-use Rattle.lib_rounds.specs.declared.given.Given.{Given}
-use Rattle.lib_rounds.specs.declared.given.LibraryFile.{LibraryFile}
-use Rattle.lib_rounds.specs.Rounds.{Candidate, given_fault, load}
-use Rattle.lib_rounds.specs.Inputs.{AreCandidates, IsRead}
-use Rattle.link_plan.specs.Plan.{IsPlan}
-use Rattle.link_plan.specs.declared.plan.Plan.{Plan}
-use Rattle.link_plan.specs.declared.plan.InputWord.{InputWord}
-use Rattle.link_rules.specs.Candidates.{plain_word, words_for, too_much_input, candidates_of}
-use Rattle.link_rules.specs.LinkOf.{asked_names, the_readers}
+use Rattle.link_program.specs.wl_base.Choice.{given, unless, ◌>>=◌}
+use Rattle.link_program.specs.wl_base.declared.fault.Fault.{Fault}
+use Rattle.link_program.specs.wl_base.declared.fault.Fault.TheVariants.{TooManyInputs}
+use Rattle.link_program.specs.made_symbols.declared.mode.Mode.{Mode}
+use Rattle.link_program.specs.made_symbols.declared.mode.Mode.TheVariants.{Plain}
+use Rattle.link_program.specs.lib_rounds.declared.given.Given.{Given}
+use Rattle.link_program.specs.lib_rounds.declared.given.LibraryFile.{LibraryFile}
+use Rattle.link_program.specs.lib_rounds.Rounds.{Candidate, given_fault, load}
+use Rattle.link_program.specs.lib_rounds.Inputs.{AreCandidates, IsRead}
+use Rattle.link_program.specs.link_plan.Plan.{IsPlan}
+use Rattle.link_program.specs.link_plan.declared.plan.Plan.{Plan}
+use Rattle.link_program.specs.link_plan.declared.plan.InputWord.{InputWord}
+use Rattle.link_program.specs.link_rules.Candidates.{plain_word, words_for, too_much_input, candidates_of}
+use Rattle.link_program.specs.link_rules.LinkOf.{asked_names, the_readers}
 use Rattle.link_program.specs.Loaded.{given_or_none, the_candidates, home_of, IsLoaded}
 use Rattle.link_inputs.specs.declared.fault.InputError.{InputError}
 use Rattle.link_inputs.specs.declared.fault.InputError.TheVariants.{Refused, OutOfMemory}

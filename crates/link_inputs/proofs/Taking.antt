@@ -1,9 +1,9 @@
 -- Objects that are taken from their slots one after another.
 use Rattle.std.proofs.Common.{◌≡◌, ◌∙◌, ℕ, List, [], ◌∷◌, ◌++◌, Result, Ok, Err, refl, sym, ap, length, arith}
 use Rattle.std.proofs.lemmas.List.{append_assoc, append-nil}
-use Rattle.wl_base.specs.Choice.{◌>>=◌}
-use Rattle.wl_base.specs.declared.fault.Fault.{Fault}
-use Rattle.lib_rounds.specs.declared.given.Given.{Given}
+use Rattle.link_program.specs.wl_base.Choice.{◌>>=◌}
+use Rattle.link_program.specs.wl_base.declared.fault.Fault.{Fault}
+use Rattle.link_program.specs.lib_rounds.declared.given.Given.{Given}
 use Rattle.link_inputs.specs.declared.numbering.ObjectFile.{ObjectFile}
 use Rattle.link_inputs.specs.declared.reading.ReadError.{ReadError}
 use Rattle.link_inputs.specs.declared.reading.ReadError.TheVariants as errors

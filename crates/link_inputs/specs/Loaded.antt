@@ -1,11 +1,11 @@
 -- What holds of the loaded objects of a link.
 use Rattle.std.specs.Prelude.{◌≡◌, ◌<◌, ◌^◌, ℕ, List, length, map, unwrap_or, Ok}
-use Rattle.object_file.specs.declared.object.Object.{Object}
-use Rattle.made_symbols.specs.declared.mode.Mode.{Mode}
-use Rattle.lib_rounds.specs.Rounds.{Candidate, load}
-use Rattle.link_plan.specs.declared.plan.Plan.{Plan}
-use Rattle.link_rules.specs.Candidates.{candidates_of}
-use Rattle.link_rules.specs.LinkOf.{asked_names, the_readers}
+use Rattle.link_program.specs.object_file.declared.object.Object.{Object}
+use Rattle.link_program.specs.made_symbols.declared.mode.Mode.{Mode}
+use Rattle.link_program.specs.lib_rounds.Rounds.{Candidate, load}
+use Rattle.link_program.specs.link_plan.declared.plan.Plan.{Plan}
+use Rattle.link_program.specs.link_rules.Candidates.{candidates_of}
+use Rattle.link_program.specs.link_rules.LinkOf.{asked_names, the_readers}
 use Rattle.link_program.specs.Loaded.{the_candidates, home_of, IsLoaded}
 use Rattle.link_inputs.specs.declared.inputs.Inputs.{Inputs}
 

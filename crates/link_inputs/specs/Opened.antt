@@ -1,12 +1,12 @@
 -- The files, opened in turn as objects and libraries, and how many inputs they are.
 use Rattle.std.specs.Prelude.{ℕ, ◌+◌, ◌^◌, nat_le, Bool, true, false, List, [], ◌∷◌, length, sum_by, Option, Result, Ok, Err}
-use Rattle.wl_base.specs.Choice.{given, unless, ◌>>=◌}
-use Rattle.wl_base.specs.declared.fault.Fault.{Fault}
-use Rattle.wl_base.specs.declared.fault.Fault.TheVariants.{TooManyInputs, Library as BadLibrary}
-use Rattle.wl_base.specs.declared.fault.LibFault.{LibFault}
-use Rattle.lib_index.specs.Library.{Contents}
-use Rattle.lib_index.specs.Reading.{library_of}
-use Rattle.link_rules.specs.Candidates.{is_library, too_much_input}
+use Rattle.link_program.specs.wl_base.Choice.{given, unless, ◌>>=◌}
+use Rattle.link_program.specs.wl_base.declared.fault.Fault.{Fault}
+use Rattle.link_program.specs.wl_base.declared.fault.Fault.TheVariants.{TooManyInputs, Library as BadLibrary}
+use Rattle.link_program.specs.wl_base.declared.fault.LibFault.{LibFault}
+use Rattle.link_program.specs.lib_index.Library.{Contents}
+use Rattle.link_program.specs.lib_index.Reading.{library_of}
+use Rattle.link_program.specs.link_rules.Candidates.{is_library, too_much_input}
 use Rattle.link_inputs.specs.declared.opening.OpenFile.{OpenFile}
 use Rattle.link_inputs.specs.declared.opening.OpenFile.TheVariants.{Object, Library}
 

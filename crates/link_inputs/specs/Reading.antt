@@ -1,13 +1,13 @@
 -- What reading the objects of the words gives, and the members of whole libraries.
 use Rattle.std.specs.Prelude.{◌≡◌, ◌<◌, ℕ, nat_le, Bool, ◌&&◌, List, [], ◌∷◌, length, map, flat_map, if◌then◌else◌, Option, Some, None, slice_get, slice_index_or, Result, Ok, Err}
-use Rattle.wl_base.specs.Choice.{first_some, ◌>>=◌}
-use Rattle.wl_base.specs.declared.fault.Fault.{Fault}
-use Rattle.object_file.specs.declared.object.Object.{Object}
-use Rattle.object_file.specs.ObjectOf.{object_of}
-use Rattle.lib_rounds.specs.declared.given.Given.{Given}
-use Rattle.lib_rounds.specs.declared.given.LibraryFile.{LibraryFile}
-use Rattle.lib_rounds.specs.Rounds.{Candidate, object_fault}
-use Rattle.lib_rounds.specs.Inputs.{members_of}
+use Rattle.link_program.specs.wl_base.Choice.{first_some, ◌>>=◌}
+use Rattle.link_program.specs.wl_base.declared.fault.Fault.{Fault}
+use Rattle.link_program.specs.object_file.declared.object.Object.{Object}
+use Rattle.link_program.specs.object_file.ObjectOf.{object_of}
+use Rattle.link_program.specs.lib_rounds.declared.given.Given.{Given}
+use Rattle.link_program.specs.lib_rounds.declared.given.LibraryFile.{LibraryFile}
+use Rattle.link_program.specs.lib_rounds.Rounds.{Candidate, object_fault}
+use Rattle.link_program.specs.lib_rounds.Inputs.{members_of}
 use Rattle.link_inputs.specs.declared.numbering.ObjectFile.{ObjectFile}
 use Rattle.link_inputs.specs.declared.reading.ReadError.{ReadError}
 use Rattle.link_inputs.specs.declared.reading.ReadError.TheVariants as errors

@@ -1,7 +1,7 @@
 -- The files as numbered inputs: the objects of the words, the libraries, and where each input begins.
 use Rattle.std.specs.Prelude.{◌≡◌, ℕ, ◌+◌, List, [], ◌∷◌, ◌++◌, map}
-use Rattle.lib_rounds.specs.declared.given.LibraryFile.{LibraryFile}
-use Rattle.link_plan.specs.declared.plan.InputWord.{InputWord}
+use Rattle.link_program.specs.lib_rounds.declared.given.LibraryFile.{LibraryFile}
+use Rattle.link_program.specs.link_plan.declared.plan.InputWord.{InputWord}
 use Rattle.link_program.specs.declared.home.Home.{Home}
 use Rattle.link_inputs.specs.declared.numbering.ObjectFile.{ObjectFile}
 use Rattle.link_inputs.specs.declared.numbering.Sources.{Sources}

@@ -1,9 +1,9 @@
 -- What the steps of the call tell one another.
 use Rattle.std.specs.Prelude.{◌≡◌, ◌<◌, ◌^◌, ℕ, List, [], length, map, Result, Ok, Err}
-use Rattle.made_symbols.specs.declared.mode.Mode.TheVariants.{Plain}
-use Rattle.lib_rounds.specs.Rounds.{Candidate, load}
-use Rattle.link_plan.specs.declared.plan.Plan.{Plan}
-use Rattle.link_rules.specs.LinkOf.{asked_names}
+use Rattle.link_program.specs.made_symbols.declared.mode.Mode.TheVariants.{Plain}
+use Rattle.link_program.specs.lib_rounds.Rounds.{Candidate, load}
+use Rattle.link_program.specs.link_plan.declared.plan.Plan.{Plan}
+use Rattle.link_program.specs.link_rules.LinkOf.{asked_names}
 use Rattle.link_inputs.specs.declared.fault.InputError.{InputError}
 use Rattle.link_inputs.specs.declared.inputs.Inputs.{Inputs}
 use Rattle.link_inputs.specs.declared.numbering.Sources.{Sources}

@@ -1,8 +1,8 @@
 -- The words of the files.
 use Rattle.std.specs.Prelude.{ℕ, List, replicate, Option, Some, None}
-use Rattle.link_plan.specs.declared.plan.Plan.{Plan}
-use Rattle.link_plan.specs.declared.plan.InputWord.{InputWord}
-use Rattle.link_rules.specs.Candidates.{plain_word}
+use Rattle.link_program.specs.link_plan.declared.plan.Plan.{Plan}
+use Rattle.link_program.specs.link_plan.declared.plan.InputWord.{InputWord}
+use Rattle.link_program.specs.link_rules.Candidates.{plain_word}
 
 abbrev pub words_by : Option ℕ → List InputWord → ℕ → List InputWord
 words_by None words count = words

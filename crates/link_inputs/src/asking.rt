@@ -1,10 +1,10 @@
 //! The names whose definitions the words ask for.
 ghost use Rattle.std.specs.Prelude.{◌≡◌, ◌++◌, IfOk, OnOk};
-ghost use Rattle.link_rules.specs.LinkOf.{asked_names};
+ghost use Rattle.link_program.specs.link_rules.LinkOf.{asked_names};
 
-use link_plan::Plan;
+use link_program::link_plan::Plan;
+use link_program::wl_base::{Name, OutOfMemory, Seq};
 use std::alloc::Global;
-use wl_base::{Name, OutOfMemory, Seq};
 
 /// Puts names at the end.
 fn add_names(alloc: Global, names: &mut Seq<Name>, more: &[Name]) -> Result<(), OutOfMemory>
@@ -17,7 +17,7 @@ fn add_names(alloc: Global, names: &mut Seq<Name>, more: &[Name]) -> Result<(), 
 }
 
 /// The entry, then the names of `--export`, then those of `-u`.
-#[tactic(auto, unfolding(link_rules::specs::LinkOf::asked_names))]
+#[tactic(auto, unfolding(link_program::specs::link_rules::LinkOf::asked_names))]
 pub fn asked_names(alloc: Global, plan: &Plan) -> Result<Seq<Name>, OutOfMemory>
     ensures { IfOk result (λ names. names ≡ asked_names plan.now) }
 {

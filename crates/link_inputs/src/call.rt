@@ -1,10 +1,10 @@
 //! From files to loaded objects.
 ghost use Rattle.std.specs.Prelude.{◌≡◌, ◌<◌, ◌≤◌, ◌^◌, ℕ, All, List, Ok, IfOk, length, unwrap_or};
-ghost use Rattle.made_symbols.specs.declared.mode.Mode.TheVariants.{Plain};
-ghost use Rattle.lib_rounds.specs.Rounds.{Candidate, load};
-ghost use Rattle.lib_rounds.specs.Inputs.{AreCandidates, IsRead};
-ghost use Rattle.link_plan.specs.Plan.{IsPlan};
-ghost use Rattle.link_rules.specs.LinkOf.{asked_names, mode_of};
+ghost use Rattle.link_program.specs.made_symbols.declared.mode.Mode.TheVariants.{Plain};
+ghost use Rattle.link_program.specs.lib_rounds.Rounds.{Candidate, load};
+ghost use Rattle.link_program.specs.lib_rounds.Inputs.{AreCandidates, IsRead};
+ghost use Rattle.link_program.specs.link_plan.Plan.{IsPlan};
+ghost use Rattle.link_program.specs.link_rules.LinkOf.{asked_names, mode_of};
 ghost use Rattle.link_inputs.specs.Answers.{Answers};
 ghost use Rattle.link_inputs.specs.Inputs.{loaded_of};
 ghost use Rattle.link_inputs.specs.Loaded.{AreInputs};
@@ -18,13 +18,13 @@ use crate::opening::open_files;
 use crate::reading::read_given;
 use crate::whole::refused;
 use crate::words::words_of;
-use lib_rounds::{Given, LibraryFile, Loaded, RoundError, load_rounds};
-use link_plan::Plan;
-use made_symbols::Mode;
+use link_program::lib_rounds::{Given, LibraryFile, Loaded, RoundError, load_rounds};
+use link_program::link_plan::Plan;
+use link_program::made_symbols::Mode;
+use link_program::wl_base::Seq;
+use link_program::wl_outside::Gate;
 use std::alloc::Global;
 use std::thread::Threads;
-use wl_base::Seq;
-use wl_outside::Gate;
 
 /// Loads what is needed, where all objects of the words are read.
 fn load_given(

@@ -1,14 +1,14 @@
 //! Files are opened: as objects, which aren't read yet, and as libraries by their indexes.
 ghost use Rattle.std.specs.Prelude.{◌≡◌, ◌<◌, ◌^◌, length};
-ghost use Rattle.link_rules.specs.Candidates.{is_library, total_len};
+ghost use Rattle.link_program.specs.link_rules.Candidates.{is_library, total_len};
 ghost use Rattle.link_inputs.specs.Answers.{Answers};
 ghost use Rattle.link_inputs.specs.Opened.{opened_file, opened_from, opened_files};
 
 use crate::fault::InputError;
 use crate::limits::{count_inputs, total_len};
-use lib_index::{LibError, Library, has_magic, read_index};
+use link_program::lib_index::{LibError, Library, has_magic, read_index};
+use link_program::wl_base::{Fault, Seq};
 use std::alloc::Global;
-use wl_base::{Fault, Seq};
 
 /// So many bytes are too many, over all files.
 const TOO_MANY_BYTES: u64 = 1 << 32;

@@ -1,17 +1,17 @@
 //! The members of whole libraries, where an object of the words has a fault.
 ghost use Rattle.std.specs.Prelude.{◌+◌, ◌<◌, ◌≤◌, ◌^◌, All, length};
-ghost use Rattle.object_file.specs.ObjectOf.{object_of};
-ghost use Rattle.lib_index.specs.Library.{bytes_of};
-ghost use Rattle.lib_rounds.specs.Rounds.{fault_in};
-ghost use Rattle.lib_rounds.specs.Inputs.{IsRead, members_of};
+ghost use Rattle.link_program.specs.object_file.ObjectOf.{object_of};
+ghost use Rattle.link_program.specs.lib_index.Library.{bytes_of};
+ghost use Rattle.link_program.specs.lib_rounds.Rounds.{fault_in};
+ghost use Rattle.link_program.specs.lib_rounds.Inputs.{IsRead, members_of};
 ghost use Rattle.link_inputs.specs.Reading.{FailsBy, Finds, fault_of, least_of, early_members, whole_before, IsLeast};
 
 use crate::fault::InputError;
 use crate::reading::ReadError;
-use lib_rounds::LibraryFile;
-use object_file::{ObjectError, read_object};
+use link_program::lib_rounds::LibraryFile;
+use link_program::object_file::{ObjectError, read_object};
+use link_program::wl_base::{Fault, InputId, Seq, Span};
 use std::alloc::Global;
-use wl_base::{Fault, InputId, Seq, Span};
 
 /// Reads a member of these bytes, as an input of this number.
 fn read_part(alloc: Global, input: InputId, bytes: &[u8], span: Span) -> Result<(), InputError>

@@ -4,9 +4,9 @@ use Rattle.std.specs.List.{position_or_len}
 use Rattle.std.proofs.lemmas.Bool.{false_from_ne_true, and_parts, and_from}
 use Rattle.std.proofs.lemmas.List.Sums.{position_or_len_is}
 use Rattle.std.proofs.lemmas.Option.{slice_get_within, slice_get-get_or, get_or_from_slice_get}
-use Rattle.mark_bits.specs.declared.chunk.Chunk.{Chunk}
-use Rattle.mark_bits.specs.Chunks.{Lacks}
-use Rattle.link_rules.specs.Program.{same_chunk}
+use Rattle.link_program.specs.mark_bits.declared.chunk.Chunk.{Chunk}
+use Rattle.link_program.specs.mark_bits.Chunks.{Lacks}
+use Rattle.link_program.specs.link_rules.Program.{same_chunk}
 
 pub chunk_is : (a b : Chunk) → same_chunk a b ≡ true → a ≡ b
 chunk_is a b h =

@@ -1,16 +1,16 @@
 -- What a symbol means as a key, as it is told.
 use Rattle.std.proofs.Common.{◌≡◌, ℕ, ◌==◌, Bool, true, false, not, List, [], ◌∷◌, map, Option, Some, None, unwrap_or, refl, sym, ap, subst, ◌∙◌, arith, ℤ, pos, eqb-true}
 use Rattle.std.specs.Prelude.{if◌then◌else◌}
-use Rattle.wl_base.specs.Names.{number_of}
-use Rattle.linking_section.specs.Flags.{kind_code}
-use Rattle.linking_section.specs.declared.symbol.SymbolKind.TheVariants.{GlobalVar}
-use Rattle.made_symbols.specs.declared.mode.Mode.TheVariants.{Plain}
-use Rattle.name_rules.specs.Entries.{Entry, ImportKey, name_of, is_entry, is_kind}
-use Rattle.name_rules.specs.Meanings.{Meaning, here, imported, null, nothing, is_nothing}
-use Rattle.name_entries.specs.View.{entry_number}
-use Rattle.link_rules.specs.Program.{Ref}
-use Rattle.link_rules.specs.Keys as keys
-use Rattle.link_rules.specs.Keys.{linker_function, own, stub, linker_global, own_global, got, is_null, ref_function, ref_global, ref_got, got_of, global_of, meant_function, meant_global}
+use Rattle.link_program.specs.wl_base.Names.{number_of}
+use Rattle.link_program.specs.linking_section.Flags.{kind_code}
+use Rattle.link_program.specs.linking_section.declared.symbol.SymbolKind.TheVariants.{GlobalVar}
+use Rattle.link_program.specs.made_symbols.declared.mode.Mode.TheVariants.{Plain}
+use Rattle.link_program.specs.name_rules.Entries.{Entry, ImportKey, name_of, is_entry, is_kind}
+use Rattle.link_program.specs.name_rules.Meanings.{Meaning, here, imported, null, nothing, is_nothing}
+use Rattle.link_program.specs.name_entries.View.{entry_number}
+use Rattle.link_program.specs.link_rules.Program.{Ref}
+use Rattle.link_program.specs.link_rules.Keys as keys
+use Rattle.link_program.specs.link_rules.Keys.{linker_function, own, stub, linker_global, own_global, got, is_null, ref_function, ref_global, ref_got, got_of, global_of, meant_function, meant_global}
 use Rattle.link_program.specs.declared.keys.FunctionKey.{FunctionKey}
 use Rattle.link_program.specs.declared.keys.FunctionKey.TheVariants as functions
 use Rattle.link_program.specs.declared.keys.GlobalKey.{GlobalKey}

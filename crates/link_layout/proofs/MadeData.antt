@@ -1,8 +1,8 @@
 -- The addresses of the linker's data, by their numbers.
 use Rattle.std.proofs.Common.{◌≡◌, ◌≢◌, ℕ, zero, suc, List, [], ◌∷◌, refl, arith}
 use Rattle.std.specs.Prelude.{slice_index_or}
-use Rattle.memory_layout.specs.declared.rules.Places.{Places}
-use Rattle.link_rules.specs.Values.{made_data}
+use Rattle.link_program.specs.memory_layout.declared.rules.Places.{Places}
+use Rattle.link_program.specs.link_rules.Values.{made_data}
 
 -- All other numbers are those of no data.
 pub other : (at : Places) (n : ℕ) → n ≢ 5 → n ≢ 6 → n ≢ 7 → n ≢ 8 → n ≢ 9 → n ≢ 10 → n ≢ 11 → slice_index_or (made_data at) n 0 ≡ 0

@@ -4,15 +4,15 @@ use Rattle.std.specs.List.{list_all, list_any, All}
 use Rattle.std.proofs.lemmas.List.Elements.{All-cons}
 use Rattle.std.proofs.lemmas.List.{length-map}
 use Rattle.std.proofs.lemmas.Option.{slice_get-map, slice_get_within, get_or_from_slice_get}
-use Rattle.wasm_types.specs.declared.function.FuncType.{FuncType}
-use Rattle.mark_bits.specs.declared.chunk.Chunk.{Chunk}
-use Rattle.memory_layout.specs.declared.rules.SegmentShape.{SegmentShape}
-use Rattle.memory_layout.specs.Steps.{AreAligned}
-use Rattle.image_emit.specs.Bytes.{file_part}
-use Rattle.name_rules.specs.Entries.{ImportKey}
-use Rattle.link_rules.specs.Program as rules
-use Rattle.link_rules.specs.Program.{function, segment, global, linker_made, same_chunk}
-use Rattle.link_rules.specs.Values.{segments, content_align, shape_of, shapes, is_zero}
+use Rattle.link_program.specs.wasm_types.declared.function.FuncType.{FuncType}
+use Rattle.link_program.specs.mark_bits.declared.chunk.Chunk.{Chunk}
+use Rattle.link_program.specs.memory_layout.declared.rules.SegmentShape.{SegmentShape}
+use Rattle.link_program.specs.memory_layout.Steps.{AreAligned}
+use Rattle.link_program.specs.image_emit.Bytes.{file_part}
+use Rattle.link_program.specs.name_rules.Entries.{ImportKey}
+use Rattle.link_program.specs.link_rules.Program as rules
+use Rattle.link_program.specs.link_rules.Program.{function, segment, global, linker_made, same_chunk}
+use Rattle.link_program.specs.link_rules.Values.{segments, content_align, shape_of, shapes, is_zero}
 use Rattle.link_program.specs.declared.part.Content.{Content}
 use Rattle.link_program.specs.declared.part.Content.TheVariants as contents
 use Rattle.link_program.specs.declared.part.Part.{Part}

@@ -6,23 +6,23 @@ use Rattle.std.proofs.lemmas.List.{length-map, length-replicate, get_or-replicat
 use Rattle.std.proofs.lemmas.List.Kept.{AllPairs-filter}
 use Rattle.std.proofs.lemmas.List.Quantifiers.{position-Some}
 use Rattle.std.proofs.lemmas.Option.{slice_get_within, slice_get-get_or}
-use Rattle.wl_base.specs.Choice.{unless}
-use Rattle.wl_base.specs.declared.fault.What.{What}
-use Rattle.wl_base.specs.declared.layout_error.LayoutError.{LayoutError}
-use Rattle.wl_base.specs.declared.layout_error.LayoutError.TheVariants.{Overflow, OutOfMemory}
-use Rattle.made_symbols.specs.declared.mode.Mode.TheVariants.{Plain}
-use Rattle.mark_bits.specs.declared.chunk.Chunk.{Chunk}
-use Rattle.memory_layout.specs.Memory.{Passed, places, places_by, addresses, base_of, last_end, solid, memory_overflow, memory_of, too_much_of, address_after, end_after}
-use Rattle.memory_layout.specs.Steps.{AreRules, IsPages}
-use Rattle.memory_layout.specs.declared.rules.MemoryRules.{MemoryRules}
-use Rattle.memory_layout.specs.declared.rules.SegmentShape.{SegmentShape}
-use Rattle.memory_layout.specs.declared.rules.Places.{Places}
-use Rattle.link_plan.specs.declared.plan.Plan.{Plan}
-use Rattle.link_plan.specs.Plan.{IsPlan}
-use Rattle.name_rules.specs.Entries.{ImportKey}
-use Rattle.link_rules.specs.Program as rules
-use Rattle.link_rules.specs.Program.{same_chunk}
-use Rattle.link_rules.specs.Values.{rules_of, segments, solid_segments, shapes, shape_of, is_zero}
+use Rattle.link_program.specs.wl_base.Choice.{unless}
+use Rattle.link_program.specs.wl_base.declared.fault.What.{What}
+use Rattle.link_program.specs.wl_base.declared.layout_error.LayoutError.{LayoutError}
+use Rattle.link_program.specs.wl_base.declared.layout_error.LayoutError.TheVariants.{Overflow, OutOfMemory}
+use Rattle.link_program.specs.made_symbols.declared.mode.Mode.TheVariants.{Plain}
+use Rattle.link_program.specs.mark_bits.declared.chunk.Chunk.{Chunk}
+use Rattle.link_program.specs.memory_layout.Memory.{Passed, places, places_by, addresses, base_of, last_end, solid, memory_overflow, memory_of, too_much_of, address_after, end_after}
+use Rattle.link_program.specs.memory_layout.Steps.{AreRules, IsPages}
+use Rattle.link_program.specs.memory_layout.declared.rules.MemoryRules.{MemoryRules}
+use Rattle.link_program.specs.memory_layout.declared.rules.SegmentShape.{SegmentShape}
+use Rattle.link_program.specs.memory_layout.declared.rules.Places.{Places}
+use Rattle.link_program.specs.link_plan.declared.plan.Plan.{Plan}
+use Rattle.link_program.specs.link_plan.Plan.{IsPlan}
+use Rattle.link_program.specs.name_rules.Entries.{ImportKey}
+use Rattle.link_program.specs.link_rules.Program as rules
+use Rattle.link_program.specs.link_rules.Program.{same_chunk}
+use Rattle.link_program.specs.link_rules.Values.{rules_of, segments, solid_segments, shapes, shape_of, is_zero}
 use Rattle.link_program.specs.declared.program.Tables.{Tables}
 use Rattle.link_program.specs.Seen.{seen_part, told_part}
 use Rattle.link_program.specs.Program.{AreTables, ChunksDiffer}

@@ -6,20 +6,20 @@ use Rattle.std.proofs.lemmas.Bool.{and_parts, and_from}
 use Rattle.std.proofs.lemmas.List.{length-map, map-append}
 use Rattle.std.proofs.lemmas.List.Elements.{All-head, All-tail, All-cons, All-append}
 use Rattle.std.proofs.lemmas.Option.{slice_get-get_or, slice_get-map, get_or_from_slice_get}
-use Rattle.wl_base.specs.Choice.{given}
-use Rattle.made_symbols.specs.declared.mode.Mode.TheVariants.{Plain}
-use Rattle.mark_bits.specs.declared.chunk.Chunk.{Chunk}
-use Rattle.reloc_apply.specs.declared.window.Window.{Window}
-use Rattle.name_rules.specs.Entries.{Entry, ImportKey}
-use Rattle.link_rules.specs.Program as rules
-use Rattle.link_rules.specs.Program.{same_chunk, chunk_at}
-use Rattle.link_rules.specs.Keys as keys
-use Rattle.link_rules.specs.Keys.{outside, linker_function, stub, own, numbers, functions, function_imports_of, defined_functions, made_function_key, own_function_key, stub_names, is_function_at}
-use Rattle.link_rules.specs.Marks.{refs_of}
-use Rattle.link_rules.specs.Values as values
-use Rattle.link_rules.specs.Values.{segments, solid_segments, is_zero, windows}
-use Rattle.link_rules.specs.Output as output
-use Rattle.link_rules.specs.Output.{layout, source_windows}
+use Rattle.link_program.specs.wl_base.Choice.{given}
+use Rattle.link_program.specs.made_symbols.declared.mode.Mode.TheVariants.{Plain}
+use Rattle.link_program.specs.mark_bits.declared.chunk.Chunk.{Chunk}
+use Rattle.link_program.specs.reloc_apply.declared.window.Window.{Window}
+use Rattle.link_program.specs.name_rules.Entries.{Entry, ImportKey}
+use Rattle.link_program.specs.link_rules.Program as rules
+use Rattle.link_program.specs.link_rules.Program.{same_chunk, chunk_at}
+use Rattle.link_program.specs.link_rules.Keys as keys
+use Rattle.link_program.specs.link_rules.Keys.{outside, linker_function, stub, own, numbers, functions, function_imports_of, defined_functions, made_function_key, own_function_key, stub_names, is_function_at}
+use Rattle.link_program.specs.link_rules.Marks.{refs_of}
+use Rattle.link_program.specs.link_rules.Values as values
+use Rattle.link_program.specs.link_rules.Values.{segments, solid_segments, is_zero, windows}
+use Rattle.link_program.specs.link_rules.Output as output
+use Rattle.link_program.specs.link_rules.Output.{layout, source_windows}
 use Rattle.link_program.specs.declared.keys.FunctionKey.{FunctionKey}
 use Rattle.link_program.specs.Keys.{told_function}
 use Rattle.link_program.specs.Moved.{moved_window, moved_windows}

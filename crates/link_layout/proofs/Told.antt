@@ -1,11 +1,11 @@
 -- A layout with what the laws of numbers say of it.
 use Rattle.std.proofs.Common.{◌≡◌, ℕ, List}
 use Rattle.std.specs.List.{All}
-use Rattle.made_symbols.specs.declared.mode.Mode.TheVariants.{Plain}
-use Rattle.name_rules.specs.Entries.{Entry}
-use Rattle.link_rules.specs.Program as rules
-use Rattle.link_rules.specs.Marks.{refs_of}
-use Rattle.link_rules.specs.Keys.{numbers}
+use Rattle.link_program.specs.made_symbols.declared.mode.Mode.TheVariants.{Plain}
+use Rattle.link_program.specs.name_rules.Entries.{Entry}
+use Rattle.link_program.specs.link_rules.Program as rules
+use Rattle.link_program.specs.link_rules.Marks.{refs_of}
+use Rattle.link_program.specs.link_rules.Keys.{numbers}
 use Rattle.link_program.specs.declared.program.Program.{Program as Data}
 use Rattle.link_program.specs.Program.{IsProgram}
 use Rattle.link_program.specs.Stand.{PartsStand}

@@ -5,29 +5,29 @@ use Rattle.std.specs.List.{list_any, All, Contains}
 use Rattle.std.proofs.lemmas.List.Elements.{All-head, All-tail, All-cons, All-append, All-contains}
 use Rattle.std.proofs.lemmas.List.Quantifiers.{position-Some}
 use Rattle.std.proofs.lemmas.Option.{slice_get-get_or, slice_get-map, get_or_from_slice_get, slice_get_within}
-use Rattle.wasm_types.specs.declared.function.FuncType.{FuncType}
-use Rattle.wasm_types.specs.Same.{same_type}
-use Rattle.linking_section.specs.Flags.{kind_code}
-use Rattle.linking_section.specs.declared.symbol.SymbolKind.TheVariants.{Datum, GlobalVar}
-use Rattle.made_symbols.specs.declared.mode.Mode.TheVariants.{Plain}
-use Rattle.mark_bits.specs.declared.chunk.Chunk.{Chunk}
-use Rattle.index_layout.specs.Numbers.{number_by}
-use Rattle.reloc_apply.specs.declared.window.Window.{Window}
-use Rattle.reloc_apply.specs.declared.window.Form.TheVariants.{Unsigned5}
-use Rattle.name_rules.specs.Entries.{Entry, ImportKey, is_kind, name_of}
-use Rattle.name_rules.specs.Meanings.{Meaning, here, imported, null, nothing, is_nothing}
-use Rattle.name_entries.specs.View.{entry_number}
-use Rattle.object_file.specs.Spaces.{no_type}
-use Rattle.memory_layout.specs.Memory.{places}
-use Rattle.memory_layout.specs.declared.rules.Places.{Places}
-use Rattle.link_rules.specs.Program as rules
-use Rattle.link_rules.specs.Program.{Ref, TypeWindow, a_symbol, a_type, refs, named_ref, same_chunk, chunk_at}
-use Rattle.link_rules.specs.Marks.{refs_of}
-use Rattle.link_rules.specs.Keys as keys
-use Rattle.link_rules.specs.Keys.{outside, same_function, got_entry, got_import, got_null, is_null, ref_function, ref_global, numbers}
-use Rattle.link_rules.specs.Values as values
-use Rattle.link_rules.specs.Values.{rules_of, segments, shapes, segment_address, made_data, Asks, a_function, a_slot, an_address, a_global, a_table, asks, form_of, target_by, addend_by}
-use Rattle.link_rules.specs.Output.{layout}
+use Rattle.link_program.specs.wasm_types.declared.function.FuncType.{FuncType}
+use Rattle.link_program.specs.wasm_types.Same.{same_type}
+use Rattle.link_program.specs.linking_section.Flags.{kind_code}
+use Rattle.link_program.specs.linking_section.declared.symbol.SymbolKind.TheVariants.{Datum, GlobalVar}
+use Rattle.link_program.specs.made_symbols.declared.mode.Mode.TheVariants.{Plain}
+use Rattle.link_program.specs.mark_bits.declared.chunk.Chunk.{Chunk}
+use Rattle.link_program.specs.index_layout.Numbers.{number_by}
+use Rattle.link_program.specs.reloc_apply.declared.window.Window.{Window}
+use Rattle.link_program.specs.reloc_apply.declared.window.Form.TheVariants.{Unsigned5}
+use Rattle.link_program.specs.name_rules.Entries.{Entry, ImportKey, is_kind, name_of}
+use Rattle.link_program.specs.name_rules.Meanings.{Meaning, here, imported, null, nothing, is_nothing}
+use Rattle.link_program.specs.name_entries.View.{entry_number}
+use Rattle.link_program.specs.object_file.Spaces.{no_type}
+use Rattle.link_program.specs.memory_layout.Memory.{places}
+use Rattle.link_program.specs.memory_layout.declared.rules.Places.{Places}
+use Rattle.link_program.specs.link_rules.Program as rules
+use Rattle.link_program.specs.link_rules.Program.{Ref, TypeWindow, a_symbol, a_type, refs, named_ref, same_chunk, chunk_at}
+use Rattle.link_program.specs.link_rules.Marks.{refs_of}
+use Rattle.link_program.specs.link_rules.Keys as keys
+use Rattle.link_program.specs.link_rules.Keys.{outside, same_function, got_entry, got_import, got_null, is_null, ref_function, ref_global, numbers}
+use Rattle.link_program.specs.link_rules.Values as values
+use Rattle.link_program.specs.link_rules.Values.{rules_of, segments, shapes, segment_address, made_data, Asks, a_function, a_slot, an_address, a_global, a_table, asks, form_of, target_by, addend_by}
+use Rattle.link_program.specs.link_rules.Output.{layout}
 use Rattle.link_program.specs.declared.symbol.Symbol.{Symbol}
 use Rattle.link_program.specs.declared.named.Named.{Named}
 use Rattle.link_program.specs.declared.named.Named.TheVariants as items

@@ -1,9 +1,9 @@
 -- When the data are the layout of a program.
 use Rattle.std.specs.Prelude.{◌≡◌, ℕ, List, length, flat_map, Contains, All}
-use Rattle.made_symbols.specs.declared.mode.Mode.TheVariants.{Plain}
-use Rattle.name_rules.specs.Entries.{Entry}
-use Rattle.link_rules.specs.Program.{Program, Part, Named}
-use Rattle.link_rules.specs.Keys.{numbers}
+use Rattle.link_program.specs.made_symbols.declared.mode.Mode.TheVariants.{Plain}
+use Rattle.link_program.specs.name_rules.Entries.{Entry}
+use Rattle.link_program.specs.link_rules.Program.{Program, Part, Named}
+use Rattle.link_program.specs.link_rules.Keys.{numbers}
 use Rattle.link_program.specs.Program.{IsProgram}
 use Rattle.link_program.specs.Seen.{NamesOne}
 use Rattle.link_program.specs.Stand.{PartsStand}

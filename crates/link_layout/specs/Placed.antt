@@ -1,15 +1,15 @@
 -- When the data tell where the segments of a program stand.
 use Rattle.std.specs.Prelude.{◌≡◌, ℕ, Bool, false, not, List, map, replicate, position, slice_index_or, unwrap_or, Option, Some, None, Result, Ok, Err, ℤ, pos}
 use Rattle.std.specs.List.{list_any}
-use Rattle.wl_base.specs.declared.layout_error.LayoutError.{LayoutError}
-use Rattle.wl_base.specs.declared.layout_error.LayoutError.TheVariants.{Overflow, OutOfMemory}
-use Rattle.made_symbols.specs.declared.mode.Mode.TheVariants.{Plain}
-use Rattle.mark_bits.specs.declared.chunk.Chunk.{Chunk}
-use Rattle.memory_layout.specs.Memory.{Passed, places, memory_overflow, memory_of}
-use Rattle.memory_layout.specs.declared.rules.MemoryRules.{MemoryRules}
-use Rattle.memory_layout.specs.declared.rules.SegmentShape.{SegmentShape}
-use Rattle.link_rules.specs.Program.{Program, Part, same_chunk}
-use Rattle.link_rules.specs.Values.{rules_of, segments, solid_segments, shapes}
+use Rattle.link_program.specs.wl_base.declared.layout_error.LayoutError.{LayoutError}
+use Rattle.link_program.specs.wl_base.declared.layout_error.LayoutError.TheVariants.{Overflow, OutOfMemory}
+use Rattle.link_program.specs.made_symbols.declared.mode.Mode.TheVariants.{Plain}
+use Rattle.link_program.specs.mark_bits.declared.chunk.Chunk.{Chunk}
+use Rattle.link_program.specs.memory_layout.Memory.{Passed, places, memory_overflow, memory_of}
+use Rattle.link_program.specs.memory_layout.declared.rules.MemoryRules.{MemoryRules}
+use Rattle.link_program.specs.memory_layout.declared.rules.SegmentShape.{SegmentShape}
+use Rattle.link_program.specs.link_rules.Program.{Program, Part, same_chunk}
+use Rattle.link_program.specs.link_rules.Values.{rules_of, segments, solid_segments, shapes}
 use Rattle.link_layout.specs.declared.placing.Placed.{Placed}
 use Rattle.link_layout.specs.Segments.{set_each}
 

@@ -1,15 +1,15 @@
 -- What stands in windows, as the data show it.
 use Rattle.std.specs.Prelude.{ℕ, ◌+◌, ◌==◌, Bool, true, false, not, List, [], ◌∷◌, ◌++◌, map, filter, drop, length, position, slice_index_or, if◌then◌else◌, Option, Some, None, unwrap_or, ℤ, pos}
-use Rattle.wasm_types.specs.declared.function.FuncType.{FuncType}
-use Rattle.linking_section.specs.declared.symbol.SymbolKind.{SymbolKind}
-use Rattle.linking_section.specs.declared.symbol.SymbolKind.TheVariants.{Datum, GlobalVar}
-use Rattle.linking_section.specs.Flags.{kind_code}
-use Rattle.mark_bits.specs.declared.chunk.Chunk.{Chunk}
-use Rattle.index_layout.specs.Numbers.{number_by}
-use Rattle.reloc_apply.specs.declared.window.Form.TheVariants.{Unsigned5}
-use Rattle.reloc_apply.specs.declared.window.Window.{Window}
-use Rattle.link_rules.specs.Program.{chunk_at, same_chunk}
-use Rattle.link_rules.specs.Values.{Asks, a_function, a_slot, an_address, a_global, a_table, asks, form_of, made_data}
+use Rattle.link_program.specs.wasm_types.declared.function.FuncType.{FuncType}
+use Rattle.link_program.specs.linking_section.declared.symbol.SymbolKind.{SymbolKind}
+use Rattle.link_program.specs.linking_section.declared.symbol.SymbolKind.TheVariants.{Datum, GlobalVar}
+use Rattle.link_program.specs.linking_section.Flags.{kind_code}
+use Rattle.link_program.specs.mark_bits.declared.chunk.Chunk.{Chunk}
+use Rattle.link_program.specs.index_layout.Numbers.{number_by}
+use Rattle.link_program.specs.reloc_apply.declared.window.Form.TheVariants.{Unsigned5}
+use Rattle.link_program.specs.reloc_apply.declared.window.Window.{Window}
+use Rattle.link_program.specs.link_rules.Program.{chunk_at, same_chunk}
+use Rattle.link_program.specs.link_rules.Values.{Asks, a_function, a_slot, an_address, a_global, a_table, asks, form_of, made_data}
 use Rattle.link_program.specs.declared.symbol.Definition.{Definition}
 use Rattle.link_program.specs.declared.symbol.Symbol.{Symbol}
 use Rattle.link_program.specs.declared.symbol.Lead.{Lead}

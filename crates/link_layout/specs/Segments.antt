@@ -1,8 +1,8 @@
 -- The live data segments, as the data show them.
 use Rattle.std.specs.Prelude.{ℕ, ◌==◌, Bool, ◌&&◌, List, [], ◌∷◌, filter, length, slice_index_or, slice_set}
 use Rattle.std.specs.List.{list_all}
-use Rattle.memory_layout.specs.declared.rules.SegmentShape.{SegmentShape}
-use Rattle.image_emit.specs.Bytes.{file_part}
+use Rattle.link_program.specs.memory_layout.declared.rules.SegmentShape.{SegmentShape}
+use Rattle.link_program.specs.image_emit.Bytes.{file_part}
 use Rattle.link_program.specs.declared.named.Named.{Named}
 use Rattle.link_program.specs.declared.part.Content.{Content}
 use Rattle.link_program.specs.declared.part.Content.TheVariants as contents

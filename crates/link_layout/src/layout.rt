@@ -1,13 +1,13 @@
 //! What windows hold.
 ghost use Rattle.std.specs.Prelude.{◌≡◌, ◌<◌, ◌^◌, ℕ, length, slice_index_or, unwrap_or, All, IfOk};
-ghost use Rattle.made_symbols.specs.declared.mode.Mode.TheVariants.{Plain};
-ghost use Rattle.name_rules.specs.Entries.{Entry};
-ghost use Rattle.reloc_apply.specs.Windows.{IsSum};
-ghost use Rattle.link_rules.specs.Program as rules;
-ghost use Rattle.link_rules.specs.Keys as keys;
-ghost use Rattle.link_rules.specs.Values as values;
-ghost use Rattle.link_rules.specs.Values.{asks, form_of, made_data};
-ghost use Rattle.link_rules.specs.Output.{layout, source_windows};
+ghost use Rattle.link_program.specs.made_symbols.declared.mode.Mode.TheVariants.{Plain};
+ghost use Rattle.link_program.specs.name_rules.Entries.{Entry};
+ghost use Rattle.link_program.specs.reloc_apply.Windows.{IsSum};
+ghost use Rattle.link_program.specs.link_rules.Program as rules;
+ghost use Rattle.link_program.specs.link_rules.Keys as keys;
+ghost use Rattle.link_program.specs.link_rules.Values as values;
+ghost use Rattle.link_program.specs.link_rules.Values.{asks, form_of, made_data};
+ghost use Rattle.link_program.specs.link_rules.Output.{layout, source_windows};
 ghost use Rattle.link_program.specs.Told.{told_definition};
 ghost use Rattle.link_program.specs.Keys.{told_got};
 ghost use Rattle.link_program.specs.Seen.{seen_named, told_named, NamesOne, no_symbol};
@@ -21,13 +21,13 @@ use crate::Placed;
 use crate::keys::{function_meant, function_of, global_named};
 use crate::moved::all_windows;
 use link_numbers::{Numbering, keys_are_told};
+use link_program::linking_section::SymbolKind;
+use link_program::mark_bits::{Chunk, ChunkTable};
+use link_program::memory_layout::Places;
+use link_program::reloc_apply::{Form, Window};
+use link_program::wl_base::{OutOfMemory, Seq};
 use link_program::{Definition, FunctionKey, GotKey, Lead, Named, Program, Symbol};
-use linking_section::SymbolKind;
-use mark_bits::{Chunk, ChunkTable};
-use memory_layout::Places;
-use reloc_apply::{Form, Window};
 use std::alloc::Global;
-use wl_base::{OutOfMemory, Seq};
 
 /// A program with all numbers of its output and the places of its segments, by reference.
 #[derive(Clone, Copy)]

@@ -1,9 +1,9 @@
 //! Placing the live data segments.
 ghost use Rattle.std.specs.Prelude.{◌≡◌};
-ghost use Rattle.made_symbols.specs.declared.mode.Mode.TheVariants.{Plain};
-ghost use Rattle.memory_layout.specs.Steps.{AreRules, AreAligned};
-ghost use Rattle.link_plan.specs.Plan.{IsPlan};
-ghost use Rattle.link_rules.specs.Values.{rules_of};
+ghost use Rattle.link_program.specs.made_symbols.declared.mode.Mode.TheVariants.{Plain};
+ghost use Rattle.link_program.specs.memory_layout.Steps.{AreRules, AreAligned};
+ghost use Rattle.link_program.specs.link_plan.Plan.{IsPlan};
+ghost use Rattle.link_program.specs.link_rules.Values.{rules_of};
 ghost use Rattle.link_program.specs.Program.{IsProgram};
 ghost use Rattle.link_program.specs.Stand.{PartsStand};
 ghost use Rattle.link_program.specs.Live.{Stage, AreLive};
@@ -11,11 +11,11 @@ ghost use Rattle.link_layout.specs.Placed.{AnswersColumns, AnswersPlaced};
 
 use crate::columns::{address_column, solid_column};
 use crate::segments::{segment_numbers, shapes_of};
-use link_plan::Plan;
 use link_program::Program;
-use memory_layout::{MemoryRules, Places, SegmentShape, place};
+use link_program::link_plan::Plan;
+use link_program::memory_layout::{MemoryRules, Places, SegmentShape, place};
+use link_program::wl_base::{LayoutError, Seq};
 use std::alloc::Global;
-use wl_base::{LayoutError, Seq};
 
 /// Where the data segments stand.
 #[derive(Debug, Drop)]

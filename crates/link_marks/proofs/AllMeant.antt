@@ -4,12 +4,12 @@ use Rattle.std.specs.List.{AllByRecursion}
 use Rattle.std.proofs.lemmas.Bool.{and_from, false_from_ne_true}
 use Rattle.std.proofs.lemmas.List.Elements.{recursion_from_All, All-from_recursion}
 use Rattle.std.proofs.lemmas.Option.{none-some}
-use Rattle.wl_base.specs.Choice.{first_some}
-use Rattle.wl_base.specs.declared.fault.Fault.{Fault}
-use Rattle.name_rules.specs.Entries.{same_entry}
-use Rattle.name_rules.specs.Meanings.{Resolved, is_nothing}
-use Rattle.link_rules.specs.Program.{Program, Part, Ref, refs}
-use Rattle.link_rules.specs.Marks.{refs_of, all_symbols, is_open, unresolved}
+use Rattle.link_program.specs.wl_base.Choice.{first_some}
+use Rattle.link_program.specs.wl_base.declared.fault.Fault.{Fault}
+use Rattle.link_program.specs.name_rules.Entries.{same_entry}
+use Rattle.link_program.specs.name_rules.Meanings.{Resolved, is_nothing}
+use Rattle.link_program.specs.link_rules.Program.{Program, Part, Ref, refs}
+use Rattle.link_program.specs.link_rules.Marks.{refs_of, all_symbols, is_open, unresolved}
 use Rattle.link_program.specs.Stand.{PartStands, IsSymbolOf}
 use Rattle.link_marks.specs.Laws.{AllAreMeant}
 use Rattle.link_marks.proofs.Members.{In, in_at, in_any, in_flat, all_in, all_from, all_flat}

@@ -8,7 +8,7 @@ use Rattle.std.proofs.lemmas.List.Folds.{list_any-append}
 use Rattle.std.proofs.lemmas.List.Quantifiers.{position-Some}
 use Rattle.std.proofs.lemmas.Option.{slice_get-get_or, same_Some, none-some}
 use Rattle.std.proofs.lemmas.Slice.Eq.{bytes_eq-Decides}
-use Rattle.wl_base.specs.Names.{number_of}
+use Rattle.link_program.specs.wl_base.Names.{number_of}
 use Rattle.link_marks.specs.Asked.{IsAsked}
 
 -- the name of a number

@@ -2,14 +2,14 @@
 use Rattle.std.proofs.Common.{◌≡◌, ℕ, ◌+◌, Bool, true, false, cond, List, [], ◌∷◌, ◌++◌, map, filter, Option, Some, None, IsSome, refl, sym, subst, All, flat_map}
 use Rattle.std.specs.List.{AllByRecursion}
 use Rattle.std.proofs.lemmas.List.Elements.{filter-append, All-head, All-tail, All-from_recursion, All-filter}
-use Rattle.wl_base.specs.Names.{number_of}
-use Rattle.linking_section.specs.declared.symbol.Symbol.{Symbol}
-use Rattle.object_file.specs.declared.object.Object.{Object}
-use Rattle.made_symbols.specs.declared.mode.Mode.{Mode}
-use Rattle.made_symbols.specs.Made.{MadeSymbol, made}
-use Rattle.link_names.specs.Numbered.{Numbered, AreNumbers, Held, entry_names, is_entry_symbol, symbol_name}
-use Rattle.name_rules.specs.Entries.{Entry, name_of, is_entry, entries, entries_from, entry_in, symbols_of, made_from}
-use Rattle.link_rules.specs.Program.{winners_of, is_winner}
+use Rattle.link_program.specs.wl_base.Names.{number_of}
+use Rattle.link_program.specs.linking_section.declared.symbol.Symbol.{Symbol}
+use Rattle.link_program.specs.object_file.declared.object.Object.{Object}
+use Rattle.link_program.specs.made_symbols.declared.mode.Mode.{Mode}
+use Rattle.link_program.specs.made_symbols.Made.{MadeSymbol, made}
+use Rattle.link_program.specs.link_names.Numbered.{Numbered, AreNumbers, Held, entry_names, is_entry_symbol, symbol_name}
+use Rattle.link_program.specs.name_rules.Entries.{Entry, name_of, is_entry, entries, entries_from, entry_in, symbols_of, made_from}
+use Rattle.link_program.specs.link_rules.Program.{winners_of, is_winner}
 
 none : IsSome {T = ℕ} None → ⊥
 none h = cc

@@ -4,18 +4,18 @@ use Rattle.std.specs.List.{AllByRecursion, AllZip}
 use Rattle.std.proofs.lemmas.Bool.Decides.{nat_tests}
 use Rattle.std.proofs.lemmas.List.Elements.{recursion_from_All}
 use Rattle.std.proofs.lemmas.Option.{same_Some, none-some}
-use Rattle.wl_base.specs.Choice.{first_some, given}
-use Rattle.linking_section.specs.Flags.{is_explicit}
-use Rattle.linking_section.specs.declared.symbol.Symbol.{Symbol}
-use Rattle.object_file.specs.declared.object.Object.{Object}
-use Rattle.made_symbols.specs.declared.mode.Mode.TheVariants.{Plain}
-use Rattle.made_symbols.specs.Made.{made}
-use Rattle.name_rules.specs.Entries.{Entry, ImportKey, name_of, is_named, is_entry, named, entries, entries_from, entry_in, symbols_of, made_from}
-use Rattle.name_rules.specs.Meanings.{Meaning, here, imported, null, nothing, is_nothing, meaning, own_meaning, by_rules, least, lesser, entry_rank, least_import, references, where_given, may_import, may_be_null, Uses}
-use Rattle.name_rules.specs.declared.meaning.Meaning.{Meaning as Told}
-use Rattle.name_rules.specs.declared.meaning.Meaning.TheVariants as told
-use Rattle.name_meanings.specs.Means.{Means}
-use Rattle.name_entries.specs.View.{InputsRise}
+use Rattle.link_program.specs.wl_base.Choice.{first_some, given}
+use Rattle.link_program.specs.linking_section.Flags.{is_explicit}
+use Rattle.link_program.specs.linking_section.declared.symbol.Symbol.{Symbol}
+use Rattle.link_program.specs.object_file.declared.object.Object.{Object}
+use Rattle.link_program.specs.made_symbols.declared.mode.Mode.TheVariants.{Plain}
+use Rattle.link_program.specs.made_symbols.Made.{made}
+use Rattle.link_program.specs.name_rules.Entries.{Entry, ImportKey, name_of, is_named, is_entry, named, entries, entries_from, entry_in, symbols_of, made_from}
+use Rattle.link_program.specs.name_rules.Meanings.{Meaning, here, imported, null, nothing, is_nothing, meaning, own_meaning, by_rules, least, lesser, entry_rank, least_import, references, where_given, may_import, may_be_null, Uses}
+use Rattle.link_program.specs.name_rules.declared.meaning.Meaning.{Meaning as Told}
+use Rattle.link_program.specs.name_rules.declared.meaning.Meaning.TheVariants as told
+use Rattle.link_program.specs.name_meanings.Means.{Means}
+use Rattle.link_program.specs.name_entries.View.{InputsRise}
 use Rattle.name_unresolved.specs.Unresolved.{is_nothing as is_open_answer}
 use Rattle.link_marks.specs.Open.{symbol_name_at}
 use Rattle.link_marks.proofs.Places.{found_itself, from_one}

@@ -2,10 +2,10 @@
 use Rattle.std.proofs.Common.{◌≡◌, ◌==◌, ◌&&◌, ◌||◌, nat_le, Bool, true, false, cond, List, [], ◌∷◌, ◌++◌, map, filter, filter_map, flat_map, find, Option, Some, None, option_map, option_and_then, refl, sym, ap, ◌∙◌, arith, eq-eqb, eqb-true, inl, inr, ◌⊎◌}
 use Rattle.std.specs.List.{AllByRecursion}
 use Rattle.std.proofs.lemmas.Bool.{and_parts, and_from}
-use Rattle.name_rules.specs.Entries.{Entry, same_entry}
-use Rattle.name_rules.specs.Meanings.{is_nothing}
-use Rattle.link_rules.specs.Program.{Ref, InitCall, insert_call, by_priority}
-use Rattle.link_rules.specs.Marks.{is_open}
+use Rattle.link_program.specs.name_rules.Entries.{Entry, same_entry}
+use Rattle.link_program.specs.name_rules.Meanings.{is_nothing}
+use Rattle.link_program.specs.link_rules.Program.{Ref, InitCall, insert_call, by_priority}
+use Rattle.link_program.specs.link_rules.Marks.{is_open}
 use Rattle.name_unresolved.specs.Refers.{SymbolAt}
 use Rattle.name_unresolved.specs.Least.{is_before, lesser, least_by}
 use Rattle.link_marks.proofs.Members.{In, found_has}

@@ -4,12 +4,12 @@ use Rattle.std.specs.List.{range_with_len}
 use Rattle.std.proofs.lemmas.Bool.{cases_Bool}
 use Rattle.std.proofs.lemmas.List.Elements.{All-cons, All-nil}
 use Rattle.std.proofs.lemmas.List.Kept.{AllPairs-cons, AllPairs-filter}
-use Rattle.mark_bits.specs.Words.{times, bit_of}
-use Rattle.mark_bits.specs.Reach.{Reached}
+use Rattle.link_program.specs.mark_bits.Words.{times, bit_of}
+use Rattle.link_program.specs.mark_bits.Reach.{Reached}
 use Rattle.live_mark.specs.Live.{reached, is_among, ReachedLaw}
-use Rattle.name_rules.specs.Entries.{Entry}
-use Rattle.link_rules.specs.Program.{Program, Part}
-use Rattle.link_rules.specs.Marks.{picked, live, targets, root_places}
+use Rattle.link_program.specs.name_rules.Entries.{Entry}
+use Rattle.link_program.specs.link_rules.Program.{Program, Part}
+use Rattle.link_program.specs.link_rules.Marks.{picked, live, targets, root_places}
 use Rattle.link_marks.specs.Alive.{numbers_set, IsLive}
 use Rattle.link_marks.specs.declared.live.Live.{Live}
 

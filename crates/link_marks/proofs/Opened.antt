@@ -1,33 +1,33 @@
 -- What live parts leave open, by the data and by the definition.
 use Rattle.std.proofs.Common.{◌≡◌, ℕ, zero, suc, ◌+◌, ◌==◌, ◌&&◌, not, Bool, true, false, cond, List, [], ◌∷◌, ◌++◌, map, filter, filter_map, flat_map, find, slice_get, Option, Some, None, option_map, option_and_then, refl, sym, ap, ◌∙◌, subst, arith, ne_eqb, inl, inr, ◌⊎◌, ℤ, pos}
 use Rattle.std.specs.List.{AllByRecursion, AllZip}
-use Rattle.wl_base.specs.declared.fault.Fault.TheVariants.{Unresolved}
-use Rattle.linking_section.specs.declared.symbol.Symbol.{Symbol}
-use Rattle.linking_section.specs.declared.init.InitFunc.{InitFunc}
-use Rattle.linking_section.specs.Flags.{is_undefined}
-use Rattle.reloc_section.specs.declared.entry.Reloc.{Reloc}
-use Rattle.body_windows.specs.declared.operand.Operand.{Operand}
-use Rattle.body_windows.specs.declared.operand.Operand.TheVariants as operands
-use Rattle.object_parts.specs.declared.parts.GlobalDef.{GlobalDef}
-use Rattle.object_columns.specs.declared.functions.FunctionDef.{FunctionDef}
-use Rattle.object_columns.specs.declared.segments.SegmentDef.{SegmentDef}
-use Rattle.object_file.specs.declared.object.Object.{Object}
-use Rattle.made_symbols.specs.declared.mode.Mode.TheVariants.{Plain}
-use Rattle.made_symbols.specs.Made.{MadeSymbol, made}
-use Rattle.lib_rounds.specs.Rounds.{Candidate}
-use Rattle.mark_bits.specs.declared.chunk.Chunk.{Chunk}
-use Rattle.name_rules.specs.Entries.{Entry, ImportKey, name_of, entries, entry_in, symbols_of}
-use Rattle.name_rules.specs.Meanings.{Meaning, Resolved, is_nothing, meaning, resolved_in, uses_of}
-use Rattle.name_rules.specs.declared.meaning.Meaning.{Meaning as Told}
-use Rattle.name_meanings.specs.Means.{Means, row_of}
+use Rattle.link_program.specs.wl_base.declared.fault.Fault.TheVariants.{Unresolved}
+use Rattle.link_program.specs.linking_section.declared.symbol.Symbol.{Symbol}
+use Rattle.link_program.specs.linking_section.declared.init.InitFunc.{InitFunc}
+use Rattle.link_program.specs.linking_section.Flags.{is_undefined}
+use Rattle.link_program.specs.reloc_section.declared.entry.Reloc.{Reloc}
+use Rattle.link_program.specs.body_windows.declared.operand.Operand.{Operand}
+use Rattle.link_program.specs.body_windows.declared.operand.Operand.TheVariants as operands
+use Rattle.link_program.specs.object_parts.declared.parts.GlobalDef.{GlobalDef}
+use Rattle.link_program.specs.object_columns.declared.functions.FunctionDef.{FunctionDef}
+use Rattle.link_program.specs.object_columns.declared.segments.SegmentDef.{SegmentDef}
+use Rattle.link_program.specs.object_file.declared.object.Object.{Object}
+use Rattle.link_program.specs.made_symbols.declared.mode.Mode.TheVariants.{Plain}
+use Rattle.link_program.specs.made_symbols.Made.{MadeSymbol, made}
+use Rattle.link_program.specs.lib_rounds.Rounds.{Candidate}
+use Rattle.link_program.specs.mark_bits.declared.chunk.Chunk.{Chunk}
+use Rattle.link_program.specs.name_rules.Entries.{Entry, ImportKey, name_of, entries, entry_in, symbols_of}
+use Rattle.link_program.specs.name_rules.Meanings.{Meaning, Resolved, is_nothing, meaning, resolved_in, uses_of}
+use Rattle.link_program.specs.name_rules.declared.meaning.Meaning.{Meaning as Told}
+use Rattle.link_program.specs.name_meanings.Means.{Means, row_of}
 use Rattle.name_unresolved.specs.Refers as by_object
 use Rattle.name_unresolved.specs.Refers.{SymbolAt, symbol_named, is_undefined_one, open_inits}
 use Rattle.name_unresolved.specs.Least.{least_by}
 use Rattle.name_unresolved.specs.Unresolved.{is_open, is_nothing as open_answer}
-use Rattle.name_entries.specs.View.{InputsRise}
-use Rattle.link_rules.specs.Program.{Part, Ref, Named, a_symbol, named_ref, refs, ref_in, ref_to, operand_named, window_named, init_call, init_calls_in, init_calls, by_priority, is_skipped, InitCall, indexed, function_part, segment_part, global_part, parts_in, is_part_kept, parts_of, made_parts_from, made_kind, option_onto, linker_made, no_source}
-use Rattle.link_rules.specs.Marks as marks
-use Rattle.link_rules.specs.Marks.{refs_of, all_symbols}
+use Rattle.link_program.specs.name_entries.View.{InputsRise}
+use Rattle.link_program.specs.link_rules.Program.{Part, Ref, Named, a_symbol, named_ref, refs, ref_in, ref_to, operand_named, window_named, init_call, init_calls_in, init_calls, by_priority, is_skipped, InitCall, indexed, function_part, segment_part, global_part, parts_in, is_part_kept, parts_of, made_parts_from, made_kind, option_onto, linker_made, no_source}
+use Rattle.link_program.specs.link_rules.Marks as marks
+use Rattle.link_program.specs.link_rules.Marks.{refs_of, all_symbols}
 use Rattle.link_marks.specs.Open.{open_fault}
 use Rattle.link_marks.proofs.Members.{In, in_at, in_flat, all_in, all_from, all_both, all_map, all_flat, all_kept, all_filter_map, OfOption, found_has}
 use Rattle.link_marks.proofs.Leasts.{map_is, flat_map_is, filter_map_is, filter_is, least_agree, least_same, sorted_is, sorted_all, at, open_at, first_open}

@@ -9,14 +9,14 @@ use Rattle.std.proofs.lemmas.Option.{same_Some, none-some, slice_get_past}
 use Rattle.std.proofs.lemmas.Bool.{cases_lt, ltb-true}
 use Rattle.std.proofs.lemmas.List.Sums.{AllPass-from_list_all}
 use Rattle.std.specs.Cmp.Lexicographic.{nat_list_eq_equiv}
-use Rattle.wl_base.specs.Choice.{first_some}
-use Rattle.wl_base.specs.Names.{Names, number_of, interned, added, held_or}
-use Rattle.wl_base.specs.declared.name_table.NameFault.{NameFault}
-use Rattle.wl_base.specs.declared.name_table.NameFault.TheVariants.{TooMany}
-use Rattle.wl_base.specs.declared.fault.Fault.{Fault}
-use Rattle.wl_base.specs.declared.fault.Fault.TheVariants.{Duplicate}
-use Rattle.mark_bits.specs.Words.{bit_of}
-use Rattle.link_rules.specs.Marks.{Given, first_repeat}
+use Rattle.link_program.specs.wl_base.Choice.{first_some}
+use Rattle.link_program.specs.wl_base.Names.{Names, number_of, interned, added, held_or}
+use Rattle.link_program.specs.wl_base.declared.name_table.NameFault.{NameFault}
+use Rattle.link_program.specs.wl_base.declared.name_table.NameFault.TheVariants.{TooMany}
+use Rattle.link_program.specs.wl_base.declared.fault.Fault.{Fault}
+use Rattle.link_program.specs.wl_base.declared.fault.Fault.TheVariants.{Duplicate}
+use Rattle.link_program.specs.mark_bits.Words.{bit_of}
+use Rattle.link_program.specs.link_rules.Marks.{Given, first_repeat}
 use Rattle.link_program.specs.declared.symbol.Winner.{Winner}
 use Rattle.link_marks.specs.Alive.{numbers_set}
 use Rattle.link_marks.specs.Seen.{places_from}

@@ -5,17 +5,17 @@ use Rattle.std.proofs.lemmas.Bool.{cases_eq, ne_eqb}
 use Rattle.std.proofs.lemmas.List.Elements.{filter_map-append}
 use Rattle.std.proofs.lemmas.List.Quantifiers.{position-Some}
 use Rattle.std.proofs.lemmas.Option.{slice_get-map}
-use Rattle.linking_section.specs.declared.symbol.SymbolKind.{SymbolKind}
-use Rattle.linking_section.specs.declared.symbol.SymbolKind.TheVariants.{Function, Datum, GlobalVar, Section, Table}
-use Rattle.wasm_types.specs.declared.function.FuncType.{FuncType}
-use Rattle.mark_bits.specs.declared.chunk.Chunk.{Chunk}
-use Rattle.mark_bits.specs.Words.{times, Among}
+use Rattle.link_program.specs.linking_section.declared.symbol.SymbolKind.{SymbolKind}
+use Rattle.link_program.specs.linking_section.declared.symbol.SymbolKind.TheVariants.{Function, Datum, GlobalVar, Section, Table}
+use Rattle.link_program.specs.wasm_types.declared.function.FuncType.{FuncType}
+use Rattle.link_program.specs.mark_bits.declared.chunk.Chunk.{Chunk}
+use Rattle.link_program.specs.mark_bits.Words.{times, Among}
 use Rattle.live_mark.specs.Asks.{Below, AllBelow}
-use Rattle.name_rules.specs.Entries.{Entry, ImportKey}
-use Rattle.name_rules.specs.Meanings.{Meaning, here, imported, null, nothing}
-use Rattle.link_rules.specs.Program as rules
-use Rattle.link_rules.specs.Program.{a_symbol, a_type, named_ref, refs, meant_chunk, chunk_of, chunk_by, same_chunk, function, segment, global, linker_made}
-use Rattle.link_rules.specs.Marks.{table_of, places_in, refers, targets, roots, root_places, is_retained, is_object_part, is_no_strip_winner}
+use Rattle.link_program.specs.name_rules.Entries.{Entry, ImportKey}
+use Rattle.link_program.specs.name_rules.Meanings.{Meaning, here, imported, null, nothing}
+use Rattle.link_program.specs.link_rules.Program as rules
+use Rattle.link_program.specs.link_rules.Program.{a_symbol, a_type, named_ref, refs, meant_chunk, chunk_of, chunk_by, same_chunk, function, segment, global, linker_made}
+use Rattle.link_program.specs.link_rules.Marks.{table_of, places_in, refers, targets, roots, root_places, is_retained, is_object_part, is_no_strip_winner}
 use Rattle.link_program.specs.declared.symbol.Symbol.{Symbol}
 use Rattle.link_program.specs.declared.symbol.Winner.{Winner}
 use Rattle.link_program.specs.declared.named.Named.{Named}

@@ -4,23 +4,23 @@ use Rattle.std.specs.List.{AllByRecursion, AllZip, range_with_len, list_any}
 use Rattle.std.proofs.lemmas.Bool.{false_from_ne_true}
 use Rattle.std.proofs.lemmas.List.Elements.{recursion_from_All}
 use Rattle.std.proofs.lemmas.Option.{same_Some, none-some}
-use Rattle.wl_base.specs.Choice.{first_some, given}
-use Rattle.wl_base.specs.Names.{number_of}
-use Rattle.wl_base.specs.declared.fault.Fault.{Fault}
-use Rattle.wl_base.specs.declared.fault.Fault.TheVariants.{Unresolved}
-use Rattle.object_file.specs.declared.object.Object.{Object}
-use Rattle.made_symbols.specs.declared.mode.Mode.TheVariants.{Plain}
-use Rattle.mark_bits.specs.Words.{bit_of}
-use Rattle.name_rules.specs.Entries.{Entry, name_of, is_named, named, entries, symbols_of}
-use Rattle.name_rules.specs.Meanings.{Resolved, winner, least, lesser, definitions, entry_rank, resolve, resolved_in, uses_of}
-use Rattle.name_meanings.specs.Means.{Means, row_of}
-use Rattle.name_entries.specs.View.{WinnersAre}
+use Rattle.link_program.specs.wl_base.Choice.{first_some, given}
+use Rattle.link_program.specs.wl_base.Names.{number_of}
+use Rattle.link_program.specs.wl_base.declared.fault.Fault.{Fault}
+use Rattle.link_program.specs.wl_base.declared.fault.Fault.TheVariants.{Unresolved}
+use Rattle.link_program.specs.object_file.declared.object.Object.{Object}
+use Rattle.link_program.specs.made_symbols.declared.mode.Mode.TheVariants.{Plain}
+use Rattle.link_program.specs.mark_bits.Words.{bit_of}
+use Rattle.link_program.specs.name_rules.Entries.{Entry, name_of, is_named, named, entries, symbols_of}
+use Rattle.link_program.specs.name_rules.Meanings.{Resolved, winner, least, lesser, definitions, entry_rank, resolve, resolved_in, uses_of}
+use Rattle.link_program.specs.name_meanings.Means.{Means, row_of}
+use Rattle.link_program.specs.name_entries.View.{WinnersAre}
 use Rattle.name_unresolved.specs.Refers as by_object
 use Rattle.name_unresolved.specs.Least.{least_by}
 use Rattle.name_unresolved.specs.Unresolved.{is_open, live_from, first_unresolved_of}
-use Rattle.link_rules.specs.Program.{Program, Part, winners_of, is_winner, is_that, parts_of}
-use Rattle.link_rules.specs.Marks as marks
-use Rattle.link_rules.specs.Marks.{refs_of, all_symbols, demanded, missing, unresolved}
+use Rattle.link_program.specs.link_rules.Program.{Program, Part, winners_of, is_winner, is_that, parts_of}
+use Rattle.link_program.specs.link_rules.Marks as marks
+use Rattle.link_program.specs.link_rules.Marks.{refs_of, all_symbols, demanded, missing, unresolved}
 use Rattle.link_program.specs.declared.program.Program.{Program as Data}
 use Rattle.link_program.specs.Program.{IsProgram}
 use Rattle.link_marks.specs.declared.live.Live.{Live}

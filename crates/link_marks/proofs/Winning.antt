@@ -2,17 +2,17 @@
 use Rattle.std.proofs.Common.{◌≡◌, ℕ, ◌<◌, ◌==◌, Bool, true, false, not, ◌&&◌, ◌||◌, cond, List, [], ◌++◌, length, get_or, map, filter, find, Option, Some, None, unwrap_or, refl, sym, ap, ◌∙◌, subst, All, Contains, option_and_then, option_map}
 use Rattle.std.proofs.lemmas.List.Elements.{All-contains, All-map}
 use Rattle.std.proofs.lemmas.Option.{get_or_from_slice_get}
-use Rattle.wl_base.specs.Choice.{has_name}
-use Rattle.wl_base.specs.Names.{number_of}
-use Rattle.linking_section.specs.Flags.{has_bit}
-use Rattle.linking_section.specs.declared.symbol.SymbolKind.TheVariants.{Function}
-use Rattle.object_file.specs.declared.object.Object.{Object}
-use Rattle.made_symbols.specs.declared.mode.Mode.{Mode}
-use Rattle.made_symbols.specs.declared.mode.Mode.TheVariants.{Plain}
-use Rattle.name_rules.specs.Entries.{Entry, name_of, is_kind}
-use Rattle.name_rules.specs.Meanings.{Resolved, resolve, resolved_in, uses_of}
-use Rattle.link_rules.specs.Program.{Program, winners_of}
-use Rattle.link_rules.specs.Marks.{is_exported_by, exported, demanded, export_name, written_name, resolved_at, repeated_export, first_repeat}
+use Rattle.link_program.specs.wl_base.Choice.{has_name}
+use Rattle.link_program.specs.wl_base.Names.{number_of}
+use Rattle.link_program.specs.linking_section.Flags.{has_bit}
+use Rattle.link_program.specs.linking_section.declared.symbol.SymbolKind.TheVariants.{Function}
+use Rattle.link_program.specs.object_file.declared.object.Object.{Object}
+use Rattle.link_program.specs.made_symbols.declared.mode.Mode.{Mode}
+use Rattle.link_program.specs.made_symbols.declared.mode.Mode.TheVariants.{Plain}
+use Rattle.link_program.specs.name_rules.Entries.{Entry, name_of, is_kind}
+use Rattle.link_program.specs.name_rules.Meanings.{Resolved, resolve, resolved_in, uses_of}
+use Rattle.link_program.specs.link_rules.Program.{Program, winners_of}
+use Rattle.link_program.specs.link_rules.Marks.{is_exported_by, exported, demanded, export_name, written_name, resolved_at, repeated_export, first_repeat}
 use Rattle.link_program.specs.declared.program.Program.{Program as Data}
 use Rattle.link_program.specs.declared.symbol.Winner.{Winner}
 use Rattle.link_program.specs.Told.{told_winner, name_number}

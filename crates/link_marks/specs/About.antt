@@ -1,7 +1,7 @@
 -- What the calls are about, which the code never has.
 use Rattle.std.specs.Prelude.{List}
-use Rattle.name_rules.specs.Entries.{Entry}
-use Rattle.link_rules.specs.Program.{Program, Part}
+use Rattle.link_program.specs.name_rules.Entries.{Entry}
+use Rattle.link_program.specs.link_rules.Program.{Program, Part}
 
 -- a program and its exports
 pub record Exporting : Type 0 where

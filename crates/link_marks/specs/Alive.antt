@@ -1,8 +1,8 @@
 -- The live parts, as they are kept: a set, and their numbers.
 use Rattle.std.specs.Prelude.{◌≡◌, ℕ, ◌==◌, List, filter, length}
 use Rattle.std.specs.List.{range_with_len}
-use Rattle.mark_bits.specs.Words.{bit_of}
-use Rattle.link_rules.specs.Program.{Program, Part}
+use Rattle.link_program.specs.mark_bits.Words.{bit_of}
+use Rattle.link_program.specs.link_rules.Program.{Program, Part}
 use Rattle.link_program.specs.Live.{AreLive}
 use Rattle.link_marks.specs.declared.live.Live.{Live}
 

@@ -1,7 +1,7 @@
 -- What the caller needs of parts of which none is unresolved.
 use Rattle.std.specs.Prelude.{◌≡◌, ℕ, List, None}
-use Rattle.link_rules.specs.Program.{Program, Part}
-use Rattle.link_rules.specs.Marks.{unresolved}
+use Rattle.link_program.specs.link_rules.Program.{Program, Part}
+use Rattle.link_program.specs.link_rules.Marks.{unresolved}
 use Rattle.link_program.specs.Stand.{PartsStand}
 use Rattle.link_program.specs.Live.{AreLive, AllMeant}
 

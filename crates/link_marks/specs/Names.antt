@@ -1,11 +1,11 @@
 -- The names of exports, as the data tell them.
 use Rattle.std.specs.Prelude.{◌≡◌, ℕ, ◌==◌, Bool, List, ◌∷◌, map, find, slice_get, slice_index_or, [], if◌then◌else◌, Option, None, option_and_then, unwrap_or, Contains}
-use Rattle.linking_section.specs.declared.symbol.SymbolKind.TheVariants.{Function}
-use Rattle.linking_section.specs.Flags.{kind_code}
-use Rattle.object_columns.specs.declared.functions.FunctionDef.{FunctionDef}
-use Rattle.object_file.specs.declared.object.Object.{Object}
-use Rattle.name_rules.specs.Entries.{Entry}
-use Rattle.link_rules.specs.Marks.{Given, memory_name}
+use Rattle.link_program.specs.linking_section.declared.symbol.SymbolKind.TheVariants.{Function}
+use Rattle.link_program.specs.linking_section.Flags.{kind_code}
+use Rattle.link_program.specs.object_columns.declared.functions.FunctionDef.{FunctionDef}
+use Rattle.link_program.specs.object_file.declared.object.Object.{Object}
+use Rattle.link_program.specs.name_rules.Entries.{Entry}
+use Rattle.link_program.specs.link_rules.Marks.{Given, memory_name}
 use Rattle.link_program.specs.declared.symbol.Definition.{Definition}
 use Rattle.link_program.specs.declared.symbol.Winner.{Winner}
 use Rattle.link_program.specs.Told.{told_winner}

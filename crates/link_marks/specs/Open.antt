@@ -1,11 +1,11 @@
 -- What is unresolved, as the data tell it.
 use Rattle.std.specs.Prelude.{ℕ, ◌==◌, not, List, [], map, find, slice_get, slice_index_or, Option, None, option_map, option_and_then, unwrap_or, is_some}
-use Rattle.wl_base.specs.Choice.{given, first_some}
-use Rattle.wl_base.specs.Names.{number_of}
-use Rattle.wl_base.specs.declared.fault.Fault.{Fault}
-use Rattle.wl_base.specs.declared.fault.Fault.TheVariants.{Unresolved}
-use Rattle.linking_section.specs.declared.symbol.Symbol.{Symbol}
-use Rattle.object_file.specs.declared.object.Object.{Object}
+use Rattle.link_program.specs.wl_base.Choice.{given, first_some}
+use Rattle.link_program.specs.wl_base.Names.{number_of}
+use Rattle.link_program.specs.wl_base.declared.fault.Fault.{Fault}
+use Rattle.link_program.specs.wl_base.declared.fault.Fault.TheVariants.{Unresolved}
+use Rattle.link_program.specs.linking_section.declared.symbol.Symbol.{Symbol}
+use Rattle.link_program.specs.object_file.declared.object.Object.{Object}
 
 -- The rank of the winner of a name, by the name's number.
 abbrev pub rank_seen : List (List ℕ) → List (Option ℕ) → List ℕ → Option ℕ

@@ -1,10 +1,10 @@
 -- What the data tell of winners, symbols and parts when live parts are looked for.
 use Rattle.std.specs.Prelude.{ℕ, ◌+◌, ◌==◌, Bool, true, false, not, ◌&&◌, ◌||◌, List, [], ◌∷◌, ◌++◌, map, filter_map, position, slice_index_or, if◌then◌else◌, Option, Some, None, option_and_then}
-use Rattle.linking_section.specs.declared.symbol.SymbolKind.{SymbolKind}
-use Rattle.linking_section.specs.declared.symbol.SymbolKind.TheVariants as kinds
-use Rattle.linking_section.specs.Flags.{has_bit}
-use Rattle.mark_bits.specs.declared.chunk.Chunk.{Chunk}
-use Rattle.link_rules.specs.Program.{chunk_at, same_chunk}
+use Rattle.link_program.specs.linking_section.declared.symbol.SymbolKind.{SymbolKind}
+use Rattle.link_program.specs.linking_section.declared.symbol.SymbolKind.TheVariants as kinds
+use Rattle.link_program.specs.linking_section.Flags.{has_bit}
+use Rattle.link_program.specs.mark_bits.declared.chunk.Chunk.{Chunk}
+use Rattle.link_program.specs.link_rules.Program.{chunk_at, same_chunk}
 use Rattle.link_program.specs.declared.symbol.Definition.{Definition}
 use Rattle.link_program.specs.declared.symbol.Lead.{Lead}
 use Rattle.link_program.specs.declared.symbol.Lead.TheVariants as leads

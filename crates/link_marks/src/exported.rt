@@ -1,10 +1,10 @@
 //! What is exported, and by which names.
 ghost use Rattle.std.specs.Prelude.{◌≡◌, ◌<◌, filter, map, length, option_copied, Contains, IfOk};
-ghost use Rattle.made_symbols.specs.declared.mode.Mode.TheVariants.{Plain};
-ghost use Rattle.link_rules.specs.Program as rules;
-ghost use Rattle.link_rules.specs.Marks as marks;
-ghost use Rattle.name_rules.specs.Entries.{Entry};
-ghost use Rattle.name_entries.specs.View.{InputsRise};
+ghost use Rattle.link_program.specs.made_symbols.declared.mode.Mode.TheVariants.{Plain};
+ghost use Rattle.link_program.specs.link_rules.Program as rules;
+ghost use Rattle.link_program.specs.link_rules.Marks as marks;
+ghost use Rattle.link_program.specs.name_rules.Entries.{Entry};
+ghost use Rattle.link_program.specs.name_entries.View.{InputsRise};
 ghost use Rattle.link_program.specs.Told.{told_winner};
 ghost use Rattle.link_program.specs.Program.{IsProgram};
 ghost use Rattle.link_marks.specs.Seen.{is_export};
@@ -12,12 +12,12 @@ ghost use Rattle.link_marks.specs.Names.{own_name, name_seen, IsWinner};
 
 use crate::asked::asked_names;
 use crate::objects::object_of;
-use link_names::Names;
+use link_program::link_names::Names;
+use link_program::linking_section::{EXPORTED, HIDDEN, SymbolKind};
+use link_program::object_file::Object;
+use link_program::wl_base::{OutOfMemory, Seq};
 use link_program::{Definition, Program, Winner};
-use linking_section::{EXPORTED, HIDDEN, SymbolKind};
-use object_file::Object;
 use std::alloc::Global;
-use wl_base::{OutOfMemory, Seq};
 
 /// Whether a winner is exported.
 fn is_export(asked: &[bool], dynamic: bool, winner: &Winner) -> bool

@@ -1,7 +1,7 @@
 //! Which parts are live.
 ghost use Rattle.std.specs.Prelude.{◌≡◌, map, IfOk};
-ghost use Rattle.made_symbols.specs.declared.mode.Mode.TheVariants.{Plain};
-ghost use Rattle.link_rules.specs.Marks as marks;
+ghost use Rattle.link_program.specs.made_symbols.declared.mode.Mode.TheVariants.{Plain};
+ghost use Rattle.link_program.specs.link_rules.Marks as marks;
 ghost use Rattle.link_program.specs.Told.{told_winner};
 ghost use Rattle.link_program.specs.Program.{IsProgram};
 ghost use Rattle.link_marks.specs.Alive.{numbers_set, IsLive};
@@ -10,14 +10,14 @@ ghost use Rattle.link_marks.specs.About.{Exporting};
 use crate::edges::edges_of;
 use crate::numbers::push_if;
 use crate::roots::roots_of;
+use link_program::mark_bits::MarkSet;
+use link_program::wl_base::{OutOfMemory, Seq};
+use link_program::wl_fan::Workers;
+use link_program::wl_outside::Gate;
 use link_program::{Program, Winner};
 use live_mark::{live, reached_exactly};
-use mark_bits::MarkSet;
 use std::alloc::Global;
 use std::thread::Threads;
-use wl_base::{OutOfMemory, Seq};
-use wl_fan::Workers;
-use wl_outside::Gate;
 
 /// The live parts.
 #[derive(Drop)]

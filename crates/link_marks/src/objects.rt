@@ -1,10 +1,10 @@
 //! Objects by their inputs.
 ghost use Rattle.std.specs.Prelude.{◌≡◌, ◌==◌, option_copied, slice_get};
 ghost use Rattle.std.specs.List.{find};
-ghost use Rattle.name_entries.specs.View.{InputsRise};
+ghost use Rattle.link_program.specs.name_entries.View.{InputsRise};
 
-use object_file::Object;
-use wl_base::InputId;
+use link_program::object_file::Object;
+use link_program::wl_base::InputId;
 
 /// The object at a place.
 fn object_at(objects: &[Object], place: usize) -> Option<&Object>

@@ -1,12 +1,12 @@
 //! Which names stay unresolved.
 ghost use Rattle.std.specs.Prelude.{◌≡◌, option_to_list, length, IfOk};
-ghost use Rattle.made_symbols.specs.declared.mode.Mode.TheVariants.{Plain};
-ghost use Rattle.name_rules.specs.Entries.{entries};
-ghost use Rattle.name_rules.specs.Meanings.{resolve};
-ghost use Rattle.name_meanings.specs.Means.{IsResolution};
-ghost use Rattle.name_entries.specs.View.{InputsRise};
+ghost use Rattle.link_program.specs.made_symbols.declared.mode.Mode.TheVariants.{Plain};
+ghost use Rattle.link_program.specs.name_rules.Entries.{entries};
+ghost use Rattle.link_program.specs.name_rules.Meanings.{resolve};
+ghost use Rattle.link_program.specs.name_meanings.Means.{IsResolution};
+ghost use Rattle.link_program.specs.name_entries.View.{InputsRise};
 ghost use Rattle.name_unresolved.specs.Unresolved.{first_unresolved_of};
-ghost use Rattle.link_rules.specs.Marks as marks;
+ghost use Rattle.link_program.specs.link_rules.Marks as marks;
 ghost use Rattle.link_program.specs.Program.{IsProgram};
 ghost use Rattle.link_marks.specs.About.{Living};
 ghost use Rattle.link_marks.specs.Alive.{IsLive};
@@ -14,16 +14,16 @@ ghost use Rattle.link_marks.specs.Open.{missing_seen, first_missing, symbol_name
 
 use crate::live::Live;
 use crate::objects::object_of;
-use link_names::Names;
-use link_plan::Plan;
 use link_program::Program;
+use link_program::link_names::Names;
+use link_program::link_plan::Plan;
+use link_program::object_file::Object;
+use link_program::symbol_race::Winners;
+use link_program::wl_base::{Fault, InputId, Name, OutOfMemory, Seq};
 use name_unresolved::first_unresolved;
 use name_unresolved::laws::resolved_is_meant;
-use object_file::Object;
 use std::alloc::Global;
 use std::thread::Threads;
-use symbol_race::Winners;
-use wl_base::{Fault, InputId, Name, OutOfMemory, Seq};
 
 /// A name that has no winner.
 fn missing(

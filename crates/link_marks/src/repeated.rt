@@ -1,20 +1,20 @@
 //! Whether a name is exported twice.
 ghost use Rattle.std.specs.Prelude.{◌≡◌, ◌<◌, ◌++◌, ◌∷◌, [], List, Some, None, All, Contains, map, find, length, option_map, slice_get, bytes_eq, IfOk};
-ghost use Rattle.wl_base.specs.declared.fault.Fault.TheVariants.{Duplicate};
-ghost use Rattle.made_symbols.specs.declared.mode.Mode.TheVariants.{Plain};
-ghost use Rattle.name_entries.specs.View.{InputsRise};
-ghost use Rattle.link_rules.specs.Marks as marks;
+ghost use Rattle.link_program.specs.wl_base.declared.fault.Fault.TheVariants.{Duplicate};
+ghost use Rattle.link_program.specs.made_symbols.declared.mode.Mode.TheVariants.{Plain};
+ghost use Rattle.link_program.specs.name_entries.View.{InputsRise};
+ghost use Rattle.link_program.specs.link_rules.Marks as marks;
 ghost use Rattle.link_program.specs.Told.{told_winner};
 ghost use Rattle.link_program.specs.Program.{IsProgram};
 ghost use Rattle.link_marks.specs.About.{Exporting};
 ghost use Rattle.link_marks.specs.Names.{memory_given, given_seen, AreGiven};
 
 use crate::exported::name_seen;
-use link_names::Names;
+use link_program::link_names::Names;
+use link_program::object_file::Object;
+use link_program::wl_base::{Fault, InputId, NameTable, OutOfMemory, Seq};
 use link_program::{Program, Winner};
-use object_file::Object;
 use std::alloc::Global;
-use wl_base::{Fault, InputId, NameTable, OutOfMemory, Seq};
 
 /// The names that were given, and the input of what each names.
 #[derive(Drop)]

@@ -5,7 +5,7 @@ use Rattle.std.specs.List.{IsDistinct, list_any}
 use Rattle.std.specs.Cmp.Lexicographic.{nat_list_eq_equiv}
 use Rattle.std.proofs.lemmas.Map.Keys.{IsDistinct-push}
 use Rattle.std.proofs.lemmas.List.Elements.{All-nil, All-cons}
-use Rattle.wl_base.specs.Names.{number_of}
+use Rattle.object_file.specs.wl_base.Names.{number_of}
 use Rattle.link_names.specs.Interning.{more}
 use Rattle.link_names.proofs.More.{with_name, more_append, numbers_stay, new_last, not_held}
 

@@ -7,9 +7,9 @@ use Rattle.std.proofs.lemmas.Bool.Decides.{nat_tests}
 use Rattle.std.proofs.lemmas.List.Folds.{position_or_len_push}
 use Rattle.std.proofs.lemmas.List.Sums.{prefix_len-le-length}
 use Rattle.std.proofs.lemmas.Slice.Eq.{bytes_eq-Decides}
-use Rattle.wl_base.specs.Names.{Names, number_of, interned, held_or, Interns}
-use Rattle.wl_base.specs.declared.name_table.NameFault.{NameFault}
-use Rattle.wl_base.specs.declared.name_table.NameFault.TheVariants.{TooMany, OutOfMemory}
+use Rattle.object_file.specs.wl_base.Names.{Names, number_of, interned, held_or, Interns}
+use Rattle.object_file.specs.wl_base.declared.name_table.NameFault.{NameFault}
+use Rattle.object_file.specs.wl_base.declared.name_table.NameFault.TheVariants.{TooMany, OutOfMemory}
 use Rattle.link_names.specs.Interning.{more, Room, Takes, IsNumber}
 
 some_is : (x y : ℕ) → (let o : Option ℕ = Some x in o ≡ Some y) → x ≡ y

@@ -2,14 +2,14 @@
 use Rattle.std.proofs.Common.{◌≡◌, ℕ, ◌≤◌, ◌<◌, ◌+◌, List, [], ◌∷◌, ◌++◌, refl, sym, ap, ◌∙◌, arith, length, map, take, drop, get_or, subst, Result, Ok, Err, append-nil, take_all, zero, suc, None}
 use Rattle.std.specs.Prelude.{flat_map, IsErr, OnOk, slice_get, Some}
 use Rattle.std.proofs.lemmas.Option.{slice_get_within, get_or_from_slice_get, slice_get-get_or}
-use Rattle.wl_base.specs.declared.memory.OutOfMemory.{OutOfMemory}
+use Rattle.object_file.specs.wl_base.declared.memory.OutOfMemory.{OutOfMemory}
 use Rattle.std.specs.Result.{IsErrAnd}
 use Rattle.std.proofs.Math.Seq.{take-suc}
 use Rattle.std.proofs.lemmas.Grind.{flat_map-append}
 use Rattle.std.proofs.lemmas.List.{map-append, take-append-drop, length-map}
-use Rattle.wl_base.specs.Names.{Names}
-use Rattle.wl_base.specs.declared.name_table.NameFault.{NameFault}
-use Rattle.wl_base.specs.declared.name_table.NameFault.TheVariants as faults
+use Rattle.object_file.specs.wl_base.Names.{Names}
+use Rattle.object_file.specs.wl_base.declared.name_table.NameFault.{NameFault}
+use Rattle.object_file.specs.wl_base.declared.name_table.NameFault.TheVariants as faults
 use Rattle.link_names.specs.Interning.{more, Room, Gains, Takes, TellsAll, Tells, Keeps}
 use Rattle.link_names.proofs.More.{more_append, longer}
 

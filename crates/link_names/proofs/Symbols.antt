@@ -2,10 +2,10 @@
 use Rattle.std.proofs.Common.{◌≡◌, ℕ, ◌<◌, ◌==◌, List, [], length, true, false, sym, ap, ◌∙◌, Some, None, Result, Ok, Err, subst, arith}
 use Rattle.std.specs.Prelude.{if◌then◌else◌}
 use Rattle.std.proofs.lemmas.Bool.Decides.{nat_tests}
-use Rattle.linking_section.specs.declared.symbol.Symbol.{Symbol}
-use Rattle.wl_base.specs.Names.{Names, number_of}
-use Rattle.wl_base.specs.declared.name_table.NameFault.{NameFault}
-use Rattle.wl_base.specs.declared.name_table.NameFault.TheVariants.{TooMany, OutOfMemory}
+use Rattle.object_file.specs.linking_section.declared.symbol.Symbol.{Symbol}
+use Rattle.object_file.specs.wl_base.Names.{Names, number_of}
+use Rattle.object_file.specs.wl_base.declared.name_table.NameFault.{NameFault}
+use Rattle.object_file.specs.wl_base.declared.name_table.NameFault.TheVariants.{TooMany, OutOfMemory}
 use Rattle.link_names.specs.Numbered.{number_seen, symbol_number, is_entry_symbol, symbol_name}
 use Rattle.link_names.specs.Interning.{more, Room, Gains, Takes, Tells, IsNumber, one, entry_name}
 

@@ -5,14 +5,14 @@ use Rattle.std.specs.List.{IsDistinct}
 use Rattle.std.proofs.lemmas.List.{length-map}
 use Rattle.std.proofs.lemmas.List.Concat.{flat_map_single}
 use Rattle.std.proofs.lemmas.List.Elements.{All-weaker, All-map}
-use Rattle.wl_base.specs.Names.{Names, number_of}
+use Rattle.object_file.specs.wl_base.Names.{Names, number_of}
 use Rattle.object_file.specs.declared.object.Object.{Object}
 use Rattle.made_symbols.specs.declared.mode.Mode.{Mode}
 use Rattle.made_symbols.specs.Made.{made}
 use Rattle.std.specs.Prelude.{Result, Ok, Err, IsErr}
 use Rattle.std.specs.Result.{IsErrAnd}
-use Rattle.wl_base.specs.declared.name_table.NameFault.{NameFault}
-use Rattle.wl_base.specs.declared.name_table.NameFault.TheVariants.{TooMany, OutOfMemory}
+use Rattle.object_file.specs.wl_base.declared.name_table.NameFault.{NameFault}
+use Rattle.object_file.specs.wl_base.declared.name_table.NameFault.TheVariants.{TooMany, OutOfMemory}
 use Rattle.link_names.specs.Numbered as N
 use Rattle.link_names.specs.Numbered.{Numbers, AreNumbers, Held, Short, all_names, different_names, entry_names, group_names, symbol_name, is_entry_symbol, number_seen, numbers_seen}
 use Rattle.link_names.specs.Interning.{more, Gains, Takes, TellsAll, one, names_in, groups_in, made_name, made_number, symbols_numbered, groups_numbered}

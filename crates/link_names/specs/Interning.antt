@@ -1,12 +1,12 @@
 -- What a step of numbering names tells: the table gains these names, and the numbers are those of the names now and later.
 use Rattle.std.specs.Prelude.{◌≡◌, ℕ, ◌<◌, ◌≤◌, ◌^◌, List, [], ◌∷◌, map, flat_map, length, if◌then◌else◌, Option, Some, Result, Ok, Err, IsOk, bytes_eq}
-use Rattle.wl_base.specs.Choice.{distinct_onto}
-use Rattle.wl_base.specs.Names.{Names, number_of}
-use Rattle.wl_base.specs.declared.name_table.NameFault.{NameFault}
-use Rattle.wl_base.specs.declared.name_table.NameFault.TheVariants.{TooMany, OutOfMemory as WantOfMemory}
-use Rattle.wl_base.specs.declared.memory.OutOfMemory.{OutOfMemory}
-use Rattle.linking_section.specs.declared.symbol.Symbol.{Symbol}
-use Rattle.linking_section.specs.declared.group.Group.{Group}
+use Rattle.object_file.specs.wl_base.Choice.{distinct_onto}
+use Rattle.object_file.specs.wl_base.Names.{Names, number_of}
+use Rattle.object_file.specs.wl_base.declared.name_table.NameFault.{NameFault}
+use Rattle.object_file.specs.wl_base.declared.name_table.NameFault.TheVariants.{TooMany, OutOfMemory as WantOfMemory}
+use Rattle.object_file.specs.wl_base.declared.memory.OutOfMemory.{OutOfMemory}
+use Rattle.object_file.specs.linking_section.declared.symbol.Symbol.{Symbol}
+use Rattle.object_file.specs.linking_section.declared.group.Group.{Group}
 use Rattle.object_file.specs.declared.object.Object.{Object}
 use Rattle.made_symbols.specs.Made.{MadeSymbol}
 use Rattle.link_names.specs.Numbered.{is_entry_symbol, symbol_name, symbol_number}

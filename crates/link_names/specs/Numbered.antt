@@ -1,12 +1,12 @@
 -- The names of a link, each with a number: its place among the different names, in the order in which they come.
 use Rattle.std.specs.Prelude.{◌≡◌, ℕ, ◌<◌, ◌≤◌, ◌^◌, ◌==◌, Bool, not, ◌&&◌, List, [], ◌++◌, map, flat_map, filter, length, if◌then◌else◌, Option, Some, None, Result, Ok, Err, IsSome, All, is_some, unwrap_or, bytes_eq}
 use Rattle.std.specs.List.{IsDistinct}
-use Rattle.wl_base.specs.Choice.{distinct}
-use Rattle.wl_base.specs.Names.{number_of}
-use Rattle.wl_base.specs.declared.name_table.NameFault.{NameFault}
-use Rattle.wl_base.specs.declared.name_table.NameFault.TheVariants.{TooMany, OutOfMemory}
-use Rattle.linking_section.specs.declared.symbol.Symbol.{Symbol}
-use Rattle.linking_section.specs.Flags.{is_local_definition}
+use Rattle.object_file.specs.wl_base.Choice.{distinct}
+use Rattle.object_file.specs.wl_base.Names.{number_of}
+use Rattle.object_file.specs.wl_base.declared.name_table.NameFault.{NameFault}
+use Rattle.object_file.specs.wl_base.declared.name_table.NameFault.TheVariants.{TooMany, OutOfMemory}
+use Rattle.object_file.specs.linking_section.declared.symbol.Symbol.{Symbol}
+use Rattle.object_file.specs.linking_section.Flags.{is_local_definition}
 use Rattle.object_file.specs.declared.object.Object.{Object}
 use Rattle.made_symbols.specs.declared.mode.Mode.{Mode}
 use Rattle.made_symbols.specs.Made.{made}

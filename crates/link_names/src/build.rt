@@ -1,18 +1,18 @@
 //! How names are given numbers: each is looked up once.
 ghost use Rattle.std.specs.Prelude.{◌∷◌, [], Some, map, flat_map};
 ghost use Rattle.made_symbols.specs.Made.{made};
-ghost use Rattle.object_columns.specs.Seen.{symbol_seen};
+ghost use Rattle.object_file.specs.object_columns.Seen.{symbol_seen};
 ghost use Rattle.link_names.specs.Numbered.{number_seen, numbers_seen, symbol_number, Short, AllShort};
 ghost use Rattle.link_names.specs.Interning.{Room, Takes, Tells, TellsAll, IsNumber, Keeps, one, entry_name, names_in, made_name, made_number, group_name, group_number, groups_in, symbols_numbered, groups_numbered};
 
 use crate::names::NONE;
-use linking_section::Group;
 use made_symbols::Mode;
-use object_columns::{SymbolRef, Symbols};
 use object_file::Object;
+use object_file::linking_section::Group;
+use object_file::object_columns::{SymbolRef, Symbols};
+use object_file::wl_base::{Name, NameFault, NameTable, OutOfMemory};
+use object_file::wl_lists::Lists;
 use std::alloc::Global;
-use wl_base::{Name, NameFault, NameTable, OutOfMemory};
-use wl_lists::Lists;
 
 /// Gives a name its number.
 fn number(table: &mut NameTable, name: &[u8]) -> Result<u32, NameFault>

@@ -1,11 +1,11 @@
 use super::*;
-use linking_section::{Group, LOCAL, SymbolKind, UNDEFINED};
 use made_symbols::Mode;
-use object_columns::{FuncTypes, Functions, Imports, Segments, SymbolRef, Symbols};
 use object_file::Object;
+use object_file::linking_section::{Group, LOCAL, SymbolKind, UNDEFINED};
+use object_file::object_columns::{FuncTypes, Functions, Imports, Segments, SymbolRef, Symbols};
+use object_file::wl_base::{Name, NameFault, OutOfMemory, Seq};
 use std::alloc::Global;
 use std::test::Fail;
-use wl_base::{Name, NameFault, OutOfMemory, Seq};
 
 fn symbol(kind: SymbolKind, flags: u32, name: Option<&[u8]>) -> SymbolRef<'_> {
     SymbolRef {

@@ -1,17 +1,17 @@
 -- What a program that is told gives.
 use Rattle.std.proofs.Common.{◌≡◌, ℕ, ◌++◌, List, map, length, Option, Result, ap, sym, subst, ◌∙◌}
 use Rattle.std.proofs.lemmas.List.{length-map}
-use Rattle.object_file.specs.declared.object.Object.{Object}
-use Rattle.wl_base.specs.declared.layout_error.LayoutError.{LayoutError}
-use Rattle.made_symbols.specs.declared.mode.Mode.TheVariants.{Plain}
-use Rattle.name_rules.specs.Entries.{Entry}
-use Rattle.link_names.specs.Numbered.{Numbered as Names, symbol_number}
-use Rattle.name_entries.specs.declared.lookups.Entries.{Entries}
-use Rattle.name_entries.specs.Fits.{FitsObjects}
-use Rattle.table_layout.specs.Slots.{table_overflow}
-use Rattle.link_rules.specs.Program as rules
-use Rattle.link_rules.specs.LinkOf.{asked_names}
-use Rattle.link_rules.specs.Keys.{numbers}
+use Rattle.link_program.specs.object_file.declared.object.Object.{Object}
+use Rattle.link_program.specs.wl_base.declared.layout_error.LayoutError.{LayoutError}
+use Rattle.link_program.specs.made_symbols.declared.mode.Mode.TheVariants.{Plain}
+use Rattle.link_program.specs.name_rules.Entries.{Entry}
+use Rattle.link_program.specs.link_names.Numbered.{Numbered as Names, symbol_number}
+use Rattle.link_program.specs.name_entries.declared.lookups.Entries.{Entries}
+use Rattle.link_program.specs.name_entries.Fits.{FitsObjects}
+use Rattle.link_program.specs.table_layout.Slots.{table_overflow}
+use Rattle.link_program.specs.link_rules.Program as rules
+use Rattle.link_program.specs.link_rules.LinkOf.{asked_names}
+use Rattle.link_program.specs.link_rules.Keys.{numbers}
 use Rattle.link_program.specs.declared.program.Program.{Program}
 use Rattle.link_program.specs.declared.symbol.Winner.{Winner}
 use Rattle.link_program.specs.Told.{told_winner}

@@ -1,7 +1,7 @@
 -- Numbers of keys by their codes.
 use Rattle.std.proofs.Common.{◌≡◌, ℕ, ◌+◌, ◌<◌, ◌^◌, List, map, length, position, Option, Some, None, unwrap_or, refl, sym, ap, ◌∙◌, arith}
 use Rattle.std.proofs.lemmas.List.Quantifiers.{position-Some}
-use Rattle.index_layout.specs.Numbers.{number_by}
+use Rattle.link_program.specs.index_layout.Numbers.{number_by}
 use Rattle.link_program.specs.declared.keys.FunctionKey.{FunctionKey}
 use Rattle.link_program.specs.declared.keys.GlobalKey.{GlobalKey}
 use Rattle.link_program.specs.Keys.{same_function_key, same_global_key}

@@ -1,10 +1,10 @@
 -- The numbers are composed of what each step gives.
 use Rattle.std.proofs.Common.{◌≡◌, ℕ, List, map, length, replicate, Option, None, Result, ap, subst, ◌∙◌}
 use Rattle.std.specs.Prelude.{IfOk}
-use Rattle.wl_base.specs.declared.layout_error.LayoutError.{LayoutError}
-use Rattle.object_file.specs.declared.object.Object.{Object}
-use Rattle.name_rules.specs.Entries.{ImportKey}
-use Rattle.table_layout.specs.Slots.{table_overflow}
+use Rattle.link_program.specs.wl_base.declared.layout_error.LayoutError.{LayoutError}
+use Rattle.link_program.specs.object_file.declared.object.Object.{Object}
+use Rattle.link_program.specs.name_rules.Entries.{ImportKey}
+use Rattle.link_program.specs.table_layout.Slots.{table_overflow}
 use Rattle.link_program.specs.declared.symbol.Winner.{Winner}
 use Rattle.link_program.specs.declared.keys.FunctionKey.{FunctionKey}
 use Rattle.link_program.specs.declared.keys.GlobalKey.{GlobalKey}

@@ -8,8 +8,8 @@ use Rattle.std.proofs.lemmas.Bool.Decides.{nat_tests}
 use Rattle.std.proofs.lemmas.List.{map-append}
 use Rattle.std.proofs.Math.Seq.{take-length}
 use Rattle.std.proofs.lemmas.List.Elements.{filter-append}
-use Rattle.wl_base.specs.Choice.{distinct, distinct_onto}
-use Rattle.index_layout.specs.Numbers.{number_by}
+use Rattle.link_program.specs.wl_base.Choice.{distinct, distinct_onto}
+use Rattle.link_program.specs.index_layout.Numbers.{number_by}
 use Rattle.link_numbers.specs.Lists.{numbers_below}
 use Rattle.link_numbers.proofs.Positions.{position_next, position_first, position_stays, position_last, position_none, last_or_before, take_one}
 

@@ -9,12 +9,12 @@ use Rattle.std.proofs.lemmas.List.Folds.{find-append}
 use Rattle.std.proofs.lemmas.List.Quantifiers.{position-Some}
 use Rattle.std.proofs.lemmas.List.{length-replicate}
 use Rattle.std.proofs.lemmas.Option.{slice_get-map, get_or_from_slice_get, slice_get_within}
-use Rattle.wl_base.specs.Names.{number_of}
-use Rattle.linking_section.specs.declared.symbol.Symbol.{Symbol}
-use Rattle.object_file.specs.declared.object.Object.{Object}
-use Rattle.name_rules.specs.Entries.{Entry, is_entry, is_named, name_of, symbols_of, entries_from, entry_in}
-use Rattle.name_entries.specs.View.{rows_of, entry_at, entry_number}
-use Rattle.link_names.specs.Numbered.{is_entry_symbol, symbol_number}
+use Rattle.link_program.specs.wl_base.Names.{number_of}
+use Rattle.link_program.specs.linking_section.declared.symbol.Symbol.{Symbol}
+use Rattle.link_program.specs.object_file.declared.object.Object.{Object}
+use Rattle.link_program.specs.name_rules.Entries.{Entry, is_entry, is_named, name_of, symbols_of, entries_from, entry_in}
+use Rattle.link_program.specs.name_entries.View.{rows_of, entry_at, entry_number}
+use Rattle.link_program.specs.link_names.Numbered.{is_entry_symbol, symbol_number}
 use Rattle.link_numbers.specs.declared.firsts.At.{At}
 use Rattle.link_numbers.specs.Firsts.{first_kept, first_at, firsts_row, firsts_rows}
 use Rattle.link_numbers.proofs.Equals.{OnePlace, Holds, holds_at, stands, same_number, same_sym, position_held, none_past}

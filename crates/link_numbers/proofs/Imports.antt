@@ -2,10 +2,10 @@
 use Rattle.std.proofs.Common.{◌≡◌, ℕ, Bool, true, false, ◌&&◌, ◌∙◌, List, refl, ap, sym}
 use Rattle.std.specs.Prelude.{bytes_eq}
 use Rattle.std.proofs.lemmas.Slice.Eq.{bytes_eq-Decides}
-use Rattle.wasm_types.specs.declared.function.FuncType.{FuncType}
-use Rattle.wasm_types.specs.Same.{same_type}
-use Rattle.wasm_types.specs.SameLaws.{same_type_is, same_global_type_is}
-use Rattle.name_rules.specs.Entries.{SymbolType, of_function, of_global, untyped, ImportKey, same_symbol_type, same_import}
+use Rattle.link_program.specs.wasm_types.declared.function.FuncType.{FuncType}
+use Rattle.link_program.specs.wasm_types.Same.{same_type}
+use Rattle.link_program.specs.wasm_types.SameLaws.{same_type_is, same_global_type_is}
+use Rattle.link_program.specs.name_rules.Entries.{SymbolType, of_function, of_global, untyped, ImportKey, same_symbol_type, same_import}
 
 pub both : (p q : Bool) → p && q ≡ true → (p ≡ true) × (q ≡ true)
 both true q e = (refl, e)

@@ -3,14 +3,14 @@ use Rattle.std.proofs.Common.{◌≡◌, ℕ, zero, suc, ◌+◌, ◌<◌, ◌�
 use Rattle.std.specs.Prelude.{if◌then◌else◌, slice_index_or}
 use Rattle.std.specs.List.{list_any, All}
 use Rattle.std.proofs.lemmas.Option.{slice_get_within, slice_get_past}
-use Rattle.index_layout.specs.Numbers.{number_by}
-use Rattle.made_symbols.specs.declared.mode.Mode.TheVariants.{Plain}
-use Rattle.name_rules.specs.Entries.{Entry, ImportKey, same_import}
-use Rattle.name_rules.specs.Meanings.{Meaning, here, imported, null, nothing}
-use Rattle.link_rules.specs.Program as rules
-use Rattle.link_rules.specs.Program.{Ref}
-use Rattle.link_rules.specs.Marks.{refs_of}
-use Rattle.link_rules.specs.Keys.{import_of, has_import, used_imports, imports_by, is_function_type, is_global_type}
+use Rattle.link_program.specs.index_layout.Numbers.{number_by}
+use Rattle.link_program.specs.made_symbols.declared.mode.Mode.TheVariants.{Plain}
+use Rattle.link_program.specs.name_rules.Entries.{Entry, ImportKey, same_import}
+use Rattle.link_program.specs.name_rules.Meanings.{Meaning, here, imported, null, nothing}
+use Rattle.link_program.specs.link_rules.Program as rules
+use Rattle.link_program.specs.link_rules.Program.{Ref}
+use Rattle.link_program.specs.link_rules.Marks.{refs_of}
+use Rattle.link_program.specs.link_rules.Keys.{import_of, has_import, used_imports, imports_by, is_function_type, is_global_type}
 use Rattle.link_program.specs.Told.{told_lead}
 use Rattle.link_numbers.specs.LiveRefs.{LiveRef}
 use Rattle.link_numbers.specs.Noted.{import_named, flagged, is_at}

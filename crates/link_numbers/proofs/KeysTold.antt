@@ -5,19 +5,19 @@ use Rattle.std.specs.List.{list_any, All, cons_option}
 use Rattle.std.proofs.lemmas.Bool.Decides.{nat_tests}
 use Rattle.std.proofs.lemmas.List.{map-append}
 use Rattle.std.proofs.lemmas.List.Elements.{All-head, All-tail, All-cons, All-append, filter_map-append, filter-append}
-use Rattle.wl_base.specs.Choice.{distinct, given}
-use Rattle.index_layout.specs.Numbers.{number_by}
-use Rattle.linking_section.specs.declared.symbol.SymbolKind.TheVariants.{Function, Datum, GlobalVar}
-use Rattle.linking_section.specs.Flags.{kind_code}
-use Rattle.mark_bits.specs.declared.chunk.Chunk.{Chunk}
-use Rattle.made_symbols.specs.declared.mode.Mode.TheVariants.{Plain}
-use Rattle.name_rules.specs.Entries.{Entry, ImportKey, same_import, is_kind, name_of}
-use Rattle.name_rules.specs.Meanings.{Meaning, here, imported, null, nothing}
-use Rattle.link_rules.specs.Program as rules
-use Rattle.link_rules.specs.Program.{Ref, refs}
-use Rattle.link_rules.specs.Marks.{refs_of, reads_cell}
-use Rattle.link_rules.specs.Keys as keys
-use Rattle.link_rules.specs.Keys.{outside, linker_function, stub, own, same_function, got_entry, got_import, got_null, same_got, outside_global, linker_global, own_global, got, exported_datum, function_of, meant_function, ref_function, got_of, ref_got, is_null, takes_slot, is_taken, made_function_key, own_function_key, made_global_key, own_global_key, got_entries, parts_of_kind, needs_got, datum_key}
+use Rattle.link_program.specs.wl_base.Choice.{distinct, given}
+use Rattle.link_program.specs.index_layout.Numbers.{number_by}
+use Rattle.link_program.specs.linking_section.declared.symbol.SymbolKind.TheVariants.{Function, Datum, GlobalVar}
+use Rattle.link_program.specs.linking_section.Flags.{kind_code}
+use Rattle.link_program.specs.mark_bits.declared.chunk.Chunk.{Chunk}
+use Rattle.link_program.specs.made_symbols.declared.mode.Mode.TheVariants.{Plain}
+use Rattle.link_program.specs.name_rules.Entries.{Entry, ImportKey, same_import, is_kind, name_of}
+use Rattle.link_program.specs.name_rules.Meanings.{Meaning, here, imported, null, nothing}
+use Rattle.link_program.specs.link_rules.Program as rules
+use Rattle.link_program.specs.link_rules.Program.{Ref, refs}
+use Rattle.link_program.specs.link_rules.Marks.{refs_of, reads_cell}
+use Rattle.link_program.specs.link_rules.Keys as keys
+use Rattle.link_program.specs.link_rules.Keys.{outside, linker_function, stub, own, same_function, got_entry, got_import, got_null, same_got, outside_global, linker_global, own_global, got, exported_datum, function_of, meant_function, ref_function, got_of, ref_got, is_null, takes_slot, is_taken, made_function_key, own_function_key, made_global_key, own_global_key, got_entries, parts_of_kind, needs_got, datum_key}
 use Rattle.link_program.specs.declared.symbol.Winner.{Winner}
 use Rattle.link_program.specs.declared.keys.FunctionKey.{FunctionKey}
 use Rattle.link_program.specs.declared.keys.FunctionKey.TheVariants as functions

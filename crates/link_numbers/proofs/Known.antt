@@ -5,16 +5,16 @@ use Rattle.std.specs.List.{list_any, All}
 use Rattle.std.proofs.lemmas.List.Elements.{All-append}
 use Rattle.std.proofs.lemmas.List.Folds.{list_any-append}
 use Rattle.std.proofs.lemmas.Option.{slice_get-map}
-use Rattle.wl_base.specs.Choice.{distinct, first_some}
-use Rattle.object_file.specs.declared.object.Object.{Object}
-use Rattle.made_symbols.specs.declared.mode.Mode.TheVariants.{Plain}
-use Rattle.made_symbols.specs.Made.{made, MadeSymbol}
-use Rattle.name_rules.specs.Entries.{Entry, ImportKey, same_import, is_entry, name_of, symbols_of, entries, is_named, made_entry, made_from}
-use Rattle.name_rules.specs.Meanings.{Meaning, here, imported, null, nothing, Resolved, resolve, resolved_in, no_uses, meaning, own_meaning, by_rules, least, lesser, entry_rank, is_nothing}
-use Rattle.link_rules.specs.Program as rules
-use Rattle.link_rules.specs.Program.{Ref, refs}
-use Rattle.link_rules.specs.Marks.{refs_of}
-use Rattle.link_rules.specs.Keys.{import_of, imports_in_order}
+use Rattle.link_program.specs.wl_base.Choice.{distinct, first_some}
+use Rattle.link_program.specs.object_file.declared.object.Object.{Object}
+use Rattle.link_program.specs.made_symbols.declared.mode.Mode.TheVariants.{Plain}
+use Rattle.link_program.specs.made_symbols.Made.{made, MadeSymbol}
+use Rattle.link_program.specs.name_rules.Entries.{Entry, ImportKey, same_import, is_entry, name_of, symbols_of, entries, is_named, made_entry, made_from}
+use Rattle.link_program.specs.name_rules.Meanings.{Meaning, here, imported, null, nothing, Resolved, resolve, resolved_in, no_uses, meaning, own_meaning, by_rules, least, lesser, entry_rank, is_nothing}
+use Rattle.link_program.specs.link_rules.Program as rules
+use Rattle.link_program.specs.link_rules.Program.{Ref, refs}
+use Rattle.link_program.specs.link_rules.Marks.{refs_of}
+use Rattle.link_program.specs.link_rules.Keys.{import_of, imports_in_order}
 use Rattle.link_program.specs.Stand.{IsSymbolOf, PartStands, PartsStand}
 use Rattle.link_program.specs.Live.{AllMeant}
 use Rattle.link_numbers.proofs.Any.{any_at, any_left, any_right, any_map, any_flat_map, any_filter, any_filter_map, option_any, all_at}

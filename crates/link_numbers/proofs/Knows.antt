@@ -3,15 +3,15 @@ use Rattle.std.proofs.Common.{◌≡◌, ℕ, nat_eq, ◌==◌, Bool, true, fals
 use Rattle.std.specs.Prelude.{bytes_eq, if◌then◌else◌, position}
 use Rattle.std.specs.List.{list_any, All}
 use Rattle.std.proofs.lemmas.Bool.Decides.{nat_tests}
-use Rattle.wl_base.specs.Names.{number_of}
-use Rattle.index_layout.specs.Numbers.{number_by}
-use Rattle.linking_section.specs.Flags.{kind_code}
-use Rattle.name_rules.specs.Entries.{Entry, ImportKey, same_import, name_of}
-use Rattle.name_rules.specs.Meanings.{Meaning, here, imported, null, nothing}
-use Rattle.made_symbols.specs.declared.mode.Mode.TheVariants.{Plain}
-use Rattle.link_rules.specs.Program.{Ref}
-use Rattle.link_rules.specs.Keys as rules
-use Rattle.link_rules.specs.Keys.{outside, linker_function, stub, own, same_function, got_entry, got_import, got_null, same_got, outside_global, linker_global, own_global, got, exported_datum, same_global, function_of, meant_function, ref_function, global_of, got_of, ref_got, meant_global, ref_global}
+use Rattle.link_program.specs.wl_base.Names.{number_of}
+use Rattle.link_program.specs.index_layout.Numbers.{number_by}
+use Rattle.link_program.specs.linking_section.Flags.{kind_code}
+use Rattle.link_program.specs.name_rules.Entries.{Entry, ImportKey, same_import, name_of}
+use Rattle.link_program.specs.name_rules.Meanings.{Meaning, here, imported, null, nothing}
+use Rattle.link_program.specs.made_symbols.declared.mode.Mode.TheVariants.{Plain}
+use Rattle.link_program.specs.link_rules.Program.{Ref}
+use Rattle.link_program.specs.link_rules.Keys as rules
+use Rattle.link_program.specs.link_rules.Keys.{outside, linker_function, stub, own, same_function, got_entry, got_import, got_null, same_got, outside_global, linker_global, own_global, got, exported_datum, same_global, function_of, meant_function, ref_function, global_of, got_of, ref_got, meant_global, ref_global}
 use Rattle.link_program.specs.declared.keys.FunctionKey.{FunctionKey}
 use Rattle.link_program.specs.declared.keys.FunctionKey.TheVariants as functions
 use Rattle.link_program.specs.declared.symbol.Definition.{Definition}

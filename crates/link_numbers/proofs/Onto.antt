@@ -3,8 +3,8 @@ use Rattle.std.proofs.Common.{◌≡◌, ℕ, Bool, true, false, ◌||◌, List,
 use Rattle.std.specs.Prelude.{if◌then◌else◌}
 use Rattle.std.specs.List.{list_any}
 use Rattle.std.proofs.lemmas.List.Folds.{list_any-append}
-use Rattle.wl_base.specs.Choice.{distinct, distinct_onto}
-use Rattle.index_layout.specs.Numbers.{number_by}
+use Rattle.link_program.specs.wl_base.Choice.{distinct, distinct_onto}
+use Rattle.link_program.specs.index_layout.Numbers.{number_by}
 use Rattle.link_numbers.proofs.Positions.{position_stays}
 use Rattle.link_numbers.proofs.Equals.{Holds, holds_onto, stands, number_is}
 

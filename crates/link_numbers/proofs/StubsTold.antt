@@ -5,21 +5,21 @@ use Rattle.std.specs.List.{list_any, All}
 use Rattle.std.proofs.lemmas.List.{map-append}
 use Rattle.std.proofs.lemmas.List.Elements.{All-head, All-tail, filter-append}
 use Rattle.std.proofs.lemmas.Option.{slice_get_within}
-use Rattle.wl_base.specs.Names.{number_of}
-use Rattle.wl_base.specs.Choice.{distinct}
-use Rattle.linking_section.specs.declared.symbol.Symbol.{Symbol}
-use Rattle.object_file.specs.declared.object.Object.{Object}
-use Rattle.made_symbols.specs.declared.mode.Mode.TheVariants.{Plain}
-use Rattle.made_symbols.specs.Made.{made, MadeSymbol}
-use Rattle.index_layout.specs.Numbers.{number_by}
-use Rattle.name_rules.specs.Entries.{Entry, ImportKey, is_entry, name_of, symbols_of, entries, entries_from, entry_in, is_named, made_from}
-use Rattle.name_rules.specs.Meanings.{Meaning, here, imported, null, nothing}
-use Rattle.name_entries.specs.View.{entry_number}
-use Rattle.link_names.specs.Numbered.{is_entry_symbol, symbol_name, entry_names, group_names, all_names, different_names}
-use Rattle.link_rules.specs.Program as rules
-use Rattle.link_rules.specs.Program.{Ref}
-use Rattle.link_rules.specs.Marks.{refs_of}
-use Rattle.link_rules.specs.Keys.{is_null, calls_stub}
+use Rattle.link_program.specs.wl_base.Names.{number_of}
+use Rattle.link_program.specs.wl_base.Choice.{distinct}
+use Rattle.link_program.specs.linking_section.declared.symbol.Symbol.{Symbol}
+use Rattle.link_program.specs.object_file.declared.object.Object.{Object}
+use Rattle.link_program.specs.made_symbols.declared.mode.Mode.TheVariants.{Plain}
+use Rattle.link_program.specs.made_symbols.Made.{made, MadeSymbol}
+use Rattle.link_program.specs.index_layout.Numbers.{number_by}
+use Rattle.link_program.specs.name_rules.Entries.{Entry, ImportKey, is_entry, name_of, symbols_of, entries, entries_from, entry_in, is_named, made_from}
+use Rattle.link_program.specs.name_rules.Meanings.{Meaning, here, imported, null, nothing}
+use Rattle.link_program.specs.name_entries.View.{entry_number}
+use Rattle.link_program.specs.link_names.Numbered.{is_entry_symbol, symbol_name, entry_names, group_names, all_names, different_names}
+use Rattle.link_program.specs.link_rules.Program as rules
+use Rattle.link_program.specs.link_rules.Program.{Ref}
+use Rattle.link_program.specs.link_rules.Marks.{refs_of}
+use Rattle.link_program.specs.link_rules.Keys.{is_null, calls_stub}
 use Rattle.link_program.specs.Told.{told_lead}
 use Rattle.link_numbers.specs.Noted.{is_null_lead, where_so, flagged, is_at}
 use Rattle.link_numbers.specs.Lists.{numbers_below, flag_at, stubs_listed}

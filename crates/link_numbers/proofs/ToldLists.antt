@@ -4,8 +4,8 @@ use Rattle.std.specs.Prelude.{if◌then◌else◌}
 use Rattle.std.specs.List.{list_any, All}
 use Rattle.std.proofs.lemmas.List.{map-append}
 use Rattle.std.proofs.lemmas.List.Elements.{All-head, All-tail, All-cons, All-append}
-use Rattle.wl_base.specs.Choice.{distinct, distinct_onto}
-use Rattle.index_layout.specs.Numbers.{number_by}
+use Rattle.link_program.specs.wl_base.Choice.{distinct, distinct_onto}
+use Rattle.link_program.specs.index_layout.Numbers.{number_by}
 use Rattle.link_numbers.proofs.Positions.{number_of_map}
 
 module _ {A B : Type 0} (f : A → B) (same : A → A → Bool) (told : B → B → Bool) (K : A → Type 0) (tells : (a b : A) → K a → K b → told (f a) (f b) ≡ same a b) where

@@ -7,11 +7,11 @@ use Rattle.std.proofs.Math.Seq.{take-length}
 use Rattle.std.proofs.lemmas.List.{map-append, take_more, take-append-le}
 use Rattle.std.proofs.lemmas.List.Sums.{fold-append}
 use Rattle.std.proofs.lemmas.Option.{slice_get_within}
-use Rattle.wl_base.specs.Choice.{distinct, distinct_onto}
-use Rattle.wasm_types.specs.declared.function.FuncType.{FuncType}
-use Rattle.wasm_types.specs.Same.{same_type}
-use Rattle.type_merge.specs.Types.{merged, with_type, type_number}
-use Rattle.index_layout.specs.Numbers.{number_by}
+use Rattle.link_program.specs.wl_base.Choice.{distinct, distinct_onto}
+use Rattle.link_program.specs.wasm_types.declared.function.FuncType.{FuncType}
+use Rattle.link_program.specs.wasm_types.Same.{same_type}
+use Rattle.link_program.specs.type_merge.Types.{merged, with_type, type_number}
+use Rattle.link_program.specs.index_layout.Numbers.{number_by}
 use Rattle.link_numbers.specs.Types.{TypeLists, type_at, type_number_in, with_numbered, window_type, with_windows, no_types}
 use Rattle.link_numbers.proofs.Any.{or_right}
 use Rattle.link_numbers.proofs.Equals.{Holds, holds_distinct, stands, number_is}

@@ -7,19 +7,19 @@ use Rattle.std.proofs.lemmas.Bool.Decides.{nat_tests}
 use Rattle.std.proofs.lemmas.List.Elements.{All-head, All-tail}
 use Rattle.std.proofs.lemmas.List.Folds.{find-append}
 use Rattle.std.proofs.lemmas.Option.{slice_get-map, slice_get-get_or, slice_get_within}
-use Rattle.wasm_types.specs.declared.function.FuncType.{FuncType}
-use Rattle.object_file.specs.declared.object.Object.{Object}
-use Rattle.object_file.specs.Spaces.{no_type}
-use Rattle.mark_bits.specs.declared.chunk.Chunk.{Chunk}
-use Rattle.made_symbols.specs.declared.mode.Mode.TheVariants.{Plain}
-use Rattle.made_symbols.specs.Made.{made}
-use Rattle.index_layout.specs.Numbers.{number_by}
-use Rattle.name_rules.specs.Entries.{Entry, ImportKey, same_import, is_entry, is_named, name_of, symbols_of, entries, made_from}
-use Rattle.name_rules.specs.Cases.{first_entry}
-use Rattle.name_entries.specs.View.{entry_at}
-use Rattle.link_rules.specs.Program as rules
-use Rattle.link_rules.specs.Keys as keys
-use Rattle.link_rules.specs.Keys.{outside, linker_function, stub, own, function_type_of, content_type, entry_type, part_type, is_function_at, type_of, made_function_key, own_function_key}
+use Rattle.link_program.specs.wasm_types.declared.function.FuncType.{FuncType}
+use Rattle.link_program.specs.object_file.declared.object.Object.{Object}
+use Rattle.link_program.specs.object_file.Spaces.{no_type}
+use Rattle.link_program.specs.mark_bits.declared.chunk.Chunk.{Chunk}
+use Rattle.link_program.specs.made_symbols.declared.mode.Mode.TheVariants.{Plain}
+use Rattle.link_program.specs.made_symbols.Made.{made}
+use Rattle.link_program.specs.index_layout.Numbers.{number_by}
+use Rattle.link_program.specs.name_rules.Entries.{Entry, ImportKey, same_import, is_entry, is_named, name_of, symbols_of, entries, made_from}
+use Rattle.link_program.specs.name_rules.Cases.{first_entry}
+use Rattle.link_program.specs.name_entries.View.{entry_at}
+use Rattle.link_program.specs.link_rules.Program as rules
+use Rattle.link_program.specs.link_rules.Keys as keys
+use Rattle.link_program.specs.link_rules.Keys.{outside, linker_function, stub, own, function_type_of, content_type, entry_type, part_type, is_function_at, type_of, made_function_key, own_function_key}
 use Rattle.link_program.specs.declared.program.Tables.{Tables}
 use Rattle.link_program.specs.Program.{AreTables, ChunksDiffer}
 use Rattle.link_numbers.specs.declared.firsts.At.{At}

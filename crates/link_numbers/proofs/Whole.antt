@@ -6,22 +6,22 @@ use Rattle.std.proofs.lemmas.List.{map-append}
 use Rattle.std.proofs.lemmas.List.Sums.{fold-append}
 use Rattle.std.proofs.lemmas.List.Elements.{All-append, All-head, All-tail, All-cons}
 use Rattle.std.proofs.lemmas.Option.{slice_get-get_or}
-use Rattle.wl_base.specs.Choice.{distinct, distinct_onto, given}
-use Rattle.wasm_types.specs.declared.function.FuncType.{FuncType}
-use Rattle.object_file.specs.declared.object.Object.{Object}
-use Rattle.made_symbols.specs.declared.mode.Mode.TheVariants.{Plain}
-use Rattle.made_symbols.specs.Made.{made}
-use Rattle.index_layout.specs.Numbers.{number_by}
-use Rattle.type_merge.specs.Types.{merged}
-use Rattle.name_rules.specs.Entries.{Entry, ImportKey, same_import, name_of, is_named, is_entry, is_kind, made_from, entries, symbols_of}
-use Rattle.linking_section.specs.declared.symbol.SymbolKind.TheVariants.{Datum, GlobalVar}
-use Rattle.name_rules.specs.Meanings.{Meaning, here, imported, null, nothing, resolve}
-use Rattle.link_names.specs.Numbered.{symbol_number, different_names}
-use Rattle.link_rules.specs.Program as rules
-use Rattle.link_rules.specs.Program.{Ref, refs}
-use Rattle.link_rules.specs.Marks.{refs_of}
-use Rattle.link_rules.specs.Keys as keys
-use Rattle.link_rules.specs.Keys.{outside, linker_function, stub, own, got, outside_global, linker_global, own_global, exported_datum, same_function, same_got, same_global, is_taken, is_null, meant_global, ref_global, imports_in_order, import_of, has_import, used_imports, imports_by, is_function_type, is_global_type, function_imports_of, stub_names, made_function_key, own_function_key, functions, slots, takes_slot, ref_function, global_imports_in, used_globals, made_globals, made_global_key, own_global_key, got_entries, parts_of_kind, needs_got, ref_got, datum_key, globals, window_types, type_of, types, numbers}
+use Rattle.link_program.specs.wl_base.Choice.{distinct, distinct_onto, given}
+use Rattle.link_program.specs.wasm_types.declared.function.FuncType.{FuncType}
+use Rattle.link_program.specs.object_file.declared.object.Object.{Object}
+use Rattle.link_program.specs.made_symbols.declared.mode.Mode.TheVariants.{Plain}
+use Rattle.link_program.specs.made_symbols.Made.{made}
+use Rattle.link_program.specs.index_layout.Numbers.{number_by}
+use Rattle.link_program.specs.type_merge.Types.{merged}
+use Rattle.link_program.specs.name_rules.Entries.{Entry, ImportKey, same_import, name_of, is_named, is_entry, is_kind, made_from, entries, symbols_of}
+use Rattle.link_program.specs.linking_section.declared.symbol.SymbolKind.TheVariants.{Datum, GlobalVar}
+use Rattle.link_program.specs.name_rules.Meanings.{Meaning, here, imported, null, nothing, resolve}
+use Rattle.link_program.specs.link_names.Numbered.{symbol_number, different_names}
+use Rattle.link_program.specs.link_rules.Program as rules
+use Rattle.link_program.specs.link_rules.Program.{Ref, refs}
+use Rattle.link_program.specs.link_rules.Marks.{refs_of}
+use Rattle.link_program.specs.link_rules.Keys as keys
+use Rattle.link_program.specs.link_rules.Keys.{outside, linker_function, stub, own, got, outside_global, linker_global, own_global, exported_datum, same_function, same_got, same_global, is_taken, is_null, meant_global, ref_global, imports_in_order, import_of, has_import, used_imports, imports_by, is_function_type, is_global_type, function_imports_of, stub_names, made_function_key, own_function_key, functions, slots, takes_slot, ref_function, global_imports_in, used_globals, made_globals, made_global_key, own_global_key, got_entries, parts_of_kind, needs_got, ref_got, datum_key, globals, window_types, type_of, types, numbers}
 use Rattle.link_program.specs.declared.keys.FunctionKey.TheVariants as function_keys
 use Rattle.link_program.specs.declared.keys.GlobalKey.TheVariants as global_keys
 use Rattle.link_program.specs.declared.symbol.Winner.{Winner}

@@ -1,11 +1,11 @@
 -- What the told numbers of keys are.
 use Rattle.std.specs.Prelude.{◌≡◌, ℕ, true, List, map}
-use Rattle.index_layout.specs.Numbers.{number_by}
-use Rattle.made_symbols.specs.declared.mode.Mode.TheVariants.{Plain}
-use Rattle.name_rules.specs.Entries.{ImportKey, is_entry}
-use Rattle.link_rules.specs.Program.{Ref}
-use Rattle.link_rules.specs.Keys as keys
-use Rattle.link_rules.specs.Keys.{same_function, same_global, ref_function, ref_global, is_null}
+use Rattle.link_program.specs.index_layout.Numbers.{number_by}
+use Rattle.link_program.specs.made_symbols.declared.mode.Mode.TheVariants.{Plain}
+use Rattle.link_program.specs.name_rules.Entries.{ImportKey, is_entry}
+use Rattle.link_program.specs.link_rules.Program.{Ref}
+use Rattle.link_program.specs.link_rules.Keys as keys
+use Rattle.link_program.specs.link_rules.Keys.{same_function, same_global, ref_function, ref_global, is_null}
 use Rattle.link_program.specs.Keys.{told_function, told_global, same_function_key, same_global_key}
 use Rattle.link_numbers.specs.Knows.{KnowsFunction, KnowsGlobal}
 

@@ -1,11 +1,11 @@
 -- The lists of keys that the live parts and what is noted of them give.
 use Rattle.std.specs.Prelude.{ℕ, zero, suc, ◌==◌, Bool, true, false, not, ◌&&◌, List, [], ◌∷◌, ◌++◌, map, filter, filter_map, length, slice_get, slice_index_or, if◌then◌else◌, Option, Some, None}
 use Rattle.std.specs.List.{list_any}
-use Rattle.linking_section.specs.declared.symbol.SymbolKind.TheVariants.{Datum}
-use Rattle.linking_section.specs.Flags.{kind_code}
-use Rattle.mark_bits.specs.declared.chunk.Chunk.{Chunk}
-use Rattle.name_rules.specs.Entries.{ImportKey}
-use Rattle.link_rules.specs.Keys.{is_function_type, is_global_type}
+use Rattle.link_program.specs.linking_section.declared.symbol.SymbolKind.TheVariants.{Datum}
+use Rattle.link_program.specs.linking_section.Flags.{kind_code}
+use Rattle.link_program.specs.mark_bits.declared.chunk.Chunk.{Chunk}
+use Rattle.link_program.specs.name_rules.Entries.{ImportKey}
+use Rattle.link_program.specs.link_rules.Keys.{is_function_type, is_global_type}
 use Rattle.link_program.specs.declared.symbol.Winner.{Winner}
 use Rattle.link_program.specs.declared.keys.FunctionKey.{FunctionKey}
 use Rattle.link_program.specs.declared.keys.FunctionKey.TheVariants as functions

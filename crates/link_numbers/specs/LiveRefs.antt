@@ -1,6 +1,6 @@
 -- The references of the live parts, as the data show them.
 use Rattle.std.specs.Prelude.{◌≡◌, ℕ, ◌==◌, Bool, List, [], map, filter_map, flat_map, slice_index_or, Option, Some, None}
-use Rattle.wasm_types.specs.declared.function.FuncType.{FuncType}
+use Rattle.link_program.specs.wasm_types.declared.function.FuncType.{FuncType}
 use Rattle.link_program.specs.declared.symbol.Symbol.{Symbol}
 use Rattle.link_program.specs.declared.named.Named.{Named}
 use Rattle.link_program.specs.declared.named.Named.TheVariants as names

@@ -2,9 +2,9 @@
 use Rattle.std.specs.Prelude.{ℕ, ◌==◌, nat_eq, Bool, true, false, not, ◌&&◌, ◌||◌, List, [], ◌∷◌, ◌++◌, slice_set, slice_index_or, fold, replicate, if◌then◌else◌, Option, Some, None, option_map}
 use Rattle.std.specs.List.{list_any}
 use Rattle.indexmap.specs.IndexSet.{insert_key}
-use Rattle.linking_section.specs.declared.symbol.SymbolKind.{SymbolKind}
-use Rattle.linking_section.specs.declared.symbol.SymbolKind.TheVariants.{Function as FunctionKind, GlobalVar}
-use Rattle.linking_section.specs.Flags.{kind_code}
+use Rattle.link_program.specs.linking_section.declared.symbol.SymbolKind.{SymbolKind}
+use Rattle.link_program.specs.linking_section.declared.symbol.SymbolKind.TheVariants.{Function as FunctionKind, GlobalVar}
+use Rattle.link_program.specs.linking_section.Flags.{kind_code}
 use Rattle.link_program.specs.declared.symbol.Definition.{Definition}
 use Rattle.link_program.specs.declared.symbol.Symbol.{Symbol}
 use Rattle.link_program.specs.declared.symbol.Lead.{Lead}

@@ -1,14 +1,14 @@
 -- The types of functions, in their order, and those that windows name.
 use Rattle.std.specs.Prelude.{ℕ, Bool, true, false, List, [], ◌∷◌, ◌++◌, map, filter_map, fold, slice_get, slice_index_or, Option, Some, None}
-use Rattle.wasm_types.specs.declared.function.FuncType.{FuncType}
-use Rattle.wasm_types.specs.Same.{same_type}
-use Rattle.object_file.specs.declared.object.Object.{Object}
-use Rattle.object_file.specs.Spaces.{no_type}
-use Rattle.name_rules.specs.Entries.{Entry, ImportKey, SymbolType, untyped}
-use Rattle.name_entries.specs.View.{entry_at}
-use Rattle.type_merge.specs.Types.{with_type}
-use Rattle.index_layout.specs.Numbers.{number_by}
-use Rattle.link_rules.specs.Keys.{function_type_of}
+use Rattle.link_program.specs.wasm_types.declared.function.FuncType.{FuncType}
+use Rattle.link_program.specs.wasm_types.Same.{same_type}
+use Rattle.link_program.specs.object_file.declared.object.Object.{Object}
+use Rattle.link_program.specs.object_file.Spaces.{no_type}
+use Rattle.link_program.specs.name_rules.Entries.{Entry, ImportKey, SymbolType, untyped}
+use Rattle.link_program.specs.name_entries.View.{entry_at}
+use Rattle.link_program.specs.type_merge.Types.{with_type}
+use Rattle.link_program.specs.index_layout.Numbers.{number_by}
+use Rattle.link_program.specs.link_rules.Keys.{function_type_of}
 use Rattle.link_program.specs.declared.part.Content.{Content}
 use Rattle.link_program.specs.declared.part.Content.TheVariants as contents
 use Rattle.link_program.specs.declared.part.Part.{Part}

@@ -1,10 +1,10 @@
 //! The numbers of the live parts of a program.
 ghost use Rattle.std.specs.Prelude.{◌≡◌, ◌+◌, ◌<◌, ◌^◌, List, map, length, replicate, None, IfOk};
-ghost use Rattle.index_layout.specs.Numbers.{number_by};
-ghost use Rattle.made_symbols.specs.declared.mode.Mode.TheVariants as modes;
-ghost use Rattle.name_entries.specs.Fits.{FitsObjects, Fits};
-ghost use Rattle.table_layout.specs.Slots.{table_overflow};
-ghost use Rattle.link_rules.specs.Keys.{numbers};
+ghost use Rattle.link_program.specs.index_layout.Numbers.{number_by};
+ghost use Rattle.link_program.specs.made_symbols.declared.mode.Mode.TheVariants as modes;
+ghost use Rattle.link_program.specs.name_entries.Fits.{FitsObjects, Fits};
+ghost use Rattle.link_program.specs.table_layout.Slots.{table_overflow};
+ghost use Rattle.link_program.specs.link_rules.Keys.{numbers};
 ghost use Rattle.link_program.specs.Told.{told_winner};
 ghost use Rattle.link_program.specs.Keys.{same_function_key};
 ghost use Rattle.link_program.specs.Program.{IsProgram};
@@ -25,11 +25,11 @@ use crate::marks::Marks;
 use crate::numbering::Numbering;
 use crate::places::Places;
 use crate::types::{TypeNumbers, numbers_in, types_of};
+use link_program::name_entries::Entries;
+use link_program::wasm_types::FuncType;
+use link_program::wl_base::{LayoutError, OutOfMemory, Seq, What};
 use link_program::{FunctionKey, GlobalKey, Program, Winner};
-use name_entries::Entries;
 use std::alloc::Global;
-use wasm_types::FuncType;
-use wl_base::{LayoutError, OutOfMemory, Seq, What};
 
 /// The number of the first slot; slot 0 stays empty.
 const FIRST_SLOT: u32 = 1;

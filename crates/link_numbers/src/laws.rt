@@ -1,10 +1,10 @@
 //! What holds of keys and numbers, as a call that does nothing: its contract is the law.
 ghost use Rattle.std.specs.Prelude.{ℕ, List, All};
-ghost use Rattle.made_symbols.specs.declared.mode.Mode.TheVariants as modes;
-ghost use Rattle.name_rules.specs.Entries.{Entry};
-ghost use Rattle.link_rules.specs.Program as rules;
-ghost use Rattle.link_rules.specs.Marks.{refs_of};
-ghost use Rattle.link_rules.specs.Keys.{numbers};
+ghost use Rattle.link_program.specs.made_symbols.declared.mode.Mode.TheVariants as modes;
+ghost use Rattle.link_program.specs.name_rules.Entries.{Entry};
+ghost use Rattle.link_program.specs.link_rules.Program as rules;
+ghost use Rattle.link_program.specs.link_rules.Marks.{refs_of};
+ghost use Rattle.link_program.specs.link_rules.Keys.{numbers};
 ghost use Rattle.link_program.specs.declared.program.Program.{Program as Data};
 ghost use Rattle.link_program.specs.Program.{IsProgram};
 ghost use Rattle.link_program.specs.Stand.{PartsStand};

@@ -1,15 +1,15 @@
 //! What the references of live parts ask for, noted in one pass.
 ghost use Rattle.std.specs.Prelude.{◌≡◌, IfOk, OnOk};
-ghost use Rattle.linking_section.specs.Flags.{kind_code};
+ghost use Rattle.link_program.specs.linking_section.Flags.{kind_code};
 ghost use Rattle.link_numbers.specs.Noted.{import_named, is_null_lead, stub_called, own_function, function_meant, asks_slot, function_taken, cell_meant, reads_cell, cell_read, flagged, with_taken, with_read, noted_ref, noted_number, nothing_noted};
 
 use crate::{Code, function_code, got_code};
 use indexmap::IndexSet;
+use link_program::linking_section::SymbolKind;
+use link_program::wl_base::OutOfMemory;
 use link_program::{Definition, FunctionKey, GotKey, Lead, Symbol};
-use linking_section::SymbolKind;
 use std::alloc::Global;
 use std::marker::Model;
-use wl_base::OutOfMemory;
 
 /// What was noted.
 #[derive(Drop)]

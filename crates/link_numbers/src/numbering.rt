@@ -1,16 +1,16 @@
 //! The numbers of all things of the output.
 ghost use Rattle.std.specs.Prelude.{◌≡◌, ◌+◌, ◌<◌, Some, length, map, filter, slice_get};
-ghost use Rattle.index_layout.specs.Numbers.{number_by};
+ghost use Rattle.link_program.specs.index_layout.Numbers.{number_by};
 ghost use Rattle.link_program.specs.Keys.{same_function_key, same_global_key};
 ghost use Rattle.link_numbers.specs.Numbered.{is_import, is_import_global};
 
 use crate::places::Places;
 use crate::{function_code, global_code};
+use link_program::type_merge::TypeTable;
+use link_program::wasm_types::FuncType;
+use link_program::wl_base::Seq;
 use link_program::{FunctionKey, GlobalKey};
 use std::marker::Model;
-use type_merge::TypeTable;
-use wasm_types::FuncType;
-use wl_base::Seq;
 
 /// The numbers of all things of the output (Core 2.5.1): of functions, slots of the table, globals and types. A number is a place in a
 /// list; imports come first.
@@ -36,7 +36,7 @@ pub struct Numbering {
 
 impl Model for Numbering {
     ghost use Rattle.std.specs.Prelude.{◌≡◌, ◌+◌, ◌<◌, ◌≤◌, ◌^◌, map, take, length};
-    ghost use Rattle.index_layout.specs.Numbers.{number_by};
+    ghost use Rattle.link_program.specs.index_layout.Numbers.{number_by};
     ghost use Rattle.link_program.specs.Keys.{same_function_key};
     ghost use Rattle.link_numbers.specs.Codes.{function_code, global_code};
     ghost use Rattle.link_numbers.specs.Numbered.{Numbered};

@@ -1,25 +1,25 @@
 //! The types of functions, each with its number among the different ones.
 ghost use Rattle.std.specs.Prelude.{◌≡◌, ◌<◌, ◌-◌, ◌^◌, ◌∷◌, [], nat_lt, map, fold, length, take, if◌then◌else◌, slice_get, slice_index_or, Some, None, OnOk, IfOk};
 ghost use Rattle.std.specs.List.{cons_option};
-ghost use Rattle.object_file.specs.Spaces.{no_type};
-ghost use Rattle.object_columns.specs.Seen.{func_type_seen};
-ghost use Rattle.name_entries.specs.Fits.{FitsObjects};
-ghost use Rattle.type_merge.specs.Types.{type_number, with_type};
+ghost use Rattle.link_program.specs.object_file.Spaces.{no_type};
+ghost use Rattle.link_program.specs.object_columns.Seen.{func_type_seen};
+ghost use Rattle.link_program.specs.name_entries.Fits.{FitsObjects};
+ghost use Rattle.link_program.specs.type_merge.Types.{type_number, with_type};
 ghost use Rattle.link_numbers.specs.Types.{type_at, kept_type, import_types, content_type_at, content_by, type_by, type_in, own_types, first_type, stub_types, type_number_in, with_numbered, with_window, with_windows, types_listed};
 
 use crate::firsts::At;
 use crate::lists::{flag_at, is_function_import, is_own};
 use crate::marking::part_at;
 use crate::marks::Marks;
+use link_program::name_entries::{Entries, TypeRef};
+use link_program::name_meanings::{ImportType, Resolution};
+use link_program::object_columns::FuncTypeRef;
+use link_program::type_merge::TypeTable;
+use link_program::wasm_types::FuncType;
+use link_program::wl_base::OutOfMemory;
 use link_program::{Content, Part, Program, Tables};
-use name_entries::{Entries, TypeRef};
-use name_meanings::{ImportType, Resolution};
-use object_columns::FuncTypeRef;
 use std::alloc::Global;
 use std::marker::Model;
-use type_merge::TypeTable;
-use wasm_types::FuncType;
-use wl_base::OutOfMemory;
 
 /// The different types, and the numbers of those that were added, in their order.
 #[derive(Drop)]

@@ -1,16 +1,16 @@
 -- The windows of all sources lie apart in the output.
 use Rattle.std.proofs.Common.{◌≡◌, ℕ, ◌+◌, ◌≤◌, List, [], ◌∷◌, ◌++◌, length, map, sym, ap, ◌∙◌, subst, arith, length-append}
 use Rattle.std.specs.List.{AllZip}
-use Rattle.reloc_apply.specs.declared.window.Window.{Window}
-use Rattle.reloc_apply.specs.declared.window.Patch.{Patch}
-use Rattle.reloc_apply.specs.Windows.{patch_of}
-use Rattle.reloc_apply.specs.Apart.{AreApart, moved}
-use Rattle.reloc_apply.proofs.Apart.{lie_in_all, apart_moved, apart_append}
-use Rattle.image_emit.specs.Bytes.{Tree, bytes_of}
-use Rattle.image_emit.specs.Filled.{all_moved, AllLieIn}
-use Rattle.image_emit.specs.Pieces.{Piece, joined, pieces, front, places, source_places, sources}
-use Rattle.image_emit.proofs.Joined.{pieces_are_bytes}
-use Rattle.image_emit.proofs.Stands.{bytes_in, sources_in}
+use Rattle.link_program.specs.reloc_apply.declared.window.Window.{Window}
+use Rattle.link_program.specs.reloc_apply.declared.window.Patch.{Patch}
+use Rattle.link_program.specs.reloc_apply.Windows.{patch_of}
+use Rattle.link_program.specs.reloc_apply.Apart.{AreApart, moved}
+use Rattle.link_program.proofs.reloc_apply_lemmas.Apart.{lie_in_all, apart_moved, apart_append}
+use Rattle.link_program.specs.image_emit.Bytes.{Tree, bytes_of}
+use Rattle.link_program.specs.image_emit.Filled.{all_moved, AllLieIn}
+use Rattle.link_program.specs.image_emit.Pieces.{Piece, joined, pieces, front, places, source_places, sources}
+use Rattle.link_program.proofs.image_emit_lemmas.Joined.{pieces_are_bytes}
+use Rattle.link_program.proofs.image_emit_lemmas.Stands.{bytes_in, sources_in}
 use Rattle.link_output.specs.Written.{StandInSources}
 
 -- what is apart from a place on is so from a place before it

@@ -2,20 +2,20 @@
 use Rattle.std.proofs.Common.{◌≡◌, ℕ, ◌-◌, ◌<◌, ◌^◌, List, refl, sym, ap, ◌∙◌, subst, arith, Bool, true, false, nat_lt, min, Option, Some, None, if◌then◌else◌, Result, Ok, Err, ℤ, pos}
 use Rattle.std.specs.Prelude.{int_lt}
 use Rattle.std.proofs.lemmas.Bool.{ltb-true, ltb-false}
-use Rattle.wl_base.specs.Choice.{given}
-use Rattle.wl_base.specs.Answers.{Answers}
-use Rattle.wl_base.specs.declared.fault.Fault.{Fault}
-use Rattle.wl_base.specs.declared.fault.Fault.TheVariants as faults
-use Rattle.wl_base.specs.declared.fault.What.{What}
-use Rattle.wl_base.specs.declared.fault.What.TheVariants.{OutputLength}
-use Rattle.wl_base.specs.declared.layout_error.LayoutError.{LayoutError}
-use Rattle.wl_base.specs.declared.layout_error.LayoutError.TheVariants.{Overflow, OutOfMemory}
-use Rattle.image_emit.specs.declared.tree.Image.{Image}
-use Rattle.image_emit.specs.declared.measuring.Measured.{Measured}
-use Rattle.image_emit.specs.Bytes.{tree_of}
-use Rattle.image_emit.specs.Measures.{LieIn, image_measure, measure_of}
-use Rattle.image_emit.specs.Pieces.{source_places}
-use Rattle.image_emit.proofs.Emitted.{files_measure}
+use Rattle.link_program.specs.wl_base.Choice.{given}
+use Rattle.link_program.specs.wl_base.Answers.{Answers}
+use Rattle.link_program.specs.wl_base.declared.fault.Fault.{Fault}
+use Rattle.link_program.specs.wl_base.declared.fault.Fault.TheVariants as faults
+use Rattle.link_program.specs.wl_base.declared.fault.What.{What}
+use Rattle.link_program.specs.wl_base.declared.fault.What.TheVariants.{OutputLength}
+use Rattle.link_program.specs.wl_base.declared.layout_error.LayoutError.{LayoutError}
+use Rattle.link_program.specs.wl_base.declared.layout_error.LayoutError.TheVariants.{Overflow, OutOfMemory}
+use Rattle.link_program.specs.image_emit.declared.tree.Image.{Image}
+use Rattle.link_program.specs.image_emit.declared.measuring.Measured.{Measured}
+use Rattle.link_program.specs.image_emit.Bytes.{tree_of}
+use Rattle.link_program.specs.image_emit.Measures.{LieIn, image_measure, measure_of}
+use Rattle.link_program.specs.image_emit.Pieces.{source_places}
+use Rattle.link_program.proofs.image_emit_lemmas.Emitted.{files_measure}
 use Rattle.link_output.specs.Written.{Measures, output_len, is_exact}
 
 abbrev answer_by : Bool → ℕ → List ℕ → Result Measured LayoutError

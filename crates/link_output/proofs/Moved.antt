@@ -4,11 +4,11 @@ use Rattle.std.specs.List.{flat_map, find}
 use Rattle.std.specs.Prelude.{option_map, not}
 use Rattle.std.specs.Option.{option_or}
 use Rattle.std.proofs.lemmas.List.Folds.{find-append}
-use Rattle.reloc_apply.specs.declared.window.Window.{Window}
-use Rattle.reloc_apply.specs.declared.window.Patch.{Patch}
-use Rattle.reloc_apply.specs.Windows.{fits, value, patch_of, value_overflow}
-use Rattle.reloc_apply.specs.Apart.{moved}
-use Rattle.image_emit.specs.Filled.{all_moved}
+use Rattle.link_program.specs.reloc_apply.declared.window.Window.{Window}
+use Rattle.link_program.specs.reloc_apply.declared.window.Patch.{Patch}
+use Rattle.link_program.specs.reloc_apply.Windows.{fits, value, patch_of, value_overflow}
+use Rattle.link_program.specs.reloc_apply.Apart.{moved}
+use Rattle.link_program.specs.image_emit.Filled.{all_moved}
 use Rattle.link_program.specs.Moved.{moved_window, moved_windows}
 
 -- ---- patches

@@ -2,26 +2,26 @@
 use Rattle.std.proofs.Common.{◌≡◌, ℕ, zero, suc, ◌+◌, ◌==◌, List, [], ◌∷◌, ◌++◌, length, map, filter, refl, sym, ap, ◌∙◌, subst, arith, All, Bool, true, false, not, ◌&&◌, Option, Some, None, inl, inr, ◌⊎◌, drop, IfSome, if◌then◌else◌, length-take, length-drop}
 use Rattle.std.specs.List.{AllZip, find, filter_map, slice_get, cons_option}
 use Rattle.std.proofs.lemmas.Bool.{eqb-true, eq-eqb}
-use Rattle.wl_base.specs.Choice.{given}
+use Rattle.link_program.specs.wl_base.Choice.{given}
 use Rattle.std.specs.Prelude.{slice_index_or}
 use Rattle.std.proofs.lemmas.List.Elements.{All-nil, All-cons, All-head, All-tail, All-append, All-map, All-filter, All-weaker}
-use Rattle.wl_base.specs.declared.span.FileSpan.{FileSpan}
-use Rattle.made_symbols.specs.declared.mode.Mode.TheVariants.{Plain}
-use Rattle.reloc_apply.specs.declared.window.Window.{Window}
-use Rattle.reloc_apply.specs.Windows.{patch_of}
-use Rattle.reloc_apply.specs.Apart.{AreApart}
-use Rattle.image_emit.specs.declared.tree.Source.{Source}
-use Rattle.image_emit.specs.declared.tree.Source.TheVariants.{File, Own}
-use Rattle.image_emit.specs.declared.tree.PlacedSource.{PlacedSource}
-use Rattle.image_emit.specs.Bytes.{tree_of, source_bytes, block_of, Block}
-use Rattle.image_emit.specs.Measures.{LieIn, Lies}
-use Rattle.image_emit.specs.Pieces.{sources}
-use Rattle.name_rules.specs.Entries.{Entry}
-use Rattle.link_rules.specs.Program.{Program, Part, Named, a_symbol, a_type}
-use Rattle.link_rules.specs.Keys.{FunctionKey, outside, linker_function, stub, own, functions, function_imports_of, stub_names, made_function_key, own_function_key, is_function_at}
-use Rattle.link_rules.specs.Marks.{refs_of}
-use Rattle.link_rules.specs.Values.{Layout, windows, named_window, is_zero, segments, solid_segments}
-use Rattle.link_rules.specs.Output.{layout, image, source_windows, body_of, body_windows, windows_in, part_at, source_of, defined, placed_source, is_import}
+use Rattle.link_program.specs.wl_base.declared.span.FileSpan.{FileSpan}
+use Rattle.link_program.specs.made_symbols.declared.mode.Mode.TheVariants.{Plain}
+use Rattle.link_program.specs.reloc_apply.declared.window.Window.{Window}
+use Rattle.link_program.specs.reloc_apply.Windows.{patch_of}
+use Rattle.link_program.specs.reloc_apply.Apart.{AreApart}
+use Rattle.link_program.specs.image_emit.declared.tree.Source.{Source}
+use Rattle.link_program.specs.image_emit.declared.tree.Source.TheVariants.{File, Own}
+use Rattle.link_program.specs.image_emit.declared.tree.PlacedSource.{PlacedSource}
+use Rattle.link_program.specs.image_emit.Bytes.{tree_of, source_bytes, block_of, Block}
+use Rattle.link_program.specs.image_emit.Measures.{LieIn, Lies}
+use Rattle.link_program.specs.image_emit.Pieces.{sources}
+use Rattle.link_program.specs.name_rules.Entries.{Entry}
+use Rattle.link_program.specs.link_rules.Program.{Program, Part, Named, a_symbol, a_type}
+use Rattle.link_program.specs.link_rules.Keys.{FunctionKey, outside, linker_function, stub, own, functions, function_imports_of, stub_names, made_function_key, own_function_key, is_function_at}
+use Rattle.link_program.specs.link_rules.Marks.{refs_of}
+use Rattle.link_program.specs.link_rules.Values.{Layout, windows, named_window, is_zero, segments, solid_segments}
+use Rattle.link_program.specs.link_rules.Output.{layout, image, source_windows, body_of, body_windows, windows_in, part_at, source_of, defined, placed_source, is_import}
 use Rattle.link_program.specs.Stand.{PartsStand, PartStands, SourceLies, NamedStand, named_place, named_size}
 use Rattle.link_program.specs.Live.{AreLive}
 use Rattle.link_output.specs.Written.{StandInSources}

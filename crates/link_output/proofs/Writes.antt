@@ -3,25 +3,25 @@ use Rattle.std.proofs.Common.{◌≡◌, ℕ, List, [], ◌∷◌, ◌++◌, len
 use Rattle.std.specs.List.{flat_map}
 use Rattle.std.proofs.lemmas.List.{length-map}
 use Rattle.std.specs.Prelude.{option_map}
-use Rattle.wl_base.specs.Choice.{unless}
-use Rattle.wl_base.specs.declared.fault.What.{What}
-use Rattle.wl_base.specs.declared.fault.What.TheVariants.{Reference}
-use Rattle.wl_base.specs.declared.layout_error.LayoutError.{LayoutError}
-use Rattle.wl_base.specs.declared.layout_error.LayoutError.TheVariants.{Overflow, OutOfMemory}
-use Rattle.reloc_apply.specs.declared.window.Window.{Window}
-use Rattle.reloc_apply.specs.declared.window.Patch.{Patch}
-use Rattle.reloc_apply.specs.declared.window.Patches.{Patches}
-use Rattle.reloc_apply.specs.Windows.{patches_of, value_overflow, patch_of, filled}
-use Rattle.reloc_apply.specs.Apart.{AreApart}
-use Rattle.wl_base.specs.Answers.{Answers}
-use Rattle.image_emit.specs.declared.tree.Image.{Image}
-use Rattle.image_emit.specs.declared.measuring.Measured.{Measured}
-use Rattle.image_emit.specs.Measures.{LieIn, image_measure}
-use Rattle.image_emit.specs.Bytes.{Tree, Block, bytes_of, tree_of}
-use Rattle.image_emit.specs.Filled.{tree_filled, all_moved}
-use Rattle.image_emit.specs.Pieces.{source_places, sources}
-use Rattle.image_emit.proofs.Fills.{fill_law}
-use Rattle.image_emit.proofs.Cuts.{sources_count}
+use Rattle.link_program.specs.wl_base.Choice.{unless}
+use Rattle.link_program.specs.wl_base.declared.fault.What.{What}
+use Rattle.link_program.specs.wl_base.declared.fault.What.TheVariants.{Reference}
+use Rattle.link_program.specs.wl_base.declared.layout_error.LayoutError.{LayoutError}
+use Rattle.link_program.specs.wl_base.declared.layout_error.LayoutError.TheVariants.{Overflow, OutOfMemory}
+use Rattle.link_program.specs.reloc_apply.declared.window.Window.{Window}
+use Rattle.link_program.specs.reloc_apply.declared.window.Patch.{Patch}
+use Rattle.link_program.specs.reloc_apply.declared.window.Patches.{Patches}
+use Rattle.link_program.specs.reloc_apply.Windows.{patches_of, value_overflow, patch_of, filled}
+use Rattle.link_program.specs.reloc_apply.Apart.{AreApart}
+use Rattle.link_program.specs.wl_base.Answers.{Answers}
+use Rattle.link_program.specs.image_emit.declared.tree.Image.{Image}
+use Rattle.link_program.specs.image_emit.declared.measuring.Measured.{Measured}
+use Rattle.link_program.specs.image_emit.Measures.{LieIn, image_measure}
+use Rattle.link_program.specs.image_emit.Bytes.{Tree, Block, bytes_of, tree_of}
+use Rattle.link_program.specs.image_emit.Filled.{tree_filled, all_moved}
+use Rattle.link_program.specs.image_emit.Pieces.{source_places, sources}
+use Rattle.link_program.proofs.image_emit_lemmas.Fills.{fill_law}
+use Rattle.link_program.proofs.image_emit_lemmas.Cuts.{sources_count}
 use Rattle.link_program.specs.Moved.{moved_windows}
 use Rattle.link_output.specs.Written.{StandInSources, Writes}
 use Rattle.link_output.proofs.Lengths.{measures}

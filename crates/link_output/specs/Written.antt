@@ -1,20 +1,20 @@
 -- What is answered where an image is measured and written.
 use Rattle.std.specs.Prelude.{◌≡◌, ℕ, List, length, map, flat_map, None, Some, Result, Ok, Err, pos, ◌-◌, ◌<◌, ◌^◌, int_lt, Bool, true}
 use Rattle.std.specs.List.{AllZip}
-use Rattle.wl_base.specs.declared.fault.Fault.TheVariants as faults
-use Rattle.wl_base.specs.declared.fault.What.TheVariants.{Reference}
-use Rattle.wl_base.specs.declared.layout_error.LayoutError.{LayoutError}
-use Rattle.wl_base.specs.declared.layout_error.LayoutError.TheVariants.{Overflow, OutOfMemory}
-use Rattle.reloc_apply.specs.declared.window.Window.{Window}
-use Rattle.reloc_apply.specs.Windows.{value_overflow, patch_of}
-use Rattle.reloc_apply.specs.Apart.{AreApart}
-use Rattle.image_emit.specs.declared.tree.Image.{Image}
-use Rattle.image_emit.specs.declared.measuring.Measured.{Measured}
-use Rattle.image_emit.specs.Bytes.{bytes_of, tree_of}
-use Rattle.image_emit.specs.Filled.{tree_filled}
-use Rattle.image_emit.specs.Measures.{image_measure}
-use Rattle.image_emit.specs.Pieces.{source_places}
-use Rattle.link_rules.specs.LinkOf.{length_fault}
+use Rattle.link_program.specs.wl_base.declared.fault.Fault.TheVariants as faults
+use Rattle.link_program.specs.wl_base.declared.fault.What.TheVariants.{Reference}
+use Rattle.link_program.specs.wl_base.declared.layout_error.LayoutError.{LayoutError}
+use Rattle.link_program.specs.wl_base.declared.layout_error.LayoutError.TheVariants.{Overflow, OutOfMemory}
+use Rattle.link_program.specs.reloc_apply.declared.window.Window.{Window}
+use Rattle.link_program.specs.reloc_apply.Windows.{value_overflow, patch_of}
+use Rattle.link_program.specs.reloc_apply.Apart.{AreApart}
+use Rattle.link_program.specs.image_emit.declared.tree.Image.{Image}
+use Rattle.link_program.specs.image_emit.declared.measuring.Measured.{Measured}
+use Rattle.link_program.specs.image_emit.Bytes.{bytes_of, tree_of}
+use Rattle.link_program.specs.image_emit.Filled.{tree_filled}
+use Rattle.link_program.specs.image_emit.Measures.{image_measure}
+use Rattle.link_program.specs.image_emit.Pieces.{source_places}
+use Rattle.link_program.specs.link_rules.LinkOf.{length_fault}
 
 -- how long the output is
 abbrev pub output_len : List (List ℕ) → Image → ℕ

@@ -1,15 +1,15 @@
 //! What holds of the image and the windows of a program, as calls that do nothing: their contracts are the laws.
 ghost use Rattle.std.specs.Prelude.{◌≡◌, ℕ, List, All};
-ghost use Rattle.reloc_apply.specs.declared.window.Window.{Window as Value};
-ghost use Rattle.image_emit.specs.Bytes.{tree_of};
-ghost use Rattle.image_emit.specs.Measures.{LieIn};
-ghost use Rattle.image_emit.specs.Pieces.{sources};
-ghost use Rattle.made_symbols.specs.declared.mode.Mode.TheVariants.{Plain};
-ghost use Rattle.name_rules.specs.Entries.{Entry};
-ghost use Rattle.link_rules.specs.Program.{Program, Part};
-ghost use Rattle.link_rules.specs.Keys.{numbers};
-ghost use Rattle.link_rules.specs.Values.{Layout};
-ghost use Rattle.link_rules.specs.Output.{layout, image, source_windows};
+ghost use Rattle.link_program.specs.reloc_apply.declared.window.Window.{Window as Value};
+ghost use Rattle.link_program.specs.image_emit.Bytes.{tree_of};
+ghost use Rattle.link_program.specs.image_emit.Measures.{LieIn};
+ghost use Rattle.link_program.specs.image_emit.Pieces.{sources};
+ghost use Rattle.link_program.specs.made_symbols.declared.mode.Mode.TheVariants.{Plain};
+ghost use Rattle.link_program.specs.name_rules.Entries.{Entry};
+ghost use Rattle.link_program.specs.link_rules.Program.{Program, Part};
+ghost use Rattle.link_program.specs.link_rules.Keys.{numbers};
+ghost use Rattle.link_program.specs.link_rules.Values.{Layout};
+ghost use Rattle.link_program.specs.link_rules.Output.{layout, image, source_windows};
 ghost use Rattle.link_program.specs.Stand.{PartsStand};
 ghost use Rattle.link_program.specs.Live.{AreLive};
 ghost use Rattle.link_output.specs.Written.{StandInSources};

@@ -1,11 +1,11 @@
 //! How long the output is.
 ghost use Rattle.std.specs.Prelude.{◌≡◌};
 ghost use Rattle.link_output.specs.Written.{Measures, is_exact};
-ghost use Rattle.image_emit.specs.Measures.{LieIn};
+ghost use Rattle.link_program.specs.image_emit.Measures.{LieIn};
 
-use image_emit::{Image, Measured, measure};
+use link_program::image_emit::{Image, Measured, measure};
+use link_program::wl_base::{LayoutError, Seq};
 use std::alloc::Global;
-use wl_base::{LayoutError, Seq};
 
 /// The length of the output, and where its sources stand: the bodies, then the blocks.
 ///

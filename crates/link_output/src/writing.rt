@@ -1,21 +1,21 @@
 //! One buffer for all of the output.
 ghost use Rattle.std.specs.Prelude.{◌≡◌, List, Ok, All, IfOk, length};
-ghost use Rattle.reloc_apply.specs.declared.window.Window.{Window as Value};
-ghost use Rattle.reloc_apply.specs.Windows.{IsSum, filled};
-ghost use Rattle.reloc_apply.specs.Apart.{AreApart};
-ghost use Rattle.image_emit.specs.Bytes.{tree_of, bytes_of};
-ghost use Rattle.image_emit.specs.Measures.{LieIn, image_measure};
-ghost use Rattle.image_emit.specs.Pieces.{sources};
+ghost use Rattle.link_program.specs.reloc_apply.declared.window.Window.{Window as Value};
+ghost use Rattle.link_program.specs.reloc_apply.Windows.{IsSum, filled};
+ghost use Rattle.link_program.specs.reloc_apply.Apart.{AreApart};
+ghost use Rattle.link_program.specs.image_emit.Bytes.{tree_of, bytes_of};
+ghost use Rattle.link_program.specs.image_emit.Measures.{LieIn, image_measure};
+ghost use Rattle.link_program.specs.image_emit.Pieces.{sources};
 ghost use Rattle.link_program.specs.Moved.{moved_windows};
 ghost use Rattle.link_output.specs.Written.{StandInSources, Writes};
 
-use image_emit::{Image, Measured, emit};
-use reloc_apply::{Patches, Window, fill, values};
+use link_program::image_emit::{Image, Measured, emit};
+use link_program::reloc_apply::{Patches, Window, fill, values};
+use link_program::wl_base::{LayoutError, OutOfMemory, Seq};
+use link_program::wl_fan::Workers;
+use link_program::wl_outside::Gate;
 use std::alloc::Global;
 use std::thread::Threads;
-use wl_base::{LayoutError, OutOfMemory, Seq};
-use wl_fan::Workers;
-use wl_outside::Gate;
 
 /// The bytes of a measured image, with a value written into each window. The windows of each source rise and lie in it; they are given
 /// by their places in the output, source by source.

@@ -1,0 +1,7 @@
+pub use Rattle.image_emit.proofs as image_emit_lemmas
+pub use Rattle.lib_index.proofs as lib_index_lemmas
+pub use Rattle.name_entries.proofs as name_entries_lemmas
+pub use Rattle.name_meanings.proofs as name_meanings_lemmas
+pub use Rattle.name_entries.proofs.object_file_lemmas as object_file_lemmas
+pub use Rattle.reloc_apply.proofs as reloc_apply_lemmas
+pub use Rattle.wl_fan.proofs as wl_fan_lemmas

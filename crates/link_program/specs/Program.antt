@@ -1,12 +1,12 @@
 -- When the data are those of a program.
 use Rattle.std.specs.Prelude.{◌≡◌, ℕ, ◌-◌, ◌<◌, ◌^◌, ◌++◌, List, length, map, slice_get, Some, All}
-use Rattle.object_file.specs.declared.object.Object.{Object}
-use Rattle.made_symbols.specs.declared.mode.Mode.{Mode}
+use Rattle.name_entries.specs.object_file.declared.object.Object.{Object}
+use Rattle.name_entries.specs.made_symbols.declared.mode.Mode.{Mode}
 use Rattle.mark_bits.specs.declared.chunk.Chunk.{Chunk}
-use Rattle.link_names.specs.Numbered.{AreNumbers, different_names}
+use Rattle.name_entries.specs.link_names.Numbered.{AreNumbers, different_names}
 use Rattle.lib_rounds.specs.Rounds.{Candidate}
-use Rattle.name_rules.specs.Entries.{ImportKey, entries}
-use Rattle.name_rules.specs.Meanings.{resolve}
+use Rattle.name_entries.specs.name_rules.Entries.{ImportKey, entries}
+use Rattle.name_entries.specs.name_rules.Meanings.{resolve}
 use Rattle.name_entries.specs.View.{InputsRise, WinnersAre}
 use Rattle.name_meanings.specs.Means.{IsResolution}
 use Rattle.link_rules.specs.Program as rules

@@ -1,15 +1,15 @@
 //! All that the later steps look at.
 
 use crate::{Named, Part, Symbol, Winner};
-use link_names::Names;
 use link_plan::Plan;
 use mark_bits::ChunkTable;
+use name_entries::link_names::Names;
+use name_entries::object_file::Object;
+use name_entries::wasm_types::FuncType;
+use name_entries::wl_base::Seq;
+use name_entries::wl_lists::Lists;
 use name_meanings::Resolution;
-use object_file::Object;
 use symbol_race::Winners;
-use wasm_types::FuncType;
-use wl_base::Seq;
-use wl_lists::Lists;
 
 /// What is looked up of a program.
 #[derive(Drop)]

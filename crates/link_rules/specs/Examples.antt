@@ -1,21 +1,21 @@
 -- Small links, as words for worked rows: plans, and objects as the reader gives them.
 use Rattle.std.specs.Prelude.{ℕ, ◌+◌, ◌-◌, ◌*◌, nat_lt, true, false, List, [], ◌∷◌, ◌++◌, map, slice_get, replicate, if◌then◌else◌, Option, Some, None, Result, Ok, Err, pos}
-use Rattle.wl_base.specs.declared.fault.Fault.{Fault}
-use Rattle.wl_base.specs.declared.fault.Fault.TheVariants.{TooManyNames}
-use Rattle.wl_base.specs.declared.fault.LibFault.TheVariants.{NotLibrary}
-use Rattle.wl_base.specs.declared.span.Span.{Span}
-use Rattle.wasm_types.specs.declared.function.FuncType.{FuncType}
-use Rattle.wasm_types.specs.declared.value.ValType.TheVariants.{I32}
-use Rattle.wasm_types.specs.declared.import.Import.{Import}
-use Rattle.wasm_types.specs.declared.import.ImportKind.TheVariants as kinds
-use Rattle.linking_section.specs.declared.symbol.Symbol.{Symbol}
-use Rattle.linking_section.specs.declared.symbol.SymbolKind.TheVariants.{Function, Datum}
-use Rattle.linking_section.specs.declared.group.Group.{Group}
-use Rattle.reloc_section.specs.declared.entry.Reloc.{Reloc}
-use Rattle.body_windows.specs.declared.operand.Operand.{Operand}
-use Rattle.body_windows.specs.declared.operand.Operand.TheVariants as operands
-use Rattle.object_columns.specs.declared.functions.FunctionDef.{FunctionDef}
-use Rattle.object_columns.specs.declared.segments.SegmentDef.{SegmentDef}
+use Rattle.object_file.specs.wl_base.declared.fault.Fault.{Fault}
+use Rattle.object_file.specs.wl_base.declared.fault.Fault.TheVariants.{TooManyNames}
+use Rattle.object_file.specs.wl_base.declared.fault.LibFault.TheVariants.{NotLibrary}
+use Rattle.object_file.specs.wl_base.declared.span.Span.{Span}
+use Rattle.object_file.specs.wasm_types.declared.function.FuncType.{FuncType}
+use Rattle.object_file.specs.wasm_types.declared.value.ValType.TheVariants.{I32}
+use Rattle.object_file.specs.wasm_types.declared.import.Import.{Import}
+use Rattle.object_file.specs.wasm_types.declared.import.ImportKind.TheVariants as kinds
+use Rattle.object_file.specs.linking_section.declared.symbol.Symbol.{Symbol}
+use Rattle.object_file.specs.linking_section.declared.symbol.SymbolKind.TheVariants.{Function, Datum}
+use Rattle.object_file.specs.linking_section.declared.group.Group.{Group}
+use Rattle.object_file.specs.reloc_section.declared.entry.Reloc.{Reloc}
+use Rattle.object_file.specs.body_windows.declared.operand.Operand.{Operand}
+use Rattle.object_file.specs.body_windows.declared.operand.Operand.TheVariants as operands
+use Rattle.object_file.specs.object_columns.declared.functions.FunctionDef.{FunctionDef}
+use Rattle.object_file.specs.object_columns.declared.segments.SegmentDef.{SegmentDef}
 use Rattle.object_file.specs.declared.object.Object.{Object}
 use Rattle.lib_index.specs.Library.{Contents}
 use Rattle.link_plan.specs.declared.plan.Plan.{Plan}

@@ -3,14 +3,14 @@ use Rattle.std.specs.Prelude.{ℕ, true, false, List, [], ◌∷◌, ◌++◌, S
 use Rattle.object_file.specs.declared.object.Object.{Object}
 use Rattle.made_symbols.specs.declared.mode.Mode.TheVariants.{Plain, Shared}
 use Rattle.link_rules.specs.LinkOf.{link_by}
-use Rattle.wl_base.specs.declared.fault.Fault.TheVariants.{Clash, Duplicate, IndexLies, Unresolved}
-use Rattle.wasm_types.specs.declared.import.ImportKind.TheVariants as kinds
-use Rattle.wasm_types.specs.declared.value.ValType.TheVariants.{I32, I64}
-use Rattle.wasm_types.specs.declared.const_expr.ConstExpr.TheVariants as constants
-use Rattle.linking_section.specs.declared.symbol.Symbol.{Symbol}
-use Rattle.linking_section.specs.declared.symbol.SymbolKind.TheVariants.{GlobalVar}
-use Rattle.object_columns.specs.declared.segments.SegmentDef.{SegmentDef}
-use Rattle.body_windows.specs.declared.operand.Operand.TheVariants as operands
+use Rattle.object_file.specs.wl_base.declared.fault.Fault.TheVariants.{Clash, Duplicate, IndexLies, Unresolved}
+use Rattle.object_file.specs.wasm_types.declared.import.ImportKind.TheVariants as kinds
+use Rattle.object_file.specs.wasm_types.declared.value.ValType.TheVariants.{I32, I64}
+use Rattle.object_file.specs.wasm_types.declared.const_expr.ConstExpr.TheVariants as constants
+use Rattle.object_file.specs.linking_section.declared.symbol.Symbol.{Symbol}
+use Rattle.object_file.specs.linking_section.declared.symbol.SymbolKind.TheVariants.{GlobalVar}
+use Rattle.object_file.specs.object_columns.declared.segments.SegmentDef.{SegmentDef}
+use Rattle.object_file.specs.body_windows.declared.operand.Operand.TheVariants as operands
 use Rattle.link_rules.specs.Candidates.{plain_word}
 use Rattle.link_rules.specs.Examples.{hex, Row, plan_of, exporting, read_as, read_with, empty_object, span, function_symbol, datum_symbol, body_at, names, word_at, segment_at, function_import, plain_type}
 use Rattle.link_rules.specs.NameRows.{defining, giving_1, wanting_file}

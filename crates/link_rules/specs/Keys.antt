@@ -1,11 +1,11 @@
 -- The numbered things of the output, each as a list of keys. A number is the place of a key.
 use Rattle.std.specs.Prelude.{ℕ, ◌+◌, ◌==◌, Bool, true, false, not, ◌&&◌, ◌||◌, List, [], ◌++◌, map, filter, filter_map, flat_map, find, if◌then◌else◌, Option, Some, None, bytes_eq, codes}
 use Rattle.std.specs.List.{list_any}
-use Rattle.wl_base.specs.Choice.{given, distinct}
-use Rattle.wasm_types.specs.declared.function.FuncType.{FuncType}
-use Rattle.wasm_types.specs.Same.{same_type}
-use Rattle.linking_section.specs.declared.symbol.SymbolKind.TheVariants.{Function, Datum, GlobalVar}
-use Rattle.linking_section.specs.Flags.{kind_code}
+use Rattle.object_file.specs.wl_base.Choice.{given, distinct}
+use Rattle.object_file.specs.wasm_types.declared.function.FuncType.{FuncType}
+use Rattle.object_file.specs.wasm_types.Same.{same_type}
+use Rattle.object_file.specs.linking_section.declared.symbol.SymbolKind.TheVariants.{Function, Datum, GlobalVar}
+use Rattle.object_file.specs.linking_section.Flags.{kind_code}
 use Rattle.object_file.specs.Spaces.{no_type}
 use Rattle.made_symbols.specs.declared.mode.Mode.{Mode}
 use Rattle.made_symbols.specs.declared.mode.Mode.TheVariants.{Plain, Shared}

@@ -1,9 +1,9 @@
 -- The link of files by a plan: the first fault that applies, or the bytes of the output.
 use Rattle.std.specs.Prelude.{ℕ, ◌-◌, ◌^◌, nat_lt, List, ◌++◌, map, flat_map, length, Option, option_map, bytes_eq, Result, Ok, pos}
-use Rattle.wl_base.specs.Choice.{given, distinct, unless, ◌>>=◌}
-use Rattle.wl_base.specs.declared.fault.Fault.{Fault}
-use Rattle.wl_base.specs.declared.fault.Fault.TheVariants.{TooManyNames, Overflow}
-use Rattle.wl_base.specs.declared.fault.What.TheVariants.{TableSize, OutputLength, Reference}
+use Rattle.object_file.specs.wl_base.Choice.{given, distinct, unless, ◌>>=◌}
+use Rattle.object_file.specs.wl_base.declared.fault.Fault.{Fault}
+use Rattle.object_file.specs.wl_base.declared.fault.Fault.TheVariants.{TooManyNames, Overflow}
+use Rattle.object_file.specs.wl_base.declared.fault.What.TheVariants.{TableSize, OutputLength, Reference}
 use Rattle.object_file.specs.declared.object.Object.{Object}
 use Rattle.object_file.specs.ObjectOf.{object_of}
 use Rattle.lib_index.specs.Reading.{library_of}

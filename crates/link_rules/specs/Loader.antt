@@ -1,8 +1,8 @@
 -- What the function of a shared output makes right when it is loaded, and what its loader is told (DynamicLinking.md).
 use Rattle.std.specs.Prelude.{ℕ, ◌+◌, max, Bool, true, false, ◌==◌, List, [], ◌∷◌, ◌++◌, map, filter, filter_map, flat_map, if◌then◌else◌, Option, Some, None, pos, ◌+ℤ◌}
 use Rattle.std.specs.List.{list_any, list_all}
-use Rattle.linking_section.specs.declared.symbol.SymbolKind.TheVariants.{Function}
-use Rattle.linking_section.specs.Flags.{is_weak}
+use Rattle.object_file.specs.linking_section.declared.symbol.SymbolKind.TheVariants.{Function}
+use Rattle.object_file.specs.linking_section.Flags.{is_weak}
 use Rattle.made_symbols.specs.declared.mode.Mode.{Mode}
 use Rattle.name_rules.specs.Entries.{Entry, ImportKey, is_kind, is_entry, named, name_of, same_import}
 use Rattle.name_rules.specs.Meanings.{Meaning, here, imported, null, nothing, cell_of}

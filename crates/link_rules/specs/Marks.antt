@@ -1,12 +1,12 @@
 -- What is exported, what is live, and which names stay unresolved.
 use Rattle.std.specs.Prelude.{ℕ, ◌+◌, ◌==◌, Bool, true, false, not, ◌&&◌, ◌||◌, List, [], ◌∷◌, ◌++◌, map, filter, filter_map, flat_map, find, length, position, slice_get, if◌then◌else◌, Option, None, unwrap_or, option_map, option_and_then, option_to_list, bytes_eq}
 use Rattle.std.specs.List.{list_any}
-use Rattle.wl_base.specs.Choice.{first_some, given, has_name}
-use Rattle.wl_base.specs.declared.fault.Fault.{Fault}
-use Rattle.wl_base.specs.declared.fault.Fault.TheVariants.{Duplicate, NotPic, Unresolved}
-use Rattle.linking_section.specs.declared.symbol.SymbolKind.TheVariants.{Function, Datum, GlobalVar}
-use Rattle.linking_section.specs.Flags.{is_exported, is_hidden, is_no_strip, is_local_definition, has_bit}
-use Rattle.object_columns.specs.declared.functions.FunctionDef.{FunctionDef}
+use Rattle.object_file.specs.wl_base.Choice.{first_some, given, has_name}
+use Rattle.object_file.specs.wl_base.declared.fault.Fault.{Fault}
+use Rattle.object_file.specs.wl_base.declared.fault.Fault.TheVariants.{Duplicate, NotPic, Unresolved}
+use Rattle.object_file.specs.linking_section.declared.symbol.SymbolKind.TheVariants.{Function, Datum, GlobalVar}
+use Rattle.object_file.specs.linking_section.Flags.{is_exported, is_hidden, is_no_strip, is_local_definition, has_bit}
+use Rattle.object_file.specs.object_columns.declared.functions.FunctionDef.{FunctionDef}
 use Rattle.made_symbols.specs.declared.mode.Mode.{Mode}
 use Rattle.made_symbols.specs.declared.mode.Mode.TheVariants.{Plain, Shared}
 use Rattle.name_rules.specs.Entries.{Entry, is_named, is_kind, name_of, same_entry}

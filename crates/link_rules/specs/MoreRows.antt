@@ -3,13 +3,13 @@ use Rattle.std.specs.Prelude.{Some, true, ℕ, List, [], ◌∷◌, ◌++◌, No
 use Rattle.object_file.specs.declared.object.Object.{Object}
 use Rattle.made_symbols.specs.declared.mode.Mode.TheVariants.{Plain, Shared}
 use Rattle.link_rules.specs.LinkOf.{link_by}
-use Rattle.wl_base.specs.declared.fault.Fault.TheVariants.{NotPic}
-use Rattle.wasm_types.specs.declared.import.ImportKind.TheVariants as kinds
-use Rattle.wasm_types.specs.declared.value.ValType.TheVariants.{I32}
-use Rattle.linking_section.specs.declared.symbol.Symbol.{Symbol}
-use Rattle.linking_section.specs.declared.symbol.SymbolKind.{SymbolKind}
-use Rattle.linking_section.specs.declared.symbol.SymbolKind.TheVariants.{GlobalVar, Table}
-use Rattle.body_windows.specs.declared.operand.Operand.TheVariants as operands
+use Rattle.object_file.specs.wl_base.declared.fault.Fault.TheVariants.{NotPic}
+use Rattle.object_file.specs.wasm_types.declared.import.ImportKind.TheVariants as kinds
+use Rattle.object_file.specs.wasm_types.declared.value.ValType.TheVariants.{I32}
+use Rattle.object_file.specs.linking_section.declared.symbol.Symbol.{Symbol}
+use Rattle.object_file.specs.linking_section.declared.symbol.SymbolKind.{SymbolKind}
+use Rattle.object_file.specs.linking_section.declared.symbol.SymbolKind.TheVariants.{GlobalVar, Table}
+use Rattle.object_file.specs.body_windows.declared.operand.Operand.TheVariants as operands
 use Rattle.lib_index.specs.Library.{Contents}
 use Rattle.link_rules.specs.Examples.{hex, Row, plan_of, exporting, read_as, read_with, empty_object, span, function_symbol, datum_symbol, body_at, names, word_at, group_of, segment_at, function_import, plain_type, int_type}
 use Rattle.link_rules.specs.NameRows.{header, storage}

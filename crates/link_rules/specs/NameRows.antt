@@ -3,8 +3,8 @@ use Rattle.std.specs.Prelude.{ℕ, true, List, [], ◌∷◌, ◌++◌, Some, Ok
 use Rattle.object_file.specs.declared.object.Object.{Object}
 use Rattle.made_symbols.specs.declared.mode.Mode.TheVariants.{Plain}
 use Rattle.link_rules.specs.LinkOf.{link_by}
-use Rattle.wl_base.specs.declared.fault.Fault.TheVariants.{Duplicate, Unresolved, Clash}
-use Rattle.wasm_types.specs.declared.value.ValType.TheVariants.{I32, I64}
+use Rattle.object_file.specs.wl_base.declared.fault.Fault.TheVariants.{Duplicate, Unresolved, Clash}
+use Rattle.object_file.specs.wasm_types.declared.value.ValType.TheVariants.{I32, I64}
 use Rattle.link_rules.specs.Examples.{hex, Row, plan_of, exporting, read_as, empty_object, span, function_symbol, body_at, names, function_import, plain_type, int_type}
 
 -- what every module here begins with, and its table and memory: one slot, two pages

@@ -1,17 +1,17 @@
 -- The output as an image, and the windows of its sources.
 use Rattle.std.specs.Prelude.{ℕ, ◌+◌, ◌/◌, ◌==◌, Bool, true, false, not, ◌&&◌, List, [], ◌∷◌, ◌++◌, map, filter, filter_map, find, if◌then◌else◌, Option, Some, None, option_map, pos, codes}
-use Rattle.wasm_types.specs.declared.table.Limits.{Limits}
-use Rattle.wasm_types.specs.declared.table.TableType.{TableType}
-use Rattle.wasm_types.specs.declared.value.ValType.TheVariants.{I32}
-use Rattle.wasm_types.specs.declared.import.Import.{Import}
-use Rattle.wasm_types.specs.declared.import.ImportKind.{ImportKind}
-use Rattle.wasm_types.specs.declared.import.ImportKind.TheVariants as kinds
-use Rattle.wasm_types.specs.declared.const_expr.ConstExpr.TheVariants as constants
-use Rattle.wasm_module.specs.declared.parts.Export.{Export}
-use Rattle.wasm_module.specs.declared.parts.ModuleGlobal.{ModuleGlobal}
-use Rattle.wasm_module.specs.declared.parts.Element.{Element}
-use Rattle.linking_section.specs.declared.symbol.SymbolKind.{SymbolKind}
-use Rattle.linking_section.specs.declared.symbol.SymbolKind.TheVariants.{Function, Datum, GlobalVar, Section, Table}
+use Rattle.object_file.specs.wasm_types.declared.table.Limits.{Limits}
+use Rattle.object_file.specs.wasm_types.declared.table.TableType.{TableType}
+use Rattle.object_file.specs.wasm_types.declared.value.ValType.TheVariants.{I32}
+use Rattle.object_file.specs.wasm_types.declared.import.Import.{Import}
+use Rattle.object_file.specs.wasm_types.declared.import.ImportKind.{ImportKind}
+use Rattle.object_file.specs.wasm_types.declared.import.ImportKind.TheVariants as kinds
+use Rattle.object_file.specs.wasm_types.declared.const_expr.ConstExpr.TheVariants as constants
+use Rattle.object_file.specs.wasm_module.declared.parts.Export.{Export}
+use Rattle.object_file.specs.wasm_module.declared.parts.ModuleGlobal.{ModuleGlobal}
+use Rattle.object_file.specs.wasm_module.declared.parts.Element.{Element}
+use Rattle.object_file.specs.linking_section.declared.symbol.SymbolKind.{SymbolKind}
+use Rattle.object_file.specs.linking_section.declared.symbol.SymbolKind.TheVariants.{Function, Datum, GlobalVar, Section, Table}
 use Rattle.made_symbols.specs.declared.mode.Mode.{Mode}
 use Rattle.made_symbols.specs.declared.mode.Mode.TheVariants.{Plain, Shared}
 use Rattle.name_rules.specs.Entries.{Entry, ImportKey, SymbolType, of_function, of_global, untyped}

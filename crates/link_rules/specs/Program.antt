@@ -1,19 +1,19 @@
 -- The loaded objects as parts that refer to one another.
 use Rattle.std.specs.Prelude.{ℕ, ◌+◌, ◌==◌, nat_le, Bool, true, false, not, ◌&&◌, List, [], ◌∷◌, ◌++◌, map, filter, filter_map, flat_map, find, length, slice_get, if◌then◌else◌, Option, Some, None, option_map, ℤ, pos}
-use Rattle.wl_base.specs.declared.span.Span.{Span}
-use Rattle.wl_base.specs.declared.span.FileSpan.{FileSpan}
-use Rattle.wasm_types.specs.declared.function.FuncType.{FuncType}
-use Rattle.linking_section.specs.declared.symbol.SymbolKind.{SymbolKind}
-use Rattle.linking_section.specs.declared.symbol.SymbolKind.TheVariants.{Function, Datum, GlobalVar, Section, Table}
-use Rattle.linking_section.specs.declared.segment.SegmentInfo.{SegmentInfo}
-use Rattle.linking_section.specs.declared.init.InitFunc.{InitFunc}
-use Rattle.linking_section.specs.Flags.{is_undefined}
-use Rattle.reloc_section.specs.declared.entry.Reloc.{Reloc}
-use Rattle.body_windows.specs.declared.operand.Operand.{Operand}
-use Rattle.body_windows.specs.declared.operand.Operand.TheVariants as operands
-use Rattle.object_parts.specs.declared.parts.GlobalDef.{GlobalDef}
-use Rattle.object_columns.specs.declared.functions.FunctionDef.{FunctionDef}
-use Rattle.object_columns.specs.declared.segments.SegmentDef.{SegmentDef}
+use Rattle.object_file.specs.wl_base.declared.span.Span.{Span}
+use Rattle.object_file.specs.wl_base.declared.span.FileSpan.{FileSpan}
+use Rattle.object_file.specs.wasm_types.declared.function.FuncType.{FuncType}
+use Rattle.object_file.specs.linking_section.declared.symbol.SymbolKind.{SymbolKind}
+use Rattle.object_file.specs.linking_section.declared.symbol.SymbolKind.TheVariants.{Function, Datum, GlobalVar, Section, Table}
+use Rattle.object_file.specs.linking_section.declared.segment.SegmentInfo.{SegmentInfo}
+use Rattle.object_file.specs.linking_section.declared.init.InitFunc.{InitFunc}
+use Rattle.object_file.specs.linking_section.Flags.{is_undefined}
+use Rattle.object_file.specs.reloc_section.declared.entry.Reloc.{Reloc}
+use Rattle.object_file.specs.body_windows.declared.operand.Operand.{Operand}
+use Rattle.object_file.specs.body_windows.declared.operand.Operand.TheVariants as operands
+use Rattle.object_file.specs.object_parts.declared.parts.GlobalDef.{GlobalDef}
+use Rattle.object_file.specs.object_columns.declared.functions.FunctionDef.{FunctionDef}
+use Rattle.object_file.specs.object_columns.declared.segments.SegmentDef.{SegmentDef}
 use Rattle.object_file.specs.declared.object.Object.{Object}
 use Rattle.object_file.specs.Spaces.{defined_type, written_type, function_imports}
 use Rattle.made_symbols.specs.declared.mode.Mode.{Mode}

@@ -1,7 +1,7 @@
 -- What stands in windows.
 use Rattle.std.specs.Prelude.{ℕ, ◌+◌, ◌-◌, ◌*◌, ◌^◌, ◌==◌, min, Bool, not, ◌&&◌, ◌||◌, List, [], ◌∷◌, map, filter, length, position, slice_index_or, if◌then◌else◌, unwrap_or, ℤ, pos}
 use Rattle.std.specs.List.{list_all}
-use Rattle.linking_section.specs.declared.symbol.SymbolKind.TheVariants.{Datum}
+use Rattle.object_file.specs.linking_section.declared.symbol.SymbolKind.TheVariants.{Datum}
 use Rattle.made_symbols.specs.declared.mode.Mode.{Mode}
 use Rattle.made_symbols.specs.declared.mode.Mode.TheVariants.{Plain, Shared}
 use Rattle.name_rules.specs.Entries.{Entry, is_kind}

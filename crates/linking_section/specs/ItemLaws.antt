@@ -2,8 +2,8 @@
 use Rattle.std.proofs.Common.{◌≡◌, ℕ, ◌-◌, Bool, true, false, eqb, not, List, [], ◌∷◌, ◌++◌, length, Option, Some, None, Ok, Err, refl, sym, ap, subst, ◌∙◌}
 use Rattle.std.specs.Prelude.{IsTrue}
 use Rattle.std.proofs.lemmas.Bool.{eqb-true}
-use Rattle.wl_base.specs.declared.item.Item.{Item}
-use Rattle.wl_base.specs.declared.item.Item.TheVariants as items
+use Rattle.wasm_grammar.specs.wl_base.declared.item.Item.{Item}
+use Rattle.wasm_grammar.specs.wl_base.declared.item.Item.TheVariants as items
 use Rattle.wasm_grammar.specs.declared.fault.Stop.TheVariants.{Broken, Foreign}
 use Rattle.wasm_grammar.specs.Grammar.{SpellsByte, SpellsU32}
 use Rattle.wasm_grammar.specs.Readers.{Takes, IsReader}

@@ -3,7 +3,7 @@ use Rattle.std.proofs.Common.{◌≡◌, ℕ, zero, suc, ◌-◌, ◌+◌, ◌�
 use Rattle.std.specs.Prelude.{is_some}
 use Rattle.std.proofs.lemmas.Bool.{eqb-true}
 use Rattle.std.proofs.lemmas.List.{length-append}
-use Rattle.wl_base.specs.declared.item.Item.TheVariants as items
+use Rattle.wasm_grammar.specs.wl_base.declared.item.Item.TheVariants as items
 use Rattle.wasm_grammar.specs.declared.fault.Stop.{Stop}
 use Rattle.wasm_grammar.specs.declared.fault.Stop.TheVariants.{Broken, Foreign}
 use Rattle.wasm_grammar.specs.Grammar.{SpellsU32, SpellsMany, SpellsVector}

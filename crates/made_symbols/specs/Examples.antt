@@ -2,7 +2,7 @@
 use Rattle.std.specs.Prelude.{◌≡◌, length, map, true, codes, bytes_eq}
 use Rattle.std.proofs.Common.{refl}
 use Rattle.linking_section.specs.declared.symbol.SymbolKind.TheVariants.{GlobalVar}
-use Rattle.wl_base.specs.Choice.{distinct}
+use Rattle.wasm_grammar.specs.wl_base.Choice.{distinct}
 use Rattle.made_symbols.specs.declared.mode.Mode.{Mode}
 use Rattle.made_symbols.specs.declared.mode.Mode.TheVariants.{Plain, Shared}
 use Rattle.made_symbols.specs.Made.{made, made_at}

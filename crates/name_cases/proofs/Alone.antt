@@ -3,11 +3,11 @@ use Rattle.std.proofs.Common.{◌≡◌, ℕ, Bool, true, false, List, [], ◌�
 use Rattle.std.specs.Str.{bytes_eq}
 use Rattle.std.specs.Cmp.Lexicographic.{pointwise}
 use Rattle.std.proofs.lemmas.Slice.Eq.{bytes_eq-Decides}
-use Rattle.wasm_types.specs.Same.{same_val, same_bool}
-use Rattle.wasm_types.specs.Types.{val_byte}
-use Rattle.wasm_types.specs.declared.value.ValType.{ValType}
-use Rattle.name_rules.specs.Entries.{Entry, ImportKey, SymbolType, of_function, of_global, untyped, is_kind, same_symbol_type}
-use Rattle.name_rules.specs.Cases.{differ, explicit_import}
+use Rattle.name_entries.specs.wasm_types.Same.{same_val, same_bool}
+use Rattle.name_entries.specs.wasm_types.Types.{val_byte}
+use Rattle.name_entries.specs.wasm_types.declared.value.ValType.{ValType}
+use Rattle.name_entries.specs.name_rules.Entries.{Entry, ImportKey, SymbolType, of_function, of_global, untyped, is_kind, same_symbol_type}
+use Rattle.name_entries.specs.name_rules.Cases.{differ, explicit_import}
 use Rattle.name_cases.specs.declared.question.Question.{Question}
 use Rattle.name_cases.specs.declared.question.Question.TheVariants.{Clashes, Duplicates}
 use Rattle.name_cases.specs.Search.{contradicts}

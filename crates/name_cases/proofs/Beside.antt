@@ -2,10 +2,10 @@
 use Rattle.std.proofs.Common.{◌≡◌, ℕ, ◌+◌, ◌<◌, Bool, true, false, cond, ◌&&◌, List, [], length, get_or, drop, map, Option, Some, None, refl, sym, ap, ◌∙◌, nat_eq, arith}
 use Rattle.std.specs.Option.{option_map, option_or, option_and_then}
 use Rattle.std.proofs.lemmas.Bool.Decides.{nat_tests}
-use Rattle.wl_base.specs.Choice.{first_some, given}
-use Rattle.wl_base.specs.Names.{number_of}
-use Rattle.name_rules.specs.declared.case.PairCase.{PairCase}
-use Rattle.name_rules.specs.Entries.{Entry, name_of, is_entry}
+use Rattle.name_entries.specs.wl_base.Choice.{first_some, given}
+use Rattle.name_entries.specs.wl_base.Names.{number_of}
+use Rattle.name_entries.specs.name_rules.declared.case.PairCase.{PairCase}
+use Rattle.name_entries.specs.name_rules.Entries.{Entry, name_of, is_entry}
 use Rattle.name_entries.specs.View.{entry_number}
 use Rattle.name_cases.specs.declared.question.Question.{Question}
 use Rattle.name_cases.specs.declared.rows.Spot.{Spot}

@@ -1,13 +1,13 @@
 -- What the first case tells is the definition's least clash, or its least duplicate.
 use Rattle.std.proofs.Common.{◌≡◌, List, map, ap, ◌∙◌}
 use Rattle.std.specs.Option.{option_map}
-use Rattle.wl_base.specs.Choice.{first_some}
-use Rattle.wl_base.specs.declared.fault.Fault.TheVariants.{Clash, Duplicate}
-use Rattle.object_file.specs.declared.object.Object.{Object}
-use Rattle.made_symbols.specs.declared.mode.Mode.{Mode}
-use Rattle.link_names.specs.Numbered.{Numbered, AreNumbers}
-use Rattle.name_rules.specs.Entries.{entries}
-use Rattle.name_rules.specs.Cases.{clash, duplicate}
+use Rattle.name_entries.specs.wl_base.Choice.{first_some}
+use Rattle.name_entries.specs.wl_base.declared.fault.Fault.TheVariants.{Clash, Duplicate}
+use Rattle.name_entries.specs.object_file.declared.object.Object.{Object}
+use Rattle.name_entries.specs.made_symbols.declared.mode.Mode.{Mode}
+use Rattle.name_entries.specs.link_names.Numbered.{Numbered, AreNumbers}
+use Rattle.name_entries.specs.name_rules.Entries.{entries}
+use Rattle.name_entries.specs.name_rules.Cases.{clash, duplicate}
 use Rattle.name_cases.specs.declared.question.Question.TheVariants.{Clashes, Duplicates}
 use Rattle.name_cases.specs.Rows.{all_rows, entries_in}
 use Rattle.name_cases.specs.Search.{case_in}

@@ -3,13 +3,13 @@ use Rattle.std.proofs.Common.{◌≡◌, ℕ, ◌+◌, Bool, true, false, cond, 
 use Rattle.std.specs.Prelude.{All}
 use Rattle.std.specs.List.{flat_map, AllByRecursion}
 use Rattle.std.proofs.lemmas.List.Elements.{filter-append, All-head, All-tail}
-use Rattle.wl_base.specs.Names.{number_of}
-use Rattle.linking_section.specs.declared.symbol.Symbol.{Symbol}
-use Rattle.object_file.specs.declared.object.Object.{Object}
-use Rattle.made_symbols.specs.declared.mode.Mode.{Mode}
-use Rattle.made_symbols.specs.Made.{MadeSymbol, made}
-use Rattle.link_names.specs.Numbered.{Numbered, AreNumbers, Held, entry_names, is_entry_symbol, symbol_name}
-use Rattle.name_rules.specs.Entries.{Entry, name_of, is_entry, entries, entries_from, entry_in, symbols_of, made_entry, made_from}
+use Rattle.name_entries.specs.wl_base.Names.{number_of}
+use Rattle.name_entries.specs.linking_section.declared.symbol.Symbol.{Symbol}
+use Rattle.name_entries.specs.object_file.declared.object.Object.{Object}
+use Rattle.name_entries.specs.made_symbols.declared.mode.Mode.{Mode}
+use Rattle.name_entries.specs.made_symbols.Made.{MadeSymbol, made}
+use Rattle.name_entries.specs.link_names.Numbered.{Numbered, AreNumbers, Held, entry_names, is_entry_symbol, symbol_name}
+use Rattle.name_entries.specs.name_rules.Entries.{Entry, name_of, is_entry, entries, entries_from, entry_in, symbols_of, made_entry, made_from}
 use Rattle.name_entries.specs.View.{rows_of}
 use Rattle.name_cases.specs.Rows.{all_rows, entries_in}
 use Rattle.name_cases.proofs.Column.{name_at}

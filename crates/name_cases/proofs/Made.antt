@@ -2,13 +2,13 @@
 use Rattle.std.proofs.Common.{◌≡◌, ◌≢◌, ℕ, ◌+◌, ◌-◌, ◌<◌, ◌≤◌, ◌^◌, List, [], ◌∷◌, length, get_or, slice_get, Option, Some, None, Bor, true, refl, sym, ap, ◌∙◌, zero, suc, arith}
 use Rattle.std.specs.Option.{option_map}
 use Rattle.std.proofs.lemmas.Option.{slice_get-map, slice_get-get_or, slice_get_past}
-use Rattle.wl_base.specs.Names.{number_of}
-use Rattle.linking_section.specs.declared.symbol.SymbolKind.{SymbolKind}
-use Rattle.object_file.specs.declared.object.Object.{Object}
-use Rattle.made_symbols.specs.declared.mode.Mode.{Mode}
-use Rattle.made_symbols.specs.Made.{MadeSymbol, made, made_at, made_function}
-use Rattle.link_names.specs.Numbered.{Numbered, AreNumbers}
-use Rattle.name_rules.specs.Entries.{made_entry, made_from}
+use Rattle.name_entries.specs.wl_base.Names.{number_of}
+use Rattle.name_entries.specs.linking_section.declared.symbol.SymbolKind.{SymbolKind}
+use Rattle.name_entries.specs.object_file.declared.object.Object.{Object}
+use Rattle.name_entries.specs.made_symbols.declared.mode.Mode.{Mode}
+use Rattle.name_entries.specs.made_symbols.Made.{MadeSymbol, made, made_at, made_function}
+use Rattle.name_entries.specs.link_names.Numbered.{Numbered, AreNumbers}
+use Rattle.name_entries.specs.name_rules.Entries.{made_entry, made_from}
 use Rattle.name_entries.specs.Shown.{Shows}
 use Rattle.name_entries.specs.View.{InputsRise, rows_of, entry_at}
 use Rattle.name_cases.specs.declared.rows.Spot.{Spot}

@@ -4,7 +4,7 @@ use Rattle.std.specs.List.{find, flat_map, range_with_len}
 use Rattle.std.specs.Option.{option_or, option_and_then, option_flatten, is_some}
 use Rattle.std.proofs.Math.Seq.{drop-cons}
 use Rattle.std.proofs.lemmas.Option.{slice_get-get_or}
-use Rattle.wl_base.specs.Choice.{first_some}
+use Rattle.name_entries.specs.wl_base.Choice.{first_some}
 
 first_of : {B : Type 0} (o : Option B) (os : List (Option B)) → first_some (o ∷ os) ≡ option_or o (first_some os)
 first_of None os = refl

@@ -1,8 +1,8 @@
 -- A symbol beside the one that the column tells for its name.
 use Rattle.std.specs.Prelude.{ℕ, Bool, false, ◌&&◌, ◌==◌, List, slice_index_or, if◌then◌else◌, Option, Some, None, option_and_then}
-use Rattle.wl_base.specs.Choice.{given}
-use Rattle.name_rules.specs.declared.case.PairCase.{PairCase}
-use Rattle.name_rules.specs.Entries.{Entry}
+use Rattle.name_entries.specs.wl_base.Choice.{given}
+use Rattle.name_entries.specs.name_rules.declared.case.PairCase.{PairCase}
+use Rattle.name_entries.specs.name_rules.Entries.{Entry}
 use Rattle.name_cases.specs.declared.rows.Spot.{Spot}
 use Rattle.name_cases.specs.declared.question.Question.{Question}
 use Rattle.name_cases.specs.Rows.{symbol_in}

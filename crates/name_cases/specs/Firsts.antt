@@ -1,6 +1,6 @@
 -- The column of the least entries, by the numbers of their names.
 use Rattle.std.specs.Prelude.{◌≡◌, ℕ, List, ◌++◌, length, slice_get, slice_set, slice_index_or, Option, Some, None, option_map}
-use Rattle.name_rules.specs.Entries.{Entry}
+use Rattle.name_entries.specs.name_rules.Entries.{Entry}
 use Rattle.name_cases.specs.declared.rows.Spot.{Spot}
 use Rattle.name_cases.specs.declared.question.Question.{Question}
 use Rattle.name_cases.specs.Rows.{symbol_in}

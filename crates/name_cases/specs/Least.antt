@@ -1,7 +1,7 @@
 -- The least case, in the words of the code's rows.
 use Rattle.std.specs.Prelude.{ℕ, List, [], map, slice_index_or, Option}
-use Rattle.wl_base.specs.Choice.{first_some}
-use Rattle.name_rules.specs.declared.case.PairCase.{PairCase}
+use Rattle.name_entries.specs.wl_base.Choice.{first_some}
+use Rattle.name_entries.specs.name_rules.declared.case.PairCase.{PairCase}
 use Rattle.name_cases.specs.declared.cases.Comparison.{Comparison}
 use Rattle.name_cases.specs.declared.question.Question.{Question}
 use Rattle.name_cases.specs.declared.rows.Rows.{Rows}

@@ -1,10 +1,10 @@
 -- What two entries of a name are compared by.
 use Rattle.std.specs.Prelude.{◌≡◌, Bool, false, not, ◌&&◌, ◌||◌, ◌==◌, Option, Some, None, option_map, bytes_eq}
-use Rattle.linking_section.specs.Flags.{kind_code}
-use Rattle.object_columns.specs.declared.imports.ImportRef.{ImportRef}
-use Rattle.object_columns.specs.Seen.{import_seen}
-use Rattle.name_rules.specs.Entries.{Entry, key_of, same_symbol_type}
-use Rattle.name_rules.specs.Cases.{explicit_import}
+use Rattle.name_entries.specs.linking_section.Flags.{kind_code}
+use Rattle.name_entries.specs.object_columns.declared.imports.ImportRef.{ImportRef}
+use Rattle.name_entries.specs.object_columns.Seen.{import_seen}
+use Rattle.name_entries.specs.name_rules.Entries.{Entry, key_of, same_symbol_type}
+use Rattle.name_entries.specs.name_rules.Cases.{explicit_import}
 use Rattle.name_entries.specs.Shown.{type_seen}
 use Rattle.name_cases.specs.declared.look.Look.{Look}
 

@@ -1,9 +1,9 @@
 -- All symbols of a link in rows, by place: the linker's own first, then those of each object.
 use Rattle.std.specs.Prelude.{ℕ, List, [], ◌∷◌, filter, flat_map, slice_get, slice_index_or, Option}
-use Rattle.object_file.specs.declared.object.Object.{Object}
-use Rattle.made_symbols.specs.declared.mode.Mode.{Mode}
-use Rattle.made_symbols.specs.Made.{made}
-use Rattle.name_rules.specs.Entries.{Entry, made_from, is_entry}
+use Rattle.name_entries.specs.object_file.declared.object.Object.{Object}
+use Rattle.name_entries.specs.made_symbols.declared.mode.Mode.{Mode}
+use Rattle.name_entries.specs.made_symbols.Made.{made}
+use Rattle.name_entries.specs.name_rules.Entries.{Entry, made_from, is_entry}
 use Rattle.name_entries.specs.Fits.{Fits}
 use Rattle.name_entries.specs.View.{rows_of}
 use Rattle.name_cases.specs.declared.rows.Rows.{Rows}

@@ -1,9 +1,9 @@
 -- Both questions in one form: an entry that counts is a case where the least one of its name that counts can't stand beside it.
 use Rattle.std.specs.Prelude.{ℕ, Bool, true, not, ◌&&◌, List, map, find, if◌then◌else◌, Option, None, option_and_then}
-use Rattle.wl_base.specs.Choice.{first_some, given}
-use Rattle.name_rules.specs.declared.case.PairCase.{PairCase}
-use Rattle.name_rules.specs.Entries.{Entry, name_of, is_named, same_entry}
-use Rattle.name_rules.specs.Cases.{clashes_with, is_strong}
+use Rattle.name_entries.specs.wl_base.Choice.{first_some, given}
+use Rattle.name_entries.specs.name_rules.declared.case.PairCase.{PairCase}
+use Rattle.name_entries.specs.name_rules.Entries.{Entry, name_of, is_named, same_entry}
+use Rattle.name_entries.specs.name_rules.Cases.{clashes_with, is_strong}
 use Rattle.name_entries.specs.View.{entry_number}
 use Rattle.name_cases.specs.declared.question.Question.{Question}
 use Rattle.name_cases.specs.declared.question.Question.TheVariants.{Clashes, Duplicates}

@@ -1,8 +1,8 @@
 -- What a case tells.
 use Rattle.std.specs.Prelude.{ℕ, List, [], slice_index_or}
-use Rattle.wl_base.specs.declared.fault.Fault.{Fault}
-use Rattle.wl_base.specs.declared.fault.Fault.TheVariants.{Clash, Duplicate}
-use Rattle.name_rules.specs.declared.case.PairCase.{PairCase}
+use Rattle.name_entries.specs.wl_base.declared.fault.Fault.{Fault}
+use Rattle.name_entries.specs.wl_base.declared.fault.Fault.TheVariants.{Clash, Duplicate}
+use Rattle.name_entries.specs.name_rules.declared.case.PairCase.{PairCase}
 
 -- The name of a case, by its number.
 abbrev pub name_in : List (List ℕ) → PairCase → List ℕ

@@ -1,7 +1,7 @@
 //! The least case.
 ghost use Rattle.std.specs.Prelude.{◌≡◌, is_some, option_map, IfOk};
-ghost use Rattle.name_rules.specs.Entries.{entries};
-ghost use Rattle.name_rules.specs.Cases.{clash, duplicate};
+ghost use Rattle.name_entries.specs.name_rules.Entries.{entries};
+ghost use Rattle.name_entries.specs.name_rules.Cases.{clash, duplicate};
 ghost use Rattle.name_entries.specs.Fits.{Fits};
 ghost use Rattle.name_cases.specs.Beside.{spot_case};
 ghost use Rattle.name_cases.specs.Least.{IsReady, least_case, row_case};
@@ -10,13 +10,13 @@ ghost use Rattle.name_cases.specs.Told.{clash_told, duplicate_told};
 
 use crate::question::Question;
 use crate::rows::{Rows, Spot};
-use made_symbols::Mode;
 use name_entries::Entries;
-use name_rules::PairCase;
+use name_entries::made_symbols::Mode;
+use name_entries::name_rules::PairCase;
+use name_entries::wl_base::OutOfMemory;
 use rayon::prelude::*;
 use std::alloc::Global;
 use std::thread::Threads;
-use wl_base::OutOfMemory;
 
 /// How few rows are worth a thread of their own.
 const LEAST_ROWS: usize = 8;

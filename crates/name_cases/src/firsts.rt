@@ -1,6 +1,6 @@
 //! The least entries of names, in a column by the names' numbers.
 ghost use Rattle.std.specs.Prelude.{◌≡◌, [], length, filter, slice_index_or, replicate, IfOk};
-ghost use Rattle.name_rules.specs.Entries.{is_entry};
+ghost use Rattle.name_entries.specs.name_rules.Entries.{is_entry};
 ghost use Rattle.name_cases.specs.Beside.{number_at};
 ghost use Rattle.name_cases.specs.Firsts.{Adds, noted};
 ghost use Rattle.name_cases.specs.Least.{HasFirsts};
@@ -8,8 +8,8 @@ ghost use Rattle.name_cases.specs.Rows.{RowsFit, entries_in, names_shown, rows_s
 
 use crate::question::Question;
 use crate::rows::{Rows, Spot};
+use name_entries::wl_base::{OutOfMemory, Seq};
 use std::alloc::Global;
-use wl_base::{OutOfMemory, Seq};
 
 /// A column of this length that tells nothing.
 fn blank(alloc: Global, len: usize) -> Result<Vec<Option<Spot>>, OutOfMemory>

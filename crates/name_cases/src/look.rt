@@ -1,15 +1,15 @@
 //! What two entries of a name are compared by.
 ghost use Rattle.std.specs.Prelude.{◌≡◌, ◌==◌};
-ghost use Rattle.linking_section.specs.Flags.{kind_code};
-ghost use Rattle.name_rules.specs.Entries.{same_symbol_type};
+ghost use Rattle.name_entries.specs.linking_section.Flags.{kind_code};
+ghost use Rattle.name_entries.specs.name_rules.Entries.{same_symbol_type};
 ghost use Rattle.name_entries.specs.Shown.{type_seen};
 ghost use Rattle.name_cases.specs.Look.{AreLook, imports_differ, looks_clash};
 ghost use Rattle.name_cases.specs.Rows.{RowsFit, rows_shown, symbol_in};
 
 use crate::rows::{Rows, Spot};
-use linking_section::SymbolKind;
 use name_entries::TypeRef;
-use object_columns::ImportRef;
+use name_entries::linking_section::SymbolKind;
+use name_entries::object_columns::ImportRef;
 
 /// What is compared of an entry.
 #[derive(Clone, Copy, Debug)]

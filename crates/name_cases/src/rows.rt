@@ -1,16 +1,16 @@
 //! All symbols of a link in rows: the linker's own first, then those of each object.
 ghost use Rattle.std.specs.Prelude.{◌≡◌, [], length, slice_get, slice_index_or, IfSome, option_map};
-ghost use Rattle.made_symbols.specs.Made.{made};
-ghost use Rattle.name_rules.specs.Entries.{key_of, made_from};
+ghost use Rattle.name_entries.specs.made_symbols.Made.{made};
+ghost use Rattle.name_entries.specs.name_rules.Entries.{key_of, made_from};
 ghost use Rattle.name_entries.specs.Shown.{AreShown, type_seen};
-ghost use Rattle.object_columns.specs.Seen.{import_seen};
+ghost use Rattle.name_entries.specs.object_columns.Seen.{import_seen};
 ghost use Rattle.name_cases.specs.Rows.{RowsFit, names_shown, rows_shown, symbol_in};
 
-use linking_section::{HIDDEN, SymbolKind};
-use made_symbols::Mode;
+use name_entries::linking_section::{HIDDEN, SymbolKind};
+use name_entries::made_symbols::Mode;
+use name_entries::object_columns::{FuncTypeRef, ImportRef, SymbolRef};
+use name_entries::wasm_types::{GlobalType, ValType};
 use name_entries::{Entries, EntryRef, TypeRef};
-use object_columns::{FuncTypeRef, ImportRef, SymbolRef};
-use wasm_types::{GlobalType, ValType};
 
 /// Where a symbol stands: row 0 has the linker's own symbols, row `o + 1` those of object `o`.
 #[derive(Clone, Copy, Debug, PartialEq, Eq)]
@@ -30,17 +30,17 @@ pub(crate) struct Rows<'a> {
 fn made_type(mode: Mode, place: u32) -> Option<TypeRef<'static>>
     ensures { option_map type_seen result ≡ option_map (λ e. e.type) (slice_get (made_from 0 (made mode)) place) }
 {
-    if place >= made_symbols::count(mode) {
+    if place >= name_entries::made_symbols::count(mode) {
         return None;
     }
-    Some(match made_symbols::kind(mode, place) {
+    Some(match name_entries::made_symbols::kind(mode, place) {
         SymbolKind::Function => TypeRef::Function(FuncTypeRef {
             params: &[],
             results: &[],
         }),
         SymbolKind::GlobalVar => TypeRef::GlobalVar(GlobalType {
             kind: ValType::I32,
-            var: made_symbols::changes(mode, place),
+            var: name_entries::made_symbols::changes(mode, place),
         }),
         SymbolKind::Datum | SymbolKind::Section | SymbolKind::Table => TypeRef::Untyped,
     })
@@ -59,13 +59,13 @@ impl<'a> Rows<'a> {
         requires { RowsFit self.now }
         ensures { AreShown (names_shown self.now) result (slice_get (made_from 0 (made self.now.mode)) place) }
     {
-        if place >= made_symbols::count(self.mode) {
+        if place >= name_entries::made_symbols::count(self.mode) {
             return None;
         }
         let symbol = SymbolRef {
-            kind: made_symbols::kind(self.mode, place),
+            kind: name_entries::made_symbols::kind(self.mode, place),
             flags: HIDDEN,
-            name: Some(made_symbols::name(self.mode, place)),
+            name: Some(name_entries::made_symbols::name(self.mode, place)),
             index: 0,
             offset: 0,
             size: 0,
@@ -76,7 +76,7 @@ impl<'a> Rows<'a> {
             symbol,
             number: self.view.names.made(place),
             defines: true,
-            class: made_symbols::class(self.mode, place),
+            class: name_entries::made_symbols::class(self.mode, place),
         })
     }
 
@@ -96,7 +96,7 @@ impl<'a> Rows<'a> {
         ensures { result ≡ length (slice_index_or (rows_shown self.now) row []) }
     {
         if row == 0 {
-            made_symbols::count(self.mode)
+            name_entries::made_symbols::count(self.mode)
         } else {
             self.view.symbols(row - 1)
         }

@@ -1,10 +1,10 @@
 //! What is compared of two entries of a name.
 use crate::look::{Look, clash};
-use linking_section::SymbolKind;
 use name_entries::TypeRef;
-use object_columns::{FuncTypeRef, ImportRef};
+use name_entries::linking_section::SymbolKind;
+use name_entries::object_columns::{FuncTypeRef, ImportRef};
+use name_entries::wasm_types::{GlobalType, ImportKind, ValType};
 use std::test::Fail;
-use wasm_types::{GlobalType, ImportKind, ValType};
 
 fn function(params: &'static [ValType]) -> Look<'static> {
     Look {

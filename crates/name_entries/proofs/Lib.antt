@@ -7,3 +7,4 @@ pub mod Grouped
 pub mod Few
 pub mod Each
 pub mod Added
+pub use Rattle.object_file.proofs as object_file_lemmas

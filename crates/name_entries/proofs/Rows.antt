@@ -2,12 +2,12 @@
 use Rattle.std.proofs.Common.{◌≡◌, ℕ, zero, suc, ◌+◌, not, ◌&&◌, List, [], ◌∷◌, length, map, get_or, slice_get, if◌then◌else◌, Option, Some, None, refl, sym, ap, subst, ◌∙◌, arith}
 use Rattle.std.specs.Option.{option_map}
 use Rattle.std.proofs.lemmas.Option.{same_Some}
-use Rattle.linking_section.specs.declared.symbol.Symbol.{Symbol}
-use Rattle.linking_section.specs.declared.symbol.SymbolKind.{SymbolKind}
-use Rattle.linking_section.specs.declared.symbol.SymbolKind.TheVariants.{Function, Datum, GlobalVar, Section, Table}
-use Rattle.linking_section.specs.Flags.{is_weak, is_undefined}
-use Rattle.object_columns.specs.Seen.{symbol_seen, import_seen}
-use Rattle.object_columns.specs.declared.imports.ImportRef.{ImportRef}
+use Rattle.object_file.specs.linking_section.declared.symbol.Symbol.{Symbol}
+use Rattle.object_file.specs.linking_section.declared.symbol.SymbolKind.{SymbolKind}
+use Rattle.object_file.specs.linking_section.declared.symbol.SymbolKind.TheVariants.{Function, Datum, GlobalVar, Section, Table}
+use Rattle.object_file.specs.linking_section.Flags.{is_weak, is_undefined}
+use Rattle.object_file.specs.object_columns.Seen.{symbol_seen, import_seen}
+use Rattle.object_file.specs.object_columns.declared.imports.ImportRef.{ImportRef}
 use Rattle.object_file.specs.declared.object.Object.{Object}
 use Rattle.link_names.specs.Numbered.{symbol_number}
 use Rattle.name_rules.specs.Entries.{Entry, SymbolType, entry_in, entries_from, symbols_of, in_kept_part, type_in, import_in, key_of}

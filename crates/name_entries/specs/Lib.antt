@@ -2,3 +2,17 @@ pub mod View
 pub mod Parts
 pub mod Fits
 pub mod Shown
+pub use Rattle.object_file.specs.wl_base as wl_base
+pub use Rattle.object_file.specs.wl_lists as wl_lists
+pub use Rattle.object_file.specs.wasm_types as wasm_types
+pub use Rattle.object_file.specs.wasm_module as wasm_module
+pub use Rattle.object_file.specs.reloc_section as reloc_section
+pub use Rattle.object_file.specs.linking_section as linking_section
+pub use Rattle.object_file.specs.body_windows as body_windows
+pub use Rattle.object_file.specs.object_parts as object_parts
+pub use Rattle.object_file.specs.object_rules as object_rules
+pub use Rattle.object_file.specs.object_columns as object_columns
+pub use Rattle.object_file.specs as object_file
+pub use Rattle.made_symbols.specs as made_symbols
+pub use Rattle.name_rules.specs as name_rules
+pub use Rattle.link_names.specs as link_names

@@ -1,6 +1,6 @@
 -- What lent entries and types tell.
 use Rattle.std.specs.Prelude.{◌≡◌, ℕ, List, Option, Some, None}
-use Rattle.object_columns.specs.Seen.{symbol_seen, func_type_seen}
+use Rattle.object_file.specs.object_columns.Seen.{symbol_seen, func_type_seen}
 use Rattle.name_rules.specs.Entries.{Entry, SymbolType, of_function, of_global, untyped}
 use Rattle.name_entries.specs.View.{entry_number}
 use Rattle.name_entries.specs.declared.entry.EntryRef.{EntryRef}

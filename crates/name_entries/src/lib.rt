@@ -12,6 +12,14 @@ mod table;
 mod tests;
 
 pub use entry::{EntryRef, TypeRef};
+pub use link_names;
 pub use lookups::Entries;
+pub use made_symbols;
+pub use name_rules;
+pub use object_file;
+pub use object_file::{
+    body_windows, linking_section, object_columns, object_parts, object_rules, reloc_section,
+    wasm_module, wasm_types, wl_base, wl_lists,
+};
 pub use parts::ObjectParts;
 pub use table::EntryTable;

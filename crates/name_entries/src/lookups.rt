@@ -1,6 +1,6 @@
 //! The view of all loaded objects.
 ghost use Rattle.std.specs.Prelude.{◌≡◌, [], Some, None, length, slice_get, slice_index_or, option_map, MatchOption};
-ghost use Rattle.object_columns.specs.Seen.{import_seen};
+ghost use Rattle.object_file.specs.object_columns.Seen.{import_seen};
 ghost use Rattle.name_rules.specs.Entries.{Entry, key_of};
 ghost use Rattle.name_entries.specs.View.{rows_of, entry_at};
 ghost use Rattle.name_entries.specs.Fits.{FitsObjects};
@@ -11,8 +11,8 @@ use crate::entry::{EntryRef, TypeRef};
 use crate::parts::{ObjectParts, class_of};
 use crate::spaces::{import_in, type_in};
 use link_names::Names;
-use object_columns::{ImportRef, SymbolRef};
 use object_file::Object;
+use object_file::object_columns::{ImportRef, SymbolRef};
 
 /// The loaded objects, their names' numbers, and what is looked up of each: all by reference.
 #[derive(Clone, Copy)]

@@ -1,13 +1,13 @@
 //! What is looked up of an object.
 ghost use Rattle.std.specs.Prelude.{◌≡◌, not, ◌&&◌, if◌then◌else◌};
-ghost use Rattle.linking_section.specs.Flags.{is_weak, is_undefined};
-ghost use Rattle.object_columns.specs.Seen.{symbol_seen};
+ghost use Rattle.object_file.specs.linking_section.Flags.{is_weak, is_undefined};
+ghost use Rattle.object_file.specs.object_columns.Seen.{symbol_seen};
 ghost use Rattle.name_entries.specs.Parts.{has_flag, keeps};
 
-use linking_section::SymbolKind;
-use object_columns::SymbolRef;
-use object_rules::ImportPlaces;
-use wl_base::Seq;
+use object_file::linking_section::SymbolKind;
+use object_file::object_columns::SymbolRef;
+use object_file::object_rules::ImportPlaces;
+use object_file::wl_base::Seq;
 
 /// What is looked up of an object by index.
 #[derive(Debug, Drop)]

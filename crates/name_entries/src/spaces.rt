@@ -1,18 +1,18 @@
 //! What the indexes of an object name.
 ghost use Rattle.std.specs.Prelude.{◌≡◌, false, slice_get, slice_index_or, option_map};
-ghost use Rattle.wasm_types.specs.declared.value.ValType.TheVariants as values;
-ghost use Rattle.object_columns.specs.Seen.{symbol_seen, func_type_seen, import_seen};
-ghost use Rattle.object_rules.specs.Spaces.{ArePlaces, imports_of, imported_type};
+ghost use Rattle.object_file.specs.wasm_types.declared.value.ValType.TheVariants as values;
+ghost use Rattle.object_file.specs.object_columns.Seen.{symbol_seen, func_type_seen, import_seen};
+ghost use Rattle.object_file.specs.object_rules.Spaces.{ArePlaces, imports_of, imported_type};
 ghost use Rattle.object_file.specs.Spaces.{no_type, written_type, function_types, global_types, imported_global};
 ghost use Rattle.name_rules.specs.Entries.{type_in, import_in};
 ghost use Rattle.name_entries.specs.Shown.{type_seen};
 
 use crate::entry::TypeRef;
-use linking_section::SymbolKind;
-use object_columns::{FuncTypeRef, ImportRef, SymbolRef};
 use object_file::Object;
-use object_rules::ImportPlaces;
-use wasm_types::{GlobalType, ImportKind, ValType};
+use object_file::linking_section::SymbolKind;
+use object_file::object_columns::{FuncTypeRef, ImportRef, SymbolRef};
+use object_file::object_rules::ImportPlaces;
+use object_file::wasm_types::{GlobalType, ImportKind, ValType};
 
 /// The place of an index; `None` exactly where there is none.
 fn place_at(places: &[usize], index: u32) -> Option<usize>

@@ -1,6 +1,6 @@
 //! What is looked up of all objects.
 ghost use Rattle.std.specs.Prelude.{◌≡◌, ◌++◌, ◌∷◌, [], ◌<◌, length, slice_get, Some, if◌then◌else◌, OnOk, IfOk};
-ghost use Rattle.object_rules.specs.Spaces.{is_function, is_table, is_global, ArePlaces};
+ghost use Rattle.object_file.specs.object_rules.Spaces.{is_function, is_table, is_global, ArePlaces};
 ghost use Rattle.made_symbols.specs.declared.mode.Mode.{Mode};
 ghost use Rattle.link_names.specs.Numbered.{AreNumbers};
 ghost use Rattle.name_entries.specs.View.{InputsRise, GroupsAre};
@@ -12,13 +12,13 @@ use crate::lookups::Entries;
 use crate::parts::ObjectParts;
 use comdat_pick::ComdatWinners;
 use link_names::Names;
-use object_columns::Imports;
 use object_file::Object;
-use object_rules::ImportPlaces;
+use object_file::object_columns::Imports;
+use object_file::object_rules::ImportPlaces;
+use object_file::wasm_types::ImportKind;
+use object_file::wl_base::{OutOfMemory, Seq};
+use object_file::wl_lists::shrunk;
 use std::alloc::Global;
-use wasm_types::ImportKind;
-use wl_base::{OutOfMemory, Seq};
-use wl_lists::shrunk;
 
 /// What is looked up of the objects; `view` lends it with them.
 #[derive(Debug, Drop)]

@@ -5,16 +5,16 @@ use Rattle.std.proofs.lemmas.List.{length-map}
 use Rattle.least_race.specs.declared.party.Offer.{Offer}
 use Rattle.least_race.specs.Jobs.{Job}
 use Rattle.least_race.specs.Race.{offer}
-use Rattle.wl_base.specs.Names.{number_of}
-use Rattle.linking_section.specs.declared.group.Group.{Group}
-use Rattle.object_file.specs.declared.object.Object.{Object}
-use Rattle.link_names.specs.Numbered.{group_names}
-use Rattle.linking_section.specs.declared.symbol.Symbol.{Symbol}
-use Rattle.linking_section.specs.Flags.{is_weak}
-use Rattle.made_symbols.specs.declared.mode.Mode.{Mode}
-use Rattle.made_symbols.specs.Made.{MadeSymbol, made, made_at, made_function}
+use Rattle.name_entries.specs.wl_base.Names.{number_of}
+use Rattle.name_entries.specs.linking_section.declared.group.Group.{Group}
+use Rattle.name_entries.specs.object_file.declared.object.Object.{Object}
+use Rattle.name_entries.specs.link_names.Numbered.{group_names}
+use Rattle.name_entries.specs.linking_section.declared.symbol.Symbol.{Symbol}
+use Rattle.name_entries.specs.linking_section.Flags.{is_weak}
+use Rattle.name_entries.specs.made_symbols.declared.mode.Mode.{Mode}
+use Rattle.name_entries.specs.made_symbols.Made.{MadeSymbol, made, made_at, made_function}
 use Rattle.symbol_race.specs.Ranks.{rank_of}
-use Rattle.name_rules.specs.Entries.{Entry, made_from, entries_from, entry_in, symbols_of}
+use Rattle.name_entries.specs.name_rules.Entries.{Entry, made_from, entries_from, entry_in, symbols_of}
 use Rattle.name_entries.specs.View.{InputsRise, entry_at}
 use Rattle.name_entries.specs.declared.entry.EntryRef.{EntryRef}
 use Rattle.name_entries.specs.Shown.{Shows, AreShown}

@@ -4,10 +4,10 @@ use Rattle.std.specs.Prelude.{Option}
 use Rattle.std.specs.List.{list_any, IsDistinct}
 use Rattle.least_race.specs.Jobs.{Job, offers_in}
 use Rattle.least_race.specs.Race.{offer}
-use Rattle.wl_base.specs.Names.{number_of}
-use Rattle.linking_section.specs.declared.group.Group.{Group}
-use Rattle.object_file.specs.declared.object.Object.{Object}
-use Rattle.name_rules.specs.Entries.{group_winner, has_group}
+use Rattle.name_entries.specs.wl_base.Names.{number_of}
+use Rattle.name_entries.specs.linking_section.declared.group.Group.{Group}
+use Rattle.name_entries.specs.object_file.declared.object.Object.{Object}
+use Rattle.name_entries.specs.name_rules.Entries.{group_winner, has_group}
 use Rattle.name_entries.specs.View.{InputsRise}
 use Rattle.name_jobs.specs.Offers.{group_offer, group_jobs}
 use Rattle.name_jobs.proofs.Items.{LeastIn, all_offers}

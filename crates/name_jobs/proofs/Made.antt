@@ -8,17 +8,17 @@ use Rattle.least_race.specs.Jobs.{Job, IsItem, WordsBelow, offers_in}
 use Rattle.least_race.specs.Race.{offer}
 use Rattle.race_share.specs.Offered.{RanksBelow}
 use Rattle.symbol_race.specs.Ranks.{IsParts, IsRank, RanksMade}
-use Rattle.wl_base.specs.Names.{number_of}
-use Rattle.linking_section.specs.declared.symbol.Symbol.{Symbol}
-use Rattle.linking_section.specs.declared.group.Group.{Group}
-use Rattle.linking_section.specs.Flags.{is_weak}
-use Rattle.object_file.specs.declared.object.Object.{Object}
-use Rattle.made_symbols.specs.declared.mode.Mode.{Mode}
-use Rattle.made_symbols.specs.declared.mode.Mode.TheVariants.{Plain, Shared}
-use Rattle.made_symbols.specs.Made.{MadeSymbol, made}
-use Rattle.link_names.specs.Numbered.{Numbered, AreNumbers, symbol_number}
-use Rattle.name_rules.specs.Entries.{Entry, is_entry, name_of, made_from, made_entry, entries_from, entry_in, symbols_of}
-use Rattle.name_rules.specs.Meanings.{entry_rank, where_given}
+use Rattle.name_entries.specs.wl_base.Names.{number_of}
+use Rattle.name_entries.specs.linking_section.declared.symbol.Symbol.{Symbol}
+use Rattle.name_entries.specs.linking_section.declared.group.Group.{Group}
+use Rattle.name_entries.specs.linking_section.Flags.{is_weak}
+use Rattle.name_entries.specs.object_file.declared.object.Object.{Object}
+use Rattle.name_entries.specs.made_symbols.declared.mode.Mode.{Mode}
+use Rattle.name_entries.specs.made_symbols.declared.mode.Mode.TheVariants.{Plain, Shared}
+use Rattle.name_entries.specs.made_symbols.Made.{MadeSymbol, made}
+use Rattle.name_entries.specs.link_names.Numbered.{Numbered, AreNumbers, symbol_number}
+use Rattle.name_entries.specs.name_rules.Entries.{Entry, is_entry, name_of, made_from, made_entry, entries_from, entry_in, symbols_of}
+use Rattle.name_entries.specs.name_rules.Meanings.{entry_rank, where_given}
 use Rattle.name_entries.specs.View.{InputsRise, rows_of, entry_number}
 use Rattle.name_jobs.specs.Offers.{entry_offer, name_jobs, group_offer, group_jobs}
 use Rattle.least_race.proofs.Least.{In}

@@ -6,12 +6,12 @@ use Rattle.std.proofs.lemmas.List.{map-append}
 use Rattle.least_race.specs.declared.party.Offer.{Offer}
 use Rattle.least_race.specs.Jobs.{Job, offers_in}
 use Rattle.least_race.specs.Race.{offer}
-use Rattle.wl_base.specs.Names.{number_of}
-use Rattle.object_file.specs.declared.object.Object.{Object}
-use Rattle.made_symbols.specs.declared.mode.Mode.{Mode}
-use Rattle.made_symbols.specs.Made.{MadeSymbol, made}
-use Rattle.name_rules.specs.Entries.{Entry, is_entry, is_named, name_of, made_from, made_entry, symbols_of, entries}
-use Rattle.name_rules.specs.Meanings.{entry_rank, winner, where_given, least}
+use Rattle.name_entries.specs.wl_base.Names.{number_of}
+use Rattle.name_entries.specs.object_file.declared.object.Object.{Object}
+use Rattle.name_entries.specs.made_symbols.declared.mode.Mode.{Mode}
+use Rattle.name_entries.specs.made_symbols.Made.{MadeSymbol, made}
+use Rattle.name_entries.specs.name_rules.Entries.{Entry, is_entry, is_named, name_of, made_from, made_entry, symbols_of, entries}
+use Rattle.name_entries.specs.name_rules.Meanings.{entry_rank, winner, where_given, least}
 use Rattle.name_jobs.specs.Offers.{entry_offer, name_jobs}
 use Rattle.name_jobs.proofs.Items.{LeastIn, all_offers}
 use Rattle.name_jobs.proofs.Numbers.{placed}

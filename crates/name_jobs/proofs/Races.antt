@@ -4,17 +4,17 @@ use Rattle.std.specs.Prelude.{Option, bytes_eq}
 use Rattle.std.specs.List.{IsDistinct}
 use Rattle.std.proofs.lemmas.List.{length-replicate, get_or-replicate}
 use Rattle.std.proofs.lemmas.Option.{slice_get_within}
-use Rattle.object_file.specs.declared.object.Object.{Object}
-use Rattle.made_symbols.specs.declared.mode.Mode.{Mode}
+use Rattle.name_entries.specs.object_file.declared.object.Object.{Object}
+use Rattle.name_entries.specs.made_symbols.declared.mode.Mode.{Mode}
 use Rattle.least_race.specs.Jobs.{Job, WordsBelow, IsLeastOf, IsOffered}
 use Rattle.least_race.specs.Schedule.{IsRun, begun}
 use Rattle.least_race.proofs.Schedules.{every_complete}
 use Rattle.least_race.specs.Race.{end}
 use Rattle.symbol_race.specs.Ranks.{RanksMade}
 use Rattle.race_share.specs.Offered.{RanksBelow, IsLeastOffer}
-use Rattle.link_names.specs.Numbered.{Numbered, AreNumbers}
-use Rattle.name_rules.specs.Entries.{entries, group_winner}
-use Rattle.name_rules.specs.Meanings.{entry_rank, winner}
+use Rattle.name_entries.specs.link_names.Numbered.{Numbered, AreNumbers}
+use Rattle.name_entries.specs.name_rules.Entries.{entries, group_winner}
+use Rattle.name_entries.specs.name_rules.Meanings.{entry_rank, winner}
 use Rattle.name_entries.specs.View.{InputsRise, GroupsAre, WinnersAre}
 use Rattle.name_jobs.specs.Offers.{group_jobs, name_jobs}
 use Rattle.name_jobs.specs.Races.{unset, unset_words, EndsAs, NameRace, GroupRace}

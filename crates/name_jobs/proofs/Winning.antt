@@ -7,8 +7,8 @@ use native.Mathlib.Decide.{dec_le}
 use Rattle.least_race.specs.declared.party.Offer.{Offer}
 use Rattle.least_race.specs.Jobs.{Job, offers_in}
 use Rattle.least_race.specs.Race.{offer}
-use Rattle.name_rules.specs.Entries.{Entry}
-use Rattle.name_rules.specs.Meanings.{entry_rank, least, lesser}
+use Rattle.name_entries.specs.name_rules.Entries.{Entry}
+use Rattle.name_entries.specs.name_rules.Meanings.{entry_rank, least, lesser}
 use Rattle.least_race.proofs.Least.{In}
 use Rattle.name_jobs.proofs.Items.{in_left, in_right, in_either, LeastIn}
 

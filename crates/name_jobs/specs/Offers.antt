@@ -1,15 +1,15 @@
 -- The jobs of the two races: what each symbol and each group offers.
 use Rattle.std.specs.Prelude.{ℕ, List, ◌∷◌, map, Option, option_map}
-use Rattle.wl_base.specs.Names.{number_of}
-use Rattle.linking_section.specs.declared.group.Group.{Group}
-use Rattle.object_file.specs.declared.object.Object.{Object}
-use Rattle.made_symbols.specs.declared.mode.Mode.{Mode}
-use Rattle.made_symbols.specs.Made.{made}
+use Rattle.name_entries.specs.wl_base.Names.{number_of}
+use Rattle.name_entries.specs.linking_section.declared.group.Group.{Group}
+use Rattle.name_entries.specs.object_file.declared.object.Object.{Object}
+use Rattle.name_entries.specs.made_symbols.declared.mode.Mode.{Mode}
+use Rattle.name_entries.specs.made_symbols.Made.{made}
 use Rattle.least_race.specs.declared.party.Offer.{Offer}
 use Rattle.least_race.specs.Jobs.{Job}
 use Rattle.least_race.specs.Race.{offer}
-use Rattle.name_rules.specs.Entries.{Entry, made_from}
-use Rattle.name_rules.specs.Meanings.{entry_rank, where_given}
+use Rattle.name_entries.specs.name_rules.Entries.{Entry, made_from}
+use Rattle.name_entries.specs.name_rules.Meanings.{entry_rank, where_given}
 use Rattle.name_entries.specs.View.{rows_of, entry_number}
 
 -- ---- groups

@@ -1,13 +1,13 @@
 -- How the two races end, whatever the order of their steps.
 use Rattle.std.specs.Prelude.{◌≡◌, ℕ, ◌≤◌, List, length, replicate, slice_get, slice_index, Option, Some, option_map, unwrap_or}
-use Rattle.object_file.specs.declared.object.Object.{Object}
-use Rattle.made_symbols.specs.declared.mode.Mode.{Mode}
+use Rattle.name_entries.specs.object_file.declared.object.Object.{Object}
+use Rattle.name_entries.specs.made_symbols.declared.mode.Mode.{Mode}
 use Rattle.least_race.specs.Jobs.{Job}
 use Rattle.least_race.specs.Race.{Event, end}
 use Rattle.least_race.specs.Schedule.{IsSchedule, IsComplete, begun}
-use Rattle.link_names.specs.Numbered.{Numbered, AreNumbers}
-use Rattle.name_rules.specs.Entries.{entries, group_winner}
-use Rattle.name_rules.specs.Meanings.{entry_rank, winner}
+use Rattle.name_entries.specs.link_names.Numbered.{Numbered, AreNumbers}
+use Rattle.name_entries.specs.name_rules.Entries.{entries, group_winner}
+use Rattle.name_entries.specs.name_rules.Meanings.{entry_rank, winner}
 use Rattle.name_entries.specs.View.{InputsRise}
 use Rattle.name_jobs.specs.Offers.{group_jobs, name_jobs}
 

@@ -1,9 +1,9 @@
 -- Worked offers.
 use Rattle.std.specs.Prelude.{◌≡◌, ℕ, false, List, [], ◌∷◌, Some, None, slice_index_or, refl, codes}
-use Rattle.linking_section.specs.declared.symbol.SymbolKind.TheVariants.{Function}
-use Rattle.made_symbols.specs.declared.mode.Mode.TheVariants.{Plain}
+use Rattle.name_entries.specs.linking_section.declared.symbol.SymbolKind.TheVariants.{Function}
+use Rattle.name_entries.specs.made_symbols.declared.mode.Mode.TheVariants.{Plain}
 use Rattle.least_race.specs.Race.{offer}
-use Rattle.name_rules.specs.Rows.{f, symbol, defined, wanted, both}
+use Rattle.name_entries.specs.name_rules.Rows.{f, symbol, defined, wanted, both}
 use Rattle.name_jobs.specs.Offers.{entry_offer, group_jobs, name_jobs}
 
 -- the name f has number 1

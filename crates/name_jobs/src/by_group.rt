@@ -5,8 +5,8 @@ ghost use Rattle.name_entries.specs.Fits.{GroupsAreNumbered};
 ghost use Rattle.name_jobs.specs.Offers.{group_jobs};
 
 use least_race::{Jobs, Offer};
-use link_names::Names;
-use object_file::Object;
+use name_entries::link_names::Names;
+use name_entries::object_file::Object;
 use std::marker::Model;
 
 /// The jobs of the race for groups. A job is an object, an item one of its groups, which offers the

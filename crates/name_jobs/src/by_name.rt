@@ -1,16 +1,16 @@
 //! The jobs of the race for names.
 ghost use Rattle.std.specs.Prelude.{◌≡◌, ◌<◌, None, Some, length, map, option_and_then, slice_index_or};
-ghost use Rattle.wl_base.specs.Names.{number_of};
-ghost use Rattle.made_symbols.specs.Made.{made};
-ghost use Rattle.name_rules.specs.Entries.{made_from};
+ghost use Rattle.name_entries.specs.wl_base.Names.{number_of};
+ghost use Rattle.name_entries.specs.made_symbols.Made.{made};
+ghost use Rattle.name_entries.specs.name_rules.Entries.{made_from};
 ghost use Rattle.name_entries.specs.View.{entry_at};
 ghost use Rattle.name_entries.specs.Fits.{Fits, FitsObjects};
 ghost use Rattle.name_jobs.specs.Offers.{entry_offer, name_jobs};
 
 use least_race::{Jobs, Offer};
-use link_names::Names;
-use made_symbols::Mode;
 use name_entries::Entries;
+use name_entries::link_names::Names;
+use name_entries::made_symbols::Mode;
 use std::marker::Model;
 use symbol_race::rank;
 
@@ -56,7 +56,7 @@ impl Jobs for NameJobs<'_> {
     fn items(&self, job: u32) -> u32 {
         match job.checked_sub(1) {
             Some(object) => self.entries.symbols(object),
-            None => made_symbols::count(self.mode),
+            None => name_entries::made_symbols::count(self.mode),
         }
     }
 
@@ -75,7 +75,7 @@ fn made_offer(names: &Names, mode: Mode, k: u32) -> Option<Offer>
     ensures { result ≡ slice_index_or (map (entry_offer names.now.names) (made_from 0 (made mode))) k None }
 {
     let word = names.made(k)?;
-    let rank = rank(made_symbols::class(mode, k), 0, k);
+    let rank = rank(name_entries::made_symbols::class(mode, k), 0, k);
     Some(Offer { word, rank })
 }
 

@@ -1,21 +1,21 @@
 //! The two races over these jobs.
 ghost use Rattle.std.specs.Prelude.{IfOk, bytes_eq};
 ghost use Rattle.std.specs.List.{IsDistinct};
-ghost use Rattle.name_rules.specs.Entries.{entries as all_entries};
+ghost use Rattle.name_entries.specs.name_rules.Entries.{entries as all_entries};
 ghost use Rattle.name_entries.specs.View.{GroupsAre, InputsRise, WinnersAre};
 ghost use Rattle.name_entries.specs.Fits.{Fits, GroupsAreNumbered};
 
 use crate::by_group::GroupJobs;
 use crate::by_name::NameJobs;
 use comdat_pick::{ComdatWinners, pick};
-use link_names::Names;
-use made_symbols::Mode;
 use name_entries::Entries;
-use object_file::Object;
+use name_entries::link_names::Names;
+use name_entries::made_symbols::Mode;
+use name_entries::object_file::Object;
+use name_entries::wl_base::OutOfMemory;
 use std::alloc::Global;
 use std::thread::Threads;
 use symbol_race::{Winners, race};
-use wl_base::OutOfMemory;
 use wl_fan::Workers;
 use wl_outside::Gate;
 

@@ -1,14 +1,14 @@
 //! Both races over objects that were read, by one worker and by several.
 ghost use Rattle.std.specs.Prelude.{IfSome, IsTrue};
-ghost use Rattle.made_symbols.specs.declared.mode.Mode.TheVariants.{Plain};
-ghost use Rattle.link_names.specs.Numbered.{AreNumbers};
+ghost use Rattle.name_entries.specs.made_symbols.declared.mode.Mode.TheVariants.{Plain};
+ghost use Rattle.name_entries.specs.link_names.Numbered.{AreNumbers};
 ghost use Rattle.name_entries.specs.View.{InputsRise};
 
 use super::*;
-use link_names::Names;
-use made_symbols::Mode;
 use name_entries::EntryTable;
-use object_file::{Object, read_object};
+use name_entries::link_names::Names;
+use name_entries::made_symbols::Mode;
+use name_entries::object_file::{Object, read_object};
 use std::alloc::Global;
 use std::thread::Threads;
 use symbol_race::rank;

@@ -11,12 +11,12 @@ use Rattle.std.proofs.lemmas.List.Sums.{position_or_len_is, prefix_len_stops}
 use Rattle.std.proofs.lemmas.Map.Keys.{apart_from_distinct}
 use Rattle.std.proofs.lemmas.Option.{slice_get_within, get_or_from_slice_get, slice_get-get_or}
 use Rattle.std.proofs.lemmas.Slice.Eq.{bytes_eq-Decides}
-use Rattle.wl_base.specs.Names.{number_of}
-use Rattle.object_file.specs.declared.object.Object.{Object}
-use Rattle.made_symbols.specs.declared.mode.Mode.{Mode}
-use Rattle.made_symbols.specs.Made.{MadeSymbol, made}
-use Rattle.name_rules.specs.Entries.{Entry, made_entry, made_from, is_entry, entries, name_of, is_named, named}
-use Rattle.name_rules.specs.Meanings.{references}
+use Rattle.name_entries.specs.wl_base.Names.{number_of}
+use Rattle.name_entries.specs.object_file.declared.object.Object.{Object}
+use Rattle.name_entries.specs.made_symbols.declared.mode.Mode.{Mode}
+use Rattle.name_entries.specs.made_symbols.Made.{MadeSymbol, made}
+use Rattle.name_entries.specs.name_rules.Entries.{Entry, made_entry, made_from, is_entry, entries, name_of, is_named, named}
+use Rattle.name_entries.specs.name_rules.Meanings.{references}
 use Rattle.name_meanings.specs.Columns.{is_number, is_reference_of, all_symbols}
 use Rattle.name_meanings.proofs.Filters.{filter_both, filter_same}
 

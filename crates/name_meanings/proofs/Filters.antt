@@ -1,7 +1,7 @@
 -- Filters, and the first value of a list.
 use Rattle.std.proofs.Common.{◌≡◌, Bool, true, false, ◌&&◌, List, [], ◌∷◌, ◌++◌, refl, Option, Some, None}
 use Rattle.std.specs.Prelude.{filter, if◌then◌else◌}
-use Rattle.wl_base.specs.Choice.{first_some}
+use Rattle.name_entries.specs.wl_base.Choice.{first_some}
 use Rattle.name_meanings.specs.Columns.{or_else}
 
 both_tests : {X : Type 0} (x : X) (a b : Bool) (p : X → Bool) (inner outer : List X) → p x ≡ b → filter p inner ≡ outer

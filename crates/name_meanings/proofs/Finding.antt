@@ -6,16 +6,16 @@ use Rattle.std.proofs.lemmas.Bool.{cases_eq}
 use Rattle.std.proofs.lemmas.List.{length-set, get_or_append_left}
 use Rattle.std.proofs.lemmas.List.Folds.{list_any_at}
 use Rattle.std.proofs.lemmas.Option.{slice_get_within, get_or_from_slice_get, slice_get-get_or}
-use Rattle.wl_base.specs.Choice.{distinct_onto}
-use Rattle.linking_section.specs.declared.symbol.SymbolKind.TheVariants.{Function, GlobalVar}
+use Rattle.name_entries.specs.wl_base.Choice.{distinct_onto}
+use Rattle.name_entries.specs.linking_section.declared.symbol.SymbolKind.TheVariants.{Function, GlobalVar}
 use Rattle.symbol_race.specs.Ranks.{IsParts}
-use Rattle.object_columns.specs.Seen.{symbol_seen}
-use Rattle.object_file.specs.declared.object.Object.{Object}
-use Rattle.made_symbols.specs.declared.mode.Mode.TheVariants.{Plain}
-use Rattle.name_rules.specs.declared.meaning.Meaning.{Meaning as Told}
-use Rattle.name_rules.specs.declared.meaning.Meaning.TheVariants.{Here, Import, Null, Nothing}
-use Rattle.name_rules.specs.Entries.{Entry, ImportKey, is_kind, name_of, named, entries, same_import}
-use Rattle.name_rules.specs.Meanings.{Meaning, here, imported, null, nothing, winner, entry_rank, references, least_import, may_import, may_be_null, where_given, own_meaning}
+use Rattle.name_entries.specs.object_columns.Seen.{symbol_seen}
+use Rattle.name_entries.specs.object_file.declared.object.Object.{Object}
+use Rattle.name_entries.specs.made_symbols.declared.mode.Mode.TheVariants.{Plain}
+use Rattle.name_entries.specs.name_rules.declared.meaning.Meaning.{Meaning as Told}
+use Rattle.name_entries.specs.name_rules.declared.meaning.Meaning.TheVariants.{Here, Import, Null, Nothing}
+use Rattle.name_entries.specs.name_rules.Entries.{Entry, ImportKey, is_kind, name_of, named, entries, same_import}
+use Rattle.name_entries.specs.name_rules.Meanings.{Meaning, here, imported, null, nothing, winner, entry_rank, references, least_import, may_import, may_be_null, where_given, own_meaning}
 use Rattle.name_entries.specs.declared.entry.EntryRef.{EntryRef}
 use Rattle.name_entries.specs.View.{entry_at}
 use Rattle.name_entries.specs.Shown.{Shows, AreShown}

@@ -6,8 +6,8 @@ use Rattle.std.proofs.Math.Seq.{take-append_seam}
 use Rattle.std.proofs.lemmas.Grind.{flat_map-append}
 use Rattle.std.proofs.lemmas.List.Folds.{flat_map-map}
 use Rattle.std.proofs.lemmas.Option.{slice_get-get_or}
-use Rattle.object_file.specs.declared.object.Object.{Object}
-use Rattle.name_rules.specs.Entries.{Entry, symbols_of}
+use Rattle.name_entries.specs.object_file.declared.object.Object.{Object}
+use Rattle.name_entries.specs.name_rules.Entries.{Entry, symbols_of}
 use Rattle.name_entries.specs.View.{rows_of}
 use Rattle.name_meanings.specs.declared.columns.Column.{Column}
 use Rattle.name_meanings.specs.Columns.{AreColumns, all_symbols}

@@ -9,17 +9,17 @@ use Rattle.std.proofs.Math.Bool.{or-false, and-true, and-false}
 use Rattle.std.proofs.lemmas.Bool.{eqb-true, eq-eqb, cases_eq}
 use Rattle.std.proofs.lemmas.Bool.Decides.{nat_tests}
 use Rattle.std.proofs.lemmas.Grind.{common_steps}
-use Rattle.wl_base.specs.Names.{number_of}
-use Rattle.wl_base.specs.Choice.{first_some, given}
-use Rattle.linking_section.specs.Flags.{is_weak, is_explicit}
-use Rattle.object_file.specs.declared.object.Object.{Object}
-use Rattle.name_rules.specs.Entries.{Entry, ImportKey, key_of, is_entry, name_of}
-use Rattle.name_rules.specs.Meanings.{least_import}
+use Rattle.name_entries.specs.wl_base.Names.{number_of}
+use Rattle.name_entries.specs.wl_base.Choice.{first_some, given}
+use Rattle.name_entries.specs.linking_section.Flags.{is_weak, is_explicit}
+use Rattle.name_entries.specs.object_file.declared.object.Object.{Object}
+use Rattle.name_entries.specs.name_rules.Entries.{Entry, ImportKey, key_of, is_entry, name_of}
+use Rattle.name_entries.specs.name_rules.Meanings.{least_import}
 use Rattle.name_entries.specs.View.{entry_at, entry_number}
 use Rattle.name_entries.specs.declared.entry.EntryRef.{EntryRef}
 use Rattle.name_entries.specs.Shown.{Shows, AreShown}
-use Rattle.object_columns.specs.declared.imports.ImportRef.{ImportRef}
-use Rattle.object_columns.specs.Seen.{symbol_seen, import_seen}
+use Rattle.name_entries.specs.object_columns.declared.imports.ImportRef.{ImportRef}
+use Rattle.name_entries.specs.object_columns.Seen.{symbol_seen, import_seen}
 use Rattle.name_meanings.specs.declared.columns.At.{At}
 use Rattle.name_meanings.specs.declared.columns.Column.{Column}
 use Rattle.name_meanings.specs.Columns.{or_else, import_at, StandsOn, is_number, is_reference_of, IsColumn, AreColumns, empty_column}

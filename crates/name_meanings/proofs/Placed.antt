@@ -6,17 +6,17 @@ use Rattle.std.proofs.lemmas.List.Elements.{All-head, All-tail}
 use Rattle.std.proofs.lemmas.Bool.{and_parts, ltb-true}
 use Rattle.std.proofs.lemmas.Option.{slice_get_within, get_or_from_slice_get}
 use Rattle.std.proofs.lemmas.List.{length-map}
-use Rattle.wl_base.specs.Names.{number_of}
-use Rattle.linking_section.specs.declared.symbol.Symbol.{Symbol}
-use Rattle.linking_section.specs.Flags.{is_weak}
+use Rattle.name_entries.specs.wl_base.Names.{number_of}
+use Rattle.name_entries.specs.linking_section.declared.symbol.Symbol.{Symbol}
+use Rattle.name_entries.specs.linking_section.Flags.{is_weak}
 use Rattle.symbol_race.specs.Ranks.{IsParts}
-use Rattle.object_file.specs.declared.object.Object.{Object}
-use Rattle.made_symbols.specs.declared.mode.Mode.{Mode}
-use Rattle.made_symbols.specs.declared.mode.Mode.TheVariants.{Plain}
-use Rattle.made_symbols.specs.Made.{MadeSymbol, made}
-use Rattle.link_names.specs.Numbered.{Numbered, AreNumbers, is_entry_symbol, symbol_name, symbol_number, entry_names, Held, Short}
-use Rattle.name_rules.specs.Entries.{Entry, entries_from, made_from, is_entry, entries, name_of, is_named, symbols_of, named}
-use Rattle.name_rules.specs.Meanings.{entry_rank, lesser, least, winner, definitions}
+use Rattle.name_entries.specs.object_file.declared.object.Object.{Object}
+use Rattle.name_entries.specs.made_symbols.declared.mode.Mode.{Mode}
+use Rattle.name_entries.specs.made_symbols.declared.mode.Mode.TheVariants.{Plain}
+use Rattle.name_entries.specs.made_symbols.Made.{MadeSymbol, made}
+use Rattle.name_entries.specs.link_names.Numbered.{Numbered, AreNumbers, is_entry_symbol, symbol_name, symbol_number, entry_names, Held, Short}
+use Rattle.name_entries.specs.name_rules.Entries.{Entry, entries_from, made_from, is_entry, entries, name_of, is_named, symbols_of, named}
+use Rattle.name_entries.specs.name_rules.Meanings.{entry_rank, lesser, least, winner, definitions}
 use Rattle.name_entries.specs.View.{rows_of, entry_at, entry_number, InputsRise}
 
 abbrev pub Each : (Entry → Type 0) → List Entry → Type 0

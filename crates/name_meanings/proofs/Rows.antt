@@ -5,11 +5,11 @@ use Rattle.std.specs.List.{AllZip, list_any}
 use Rattle.std.proofs.lemmas.List.{take_more, map-append}
 use Rattle.std.proofs.lemmas.List.Elements.{filter_map-append}
 use Rattle.std.proofs.lemmas.Option.{slice_get-get_or}
-use Rattle.wl_base.specs.Choice.{distinct_onto}
-use Rattle.name_rules.specs.declared.meaning.Meaning.{Meaning as Told}
-use Rattle.name_rules.specs.declared.meaning.Meaning.TheVariants.{Here, Made, Import, Null, Nothing}
-use Rattle.name_rules.specs.Entries.{Entry, ImportKey, same_import}
-use Rattle.name_rules.specs.Meanings.{Meaning, here, imported, null, nothing}
+use Rattle.name_entries.specs.wl_base.Choice.{distinct_onto}
+use Rattle.name_entries.specs.name_rules.declared.meaning.Meaning.{Meaning as Told}
+use Rattle.name_entries.specs.name_rules.declared.meaning.Meaning.TheVariants.{Here, Made, Import, Null, Nothing}
+use Rattle.name_entries.specs.name_rules.Entries.{Entry, ImportKey, same_import}
+use Rattle.name_entries.specs.name_rules.Meanings.{Meaning, here, imported, null, nothing}
 use Rattle.name_meanings.specs.declared.naming.Known.{Known}
 use Rattle.name_meanings.specs.declared.naming.Found.{Found}
 use Rattle.name_meanings.specs.Means.{Means, import_meant}

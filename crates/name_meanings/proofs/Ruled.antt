@@ -1,12 +1,12 @@
 -- The rules, by what decides them.
 use Rattle.std.proofs.Common.{◌≡◌, Bool, true, false, ◌&&◌, ◌∙◌, List, [], ◌∷◌, refl, ap, sym, Option, Some, None}
 use Rattle.std.specs.Prelude.{filter, if◌then◌else◌, option_map, unwrap_or}
-use Rattle.wl_base.specs.Choice.{first_some, given}
-use Rattle.linking_section.specs.Flags.{is_explicit}
-use Rattle.object_file.specs.declared.object.Object.{Object}
-use Rattle.made_symbols.specs.declared.mode.Mode.TheVariants.{Plain}
-use Rattle.name_rules.specs.Entries.{Entry, ImportKey, is_entry, name_of, named}
-use Rattle.name_rules.specs.Meanings.{Meaning, here, imported, null, nothing, winner, references, least_import, may_import, may_be_null, where_given, own_meaning, meaning, by_rules, no_uses}
+use Rattle.name_entries.specs.wl_base.Choice.{first_some, given}
+use Rattle.name_entries.specs.linking_section.Flags.{is_explicit}
+use Rattle.name_entries.specs.object_file.declared.object.Object.{Object}
+use Rattle.name_entries.specs.made_symbols.declared.mode.Mode.TheVariants.{Plain}
+use Rattle.name_entries.specs.name_rules.Entries.{Entry, ImportKey, is_entry, name_of, named}
+use Rattle.name_entries.specs.name_rules.Meanings.{Meaning, here, imported, null, nothing, winner, references, least_import, may_import, may_be_null, where_given, own_meaning, meaning, by_rules, no_uses}
 use Rattle.name_meanings.specs.declared.columns.At.{At}
 use Rattle.name_meanings.specs.Columns.{or_else, import_at, StandsOn}
 use Rattle.name_meanings.proofs.Noted.{map_or}

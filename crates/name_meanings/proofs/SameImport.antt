@@ -4,8 +4,8 @@ use Rattle.std.specs.Prelude.{map, slice_get, if◌then◌else◌, bytes_eq, opt
 use Rattle.std.specs.List.{list_any}
 use Rattle.std.proofs.lemmas.Option.{slice_get-map}
 use Rattle.std.proofs.lemmas.Slice.Eq.{bytes_eq-Decides}
-use Rattle.wasm_types.specs.SameLaws.{same_type_is, same_global_type_is}
-use Rattle.name_rules.specs.Entries.{SymbolType, of_function, of_global, untyped, ImportKey, same_symbol_type, same_import}
+use Rattle.name_entries.specs.wasm_types.SameLaws.{same_type_is, same_global_type_is}
+use Rattle.name_entries.specs.name_rules.Entries.{SymbolType, of_function, of_global, untyped, ImportKey, same_symbol_type, same_import}
 use Rattle.name_meanings.specs.declared.imports.ImportType.{ImportType}
 use Rattle.name_meanings.specs.declared.imports.ImportType.TheVariants.{Function, GlobalVar, Untyped}
 use Rattle.name_meanings.specs.declared.imports.OutputImport.{OutputImport}

@@ -6,12 +6,12 @@ use Rattle.std.proofs.lemmas.List.{take_more, take_all, map-append, append-nil, 
 use Rattle.std.proofs.lemmas.List.Elements.{All-append, All-cons, All-nil}
 use Rattle.std.proofs.lemmas.Grind.{flat_map-append}
 use Rattle.std.proofs.lemmas.Option.{slice_get-map, get_or_from_slice_get, slice_get-get_or}
-use Rattle.object_file.specs.declared.object.Object.{Object}
-use Rattle.name_rules.specs.declared.meaning.Meaning.{Meaning as Told}
-use Rattle.name_rules.specs.Entries.{ImportKey, entries, symbols_of}
-use Rattle.name_rules.specs.Meanings.{Meaning, Resolved, resolve}
-use Rattle.made_symbols.specs.declared.mode.Mode.{Mode}
-use Rattle.made_symbols.specs.declared.mode.Mode.TheVariants.{Plain}
+use Rattle.name_entries.specs.object_file.declared.object.Object.{Object}
+use Rattle.name_entries.specs.name_rules.declared.meaning.Meaning.{Meaning as Told}
+use Rattle.name_entries.specs.name_rules.Entries.{ImportKey, entries, symbols_of}
+use Rattle.name_entries.specs.name_rules.Meanings.{Meaning, Resolved, resolve}
+use Rattle.name_entries.specs.made_symbols.declared.mode.Mode.{Mode}
+use Rattle.name_entries.specs.made_symbols.declared.mode.Mode.TheVariants.{Plain}
 use Rattle.name_entries.specs.View.{rows_of, InputsRise}
 use Rattle.name_meanings.specs.declared.naming.Known.{Known}
 use Rattle.name_meanings.specs.declared.naming.Found.{Found}

@@ -1,10 +1,10 @@
 -- What the columns of names tell of the references of each name.
 use Rattle.std.specs.Prelude.{◌≡◌, ℕ, ◌<◌, ◌==◌, Bool, false, not, ◌&&◌, List, filter, flat_map, length, slice_index_or, Option, Some, None, option_map, option_and_then}
 use Rattle.std.specs.List.{list_any}
-use Rattle.linking_section.specs.Flags.{is_weak, is_explicit}
-use Rattle.object_file.specs.declared.object.Object.{Object}
-use Rattle.name_rules.specs.Entries.{Entry, ImportKey, symbols_of}
-use Rattle.name_rules.specs.Meanings.{least_import}
+use Rattle.name_entries.specs.linking_section.Flags.{is_weak, is_explicit}
+use Rattle.name_entries.specs.object_file.declared.object.Object.{Object}
+use Rattle.name_entries.specs.name_rules.Entries.{Entry, ImportKey, symbols_of}
+use Rattle.name_entries.specs.name_rules.Meanings.{least_import}
 use Rattle.name_entries.specs.View.{entry_at, entry_number}
 use Rattle.name_entries.specs.declared.lookups.Entries.{Entries}
 use Rattle.name_meanings.specs.declared.columns.At.{At}

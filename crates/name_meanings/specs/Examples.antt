@@ -1,8 +1,8 @@
 -- Worked imports: one where module, field and type are equal.
 use Rattle.std.specs.Prelude.{◌≡◌, [], ◌∷◌, refl, codes}
-use Rattle.name_rules.specs.Entries.{ImportKey, untyped}
-use Rattle.name_rules.specs.Meanings.{imported, null}
-use Rattle.name_rules.specs.Rows.{f, key}
+use Rattle.name_entries.specs.name_rules.Entries.{ImportKey, untyped}
+use Rattle.name_entries.specs.name_rules.Meanings.{imported, null}
+use Rattle.name_entries.specs.name_rules.Rows.{f, key}
 use Rattle.name_meanings.specs.Means.{imports_meant}
 
 abbrev other_module : ImportKey

@@ -1,10 +1,10 @@
 -- Imports of the output.
 use Rattle.std.specs.Prelude.{List, [], ◌∷◌}
-use Rattle.wl_base.specs.Choice.{distinct_onto}
+use Rattle.name_entries.specs.wl_base.Choice.{distinct_onto}
 use Rattle.name_meanings.specs.declared.imports.ImportType.{ImportType}
 use Rattle.name_meanings.specs.declared.imports.ImportType.TheVariants.{Function, GlobalVar, Untyped}
 use Rattle.name_meanings.specs.declared.imports.OutputImport.{OutputImport}
-use Rattle.name_rules.specs.Entries.{SymbolType, of_function, of_global, untyped, ImportKey, same_import}
+use Rattle.name_entries.specs.name_rules.Entries.{SymbolType, of_function, of_global, untyped, ImportKey, same_import}
 
 abbrev pub type_kept : ImportType → SymbolType
 type_kept (Function t) = of_function t

@@ -1,12 +1,12 @@
 -- What the rules look at, by the numbers of names, and the imports that were found so far.
 use Rattle.std.specs.Prelude.{◌≡◌, ℕ, ◌<◌, ◌-◌, map, take, drop, List, [], ◌∷◌, length, filter_map, Option, Some, None, slice_get, slice_index_or, option_and_then}
 use Rattle.std.specs.List.{All, AllZip}
-use Rattle.wl_base.specs.Choice.{distinct_onto}
-use Rattle.object_file.specs.declared.object.Object.{Object}
-use Rattle.made_symbols.specs.declared.mode.Mode.TheVariants.{Plain}
-use Rattle.name_rules.specs.declared.meaning.Meaning.{Meaning as Told}
-use Rattle.name_rules.specs.Entries.{Entry, ImportKey, same_import, entries}
-use Rattle.name_rules.specs.Meanings.{Meaning, Resolved, meaning, no_uses, resolved_in}
+use Rattle.name_entries.specs.wl_base.Choice.{distinct_onto}
+use Rattle.name_entries.specs.object_file.declared.object.Object.{Object}
+use Rattle.name_entries.specs.made_symbols.declared.mode.Mode.TheVariants.{Plain}
+use Rattle.name_entries.specs.name_rules.declared.meaning.Meaning.{Meaning as Told}
+use Rattle.name_entries.specs.name_rules.Entries.{Entry, ImportKey, same_import, entries}
+use Rattle.name_entries.specs.name_rules.Meanings.{Meaning, Resolved, meaning, no_uses, resolved_in}
 use Rattle.name_entries.specs.View.{WinnersAre, InputsRise}
 use Rattle.name_entries.specs.Fits.{Fits}
 use Rattle.name_meanings.specs.declared.columns.Column.{Column}

@@ -1,11 +1,11 @@
 -- What a symbol's answer tells, with imports by number.
 use Rattle.std.specs.Prelude.{◌≡◌, ℕ, ◌<◌, List, [], filter_map, flat_map, Option, Some, None, slice_get, slice_index_or}
 use Rattle.std.specs.List.{All, AllZip}
-use Rattle.wl_base.specs.Choice.{distinct}
-use Rattle.name_rules.specs.declared.meaning.Meaning.{Meaning as Told}
-use Rattle.name_rules.specs.declared.meaning.Meaning.TheVariants.{Here, Made, Import, Null, Nothing}
-use Rattle.name_rules.specs.Entries.{ImportKey, same_import}
-use Rattle.name_rules.specs.Meanings.{Meaning, here, imported, null, nothing, Resolved}
+use Rattle.name_entries.specs.wl_base.Choice.{distinct}
+use Rattle.name_entries.specs.name_rules.declared.meaning.Meaning.{Meaning as Told}
+use Rattle.name_entries.specs.name_rules.declared.meaning.Meaning.TheVariants.{Here, Made, Import, Null, Nothing}
+use Rattle.name_entries.specs.name_rules.Entries.{ImportKey, same_import}
+use Rattle.name_entries.specs.name_rules.Meanings.{Meaning, here, imported, null, nothing, Resolved}
 
 -- The answer tells what the symbol means: a definition of an object by its input and place, one of the linker by its number, an import by
 -- its number among the imports.

@@ -1,17 +1,17 @@
 //! What the rules ask of the references of each name, by the name's number.
 ghost use Rattle.std.specs.Prelude.{◌≡◌, ◌++◌, ◌∷◌, ◌&&◌, ◌||◌, not, false, [], List, Some, None, length, slice_index_or, IfOk};
-ghost use Rattle.wl_base.specs.Choice.{given};
-ghost use Rattle.linking_section.specs.Flags.{is_weak, is_explicit};
-ghost use Rattle.object_columns.specs.Seen.{symbol_seen};
-ghost use Rattle.name_rules.specs.Entries.{Entry};
+ghost use Rattle.name_entries.specs.wl_base.Choice.{given};
+ghost use Rattle.name_entries.specs.linking_section.Flags.{is_weak, is_explicit};
+ghost use Rattle.name_entries.specs.object_columns.Seen.{symbol_seen};
+ghost use Rattle.name_entries.specs.name_rules.Entries.{Entry};
 ghost use Rattle.name_entries.specs.View.{rows_of, entry_at};
 ghost use Rattle.name_entries.specs.Fits.{FitsObjects};
 ghost use Rattle.name_meanings.specs.Columns.{or_else, AreColumnsOf, all_symbols};
 
 use name_entries::Entries;
-use object_columns::SymbolRef;
+use name_entries::object_columns::SymbolRef;
+use name_entries::wl_base::OutOfMemory;
 use std::alloc::Global;
-use wl_base::OutOfMemory;
 
 /// A symbol, by the place of its object among the objects and its place there.
 #[derive(Clone, Copy, Debug)]

@@ -1,17 +1,17 @@
 //! The imports that symbols mean, by number.
 ghost use Rattle.std.specs.Prelude.{◌≡◌, ◌<◌, [], Some, length, slice_get, IfOk, OnOk};
-ghost use Rattle.object_columns.specs.Seen.{import_seen};
-ghost use Rattle.name_rules.specs.Entries.{key_of};
+ghost use Rattle.name_entries.specs.object_columns.Seen.{import_seen};
+ghost use Rattle.name_entries.specs.name_rules.Entries.{key_of};
 ghost use Rattle.name_entries.specs.Shown.{type_seen};
 ghost use Rattle.name_meanings.specs.Kept.{type_kept, import_of, with_import};
 
 use indexmap::IndexSet;
 use name_entries::TypeRef;
-use object_columns::ImportRef;
+use name_entries::object_columns::ImportRef;
+use name_entries::wasm_types::{FuncType, ValType};
+use name_entries::wl_base::{Name, OutOfMemory, Seq};
 use std::alloc::Global;
 use std::marker::Model;
-use wasm_types::{FuncType, ValType};
-use wl_base::{Name, OutOfMemory, Seq};
 
 /// The type of an import.
 #[derive(Debug, PartialEq, Eq, Hash, Drop)]
@@ -74,7 +74,7 @@ pub(crate) struct ImportTable {
 
 impl Model for ImportTable {
     ghost use Rattle.std.specs.Prelude.{◌<◌, ◌^◌, List, length, map};
-    ghost use Rattle.name_rules.specs.Entries.{ImportKey};
+    ghost use Rattle.name_entries.specs.name_rules.Entries.{ImportKey};
     ghost use Rattle.name_meanings.specs.Kept.{import_of};
 
     ghost Value = { List ImportKey };

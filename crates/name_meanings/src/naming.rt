@@ -1,12 +1,12 @@
 //! What one symbol means.
 ghost use Rattle.std.specs.Prelude.{◌≡◌, ◌&&◌, ◌||◌, ◌<◌, List, Some, None, if◌then◌else◌, slice_get, slice_index_or, length, is_some, IsSome, IfOk};
 ghost use Rattle.symbol_race.specs.Ranks.{IsParts};
-ghost use Rattle.linking_section.specs.Flags.{is_weak};
-ghost use Rattle.linking_section.specs.declared.symbol.SymbolKind.TheVariants as kinds;
-ghost use Rattle.object_columns.specs.Seen.{symbol_seen};
-ghost use Rattle.name_rules.specs.Entries.{Entry, ImportKey, is_kind};
-ghost use Rattle.name_rules.specs.Meanings.{entry_rank, here, own_meaning, may_be_null, where_given};
-ghost use Rattle.name_rules.specs.declared.meaning.Meaning.TheVariants as told;
+ghost use Rattle.name_entries.specs.linking_section.Flags.{is_weak};
+ghost use Rattle.name_entries.specs.linking_section.declared.symbol.SymbolKind.TheVariants as kinds;
+ghost use Rattle.name_entries.specs.object_columns.Seen.{symbol_seen};
+ghost use Rattle.name_entries.specs.name_rules.Entries.{Entry, ImportKey, is_kind};
+ghost use Rattle.name_entries.specs.name_rules.Meanings.{entry_rank, here, own_meaning, may_be_null, where_given};
+ghost use Rattle.name_entries.specs.name_rules.declared.meaning.Meaning.TheVariants as told;
 ghost use Rattle.name_entries.specs.View.{entry_at};
 ghost use Rattle.name_entries.specs.Shown.{Shows};
 ghost use Rattle.name_entries.specs.Fits.{FitsObjects};
@@ -17,13 +17,13 @@ ghost use Rattle.name_meanings.specs.Known.{IsKnown, FoundBy, Finds, IsNumbered,
 
 use crate::columns::{At, Column};
 use crate::imports::{ImportTable, OutputImport};
-use linking_section::SymbolKind;
+use name_entries::linking_section::SymbolKind;
+use name_entries::name_rules::Meaning;
+use name_entries::object_columns::SymbolRef;
+use name_entries::wl_base::OutOfMemory;
 use name_entries::{Entries, EntryRef};
-use name_rules::Meaning;
-use object_columns::SymbolRef;
 use std::alloc::Global;
 use symbol_race::Winners;
-use wl_base::OutOfMemory;
 
 /// What the rules look at, by the numbers of names.
 #[derive(Clone, Copy)]

@@ -1,8 +1,8 @@
 //! The meanings of all symbols.
 ghost use Rattle.std.specs.Prelude.{◌≡◌, ◌≤◌, ℕ, [], map, length, slice_index_or, OnOk, IfOk};
-ghost use Rattle.made_symbols.specs.declared.mode.Mode.TheVariants as modes;
-ghost use Rattle.name_rules.specs.Entries.{entries as all_entries};
-ghost use Rattle.name_rules.specs.Meanings.{resolve as resolved};
+ghost use Rattle.name_entries.specs.made_symbols.declared.mode.Mode.TheVariants as modes;
+ghost use Rattle.name_entries.specs.name_rules.Entries.{entries as all_entries};
+ghost use Rattle.name_entries.specs.name_rules.Meanings.{resolve as resolved};
 ghost use Rattle.name_entries.specs.View.{rows_of, WinnersAre};
 ghost use Rattle.name_entries.specs.Fits.{Fits};
 ghost use Rattle.name_meanings.specs.Means.{row_of, IsResolution};
@@ -12,13 +12,13 @@ use crate::columns::columns_of;
 use crate::imports::ImportTable;
 use crate::naming::{Found, Known, meaning_of};
 use crate::resolution::Resolution;
-use made_symbols::Mode;
 use name_entries::Entries;
-use name_rules::Meaning;
+use name_entries::made_symbols::Mode;
+use name_entries::name_rules::Meaning;
+use name_entries::wl_base::{InputId, OutOfMemory, Seq};
+use name_entries::wl_lists::Lists;
 use std::alloc::Global;
 use symbol_race::Winners;
-use wl_base::{InputId, OutOfMemory, Seq};
-use wl_lists::Lists;
 
 /// The answers for the symbols of an object, in place of those that the row has.
 fn fill_row(

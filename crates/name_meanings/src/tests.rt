@@ -1,16 +1,16 @@
 //! What symbols of small objects mean.
 ghost use Rattle.std.specs.Prelude.{IsTrue};
-ghost use Rattle.made_symbols.specs.declared.mode.Mode.TheVariants.{Plain};
-ghost use Rattle.link_names.specs.Numbered.{AreNumbers};
+ghost use Rattle.name_entries.specs.made_symbols.declared.mode.Mode.TheVariants.{Plain};
+ghost use Rattle.name_entries.specs.link_names.Numbered.{AreNumbers};
 ghost use Rattle.name_entries.specs.View.{InputsRise};
 
 use super::*;
-use link_names::Names;
-use made_symbols::Mode;
 use name_entries::EntryTable;
+use name_entries::link_names::Names;
+use name_entries::made_symbols::Mode;
+use name_entries::name_rules::Meaning;
+use name_entries::object_file::{Object, read_object};
 use name_jobs::{group_winners, name_winners};
-use name_rules::Meaning;
-use object_file::{Object, read_object};
 use std::alloc::Global;
 use std::thread::Threads;
 use wl_fan::Workers;

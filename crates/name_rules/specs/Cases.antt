@@ -1,8 +1,8 @@
 -- The least clash and the least duplicate definition.
 use Rattle.std.specs.Prelude.{ℕ, ◌==◌, Bool, false, not, ◌&&◌, ◌||◌, List, find, Option, Some, None, option_map, option_and_then, bytes_eq}
-use Rattle.wl_base.specs.declared.fault.Fault.{Fault}
-use Rattle.wl_base.specs.declared.fault.Fault.TheVariants.{Clash, Duplicate}
-use Rattle.linking_section.specs.Flags.{is_explicit}
+use Rattle.object_file.specs.wl_base.declared.fault.Fault.{Fault}
+use Rattle.object_file.specs.wl_base.declared.fault.Fault.TheVariants.{Clash, Duplicate}
+use Rattle.object_file.specs.linking_section.Flags.{is_explicit}
 use Rattle.name_rules.specs.Entries.{Entry, ImportKey, name_of, is_named, is_kind, same_entry, same_symbol_type}
 use Rattle.name_rules.specs.Meanings.{where_given}
 

@@ -1,16 +1,16 @@
 -- Symbols with all that the rules look at, groups, and the entries of names (Linking.md, "Symbol Table" and "COMDAT").
 use Rattle.std.specs.Prelude.{ℕ, ◌+◌, ◌==◌, Bool, true, false, not, ◌&&◌, List, [], ◌∷◌, ◌++◌, filter, find, flat_map, if◌then◌else◌, Option, Some, None, unwrap_or, option_map, is_some, bytes_eq, slice_get, slice_index_or}
 use Rattle.std.specs.List.{list_any}
-use Rattle.wasm_types.specs.declared.function.FuncType.{FuncType}
-use Rattle.wasm_types.specs.declared.table.GlobalType.{GlobalType}
-use Rattle.wasm_types.specs.declared.value.ValType.TheVariants.{I32}
-use Rattle.wasm_types.specs.declared.import.Import.{Import}
-use Rattle.wasm_types.specs.Same.{same_type, same_global_type}
-use Rattle.linking_section.specs.declared.symbol.Symbol.{Symbol}
-use Rattle.linking_section.specs.declared.symbol.SymbolKind.{SymbolKind}
-use Rattle.linking_section.specs.declared.symbol.SymbolKind.TheVariants.{Function, Datum, GlobalVar, Section, Table}
-use Rattle.linking_section.specs.declared.group.Group.{Group}
-use Rattle.linking_section.specs.Flags.{kind_code, is_weak, is_undefined, is_local_definition}
+use Rattle.object_file.specs.wasm_types.declared.function.FuncType.{FuncType}
+use Rattle.object_file.specs.wasm_types.declared.table.GlobalType.{GlobalType}
+use Rattle.object_file.specs.wasm_types.declared.value.ValType.TheVariants.{I32}
+use Rattle.object_file.specs.wasm_types.declared.import.Import.{Import}
+use Rattle.object_file.specs.wasm_types.Same.{same_type, same_global_type}
+use Rattle.object_file.specs.linking_section.declared.symbol.Symbol.{Symbol}
+use Rattle.object_file.specs.linking_section.declared.symbol.SymbolKind.{SymbolKind}
+use Rattle.object_file.specs.linking_section.declared.symbol.SymbolKind.TheVariants.{Function, Datum, GlobalVar, Section, Table}
+use Rattle.object_file.specs.linking_section.declared.group.Group.{Group}
+use Rattle.object_file.specs.linking_section.Flags.{kind_code, is_weak, is_undefined, is_local_definition}
 use Rattle.object_file.specs.declared.object.Object.{Object}
 use Rattle.object_file.specs.Spaces.{no_type, function_types, global_types, function_imports, global_imports, table_imports, function_place, global_place}
 use Rattle.made_symbols.specs.declared.mode.Mode.{Mode}

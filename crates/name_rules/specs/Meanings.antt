@@ -1,15 +1,15 @@
 -- The winner of a name, and what symbols mean.
 use Rattle.std.specs.Prelude.{ℕ, ◌+◌, ◌==◌, nat_lt, Bool, true, false, not, ◌&&◌, ◌||◌, List, [], ◌∷◌, ◌++◌, filter, map, flat_map, if◌then◌else◌, Option, Some, None, unwrap_or, option_map, length, filter_map, slice_get, codes}
 use Rattle.std.specs.List.{list_any}
-use Rattle.wl_base.specs.Choice.{first_some, given, has_name}
-use Rattle.wasm_types.specs.declared.value.ValType.TheVariants.{I32}
+use Rattle.object_file.specs.wl_base.Choice.{first_some, given, has_name}
+use Rattle.object_file.specs.wasm_types.declared.value.ValType.TheVariants.{I32}
 use Rattle.symbol_race.specs.Ranks.{rank_of}
-use Rattle.body_windows.specs.declared.operand.Operand.{Operand}
-use Rattle.body_windows.specs.declared.operand.Operand.TheVariants as operands
+use Rattle.object_file.specs.body_windows.declared.operand.Operand.{Operand}
+use Rattle.object_file.specs.body_windows.declared.operand.Operand.TheVariants as operands
 use Rattle.made_symbols.specs.declared.mode.Mode.{Mode}
 use Rattle.made_symbols.specs.declared.mode.Mode.TheVariants.{Plain, Shared}
-use Rattle.linking_section.specs.declared.symbol.SymbolKind.TheVariants.{Function, Datum, GlobalVar}
-use Rattle.linking_section.specs.Flags.{is_weak, is_explicit, is_undefined, is_local_definition}
+use Rattle.object_file.specs.linking_section.declared.symbol.SymbolKind.TheVariants.{Function, Datum, GlobalVar}
+use Rattle.object_file.specs.linking_section.Flags.{is_weak, is_explicit, is_undefined, is_local_definition}
 use Rattle.object_file.specs.declared.object.Object.{Object}
 use Rattle.object_file.specs.Spaces.{function_imports}
 use Rattle.name_rules.specs.Entries.{Entry, ImportKey, of_global, is_kept, name_of, named, is_kind, is_entry, same_import, same_entry, symbols_of}

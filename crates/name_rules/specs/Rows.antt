@@ -1,10 +1,10 @@
 -- Worked names: winners, meanings, groups, the least cases.
 use Rattle.std.specs.Prelude.{◌≡◌, ℕ, Bool, true, false, List, [], ◌∷◌, Option, Some, None, option_map, refl, codes}
-use Rattle.wl_base.specs.declared.fault.Fault.TheVariants.{Clash, Duplicate}
-use Rattle.wasm_types.specs.declared.value.ValType.TheVariants.{I32}
-use Rattle.linking_section.specs.declared.symbol.Symbol.{Symbol}
-use Rattle.linking_section.specs.declared.symbol.SymbolKind.{SymbolKind}
-use Rattle.linking_section.specs.declared.symbol.SymbolKind.TheVariants.{Function, Datum}
+use Rattle.object_file.specs.wl_base.declared.fault.Fault.TheVariants.{Clash, Duplicate}
+use Rattle.object_file.specs.wasm_types.declared.value.ValType.TheVariants.{I32}
+use Rattle.object_file.specs.linking_section.declared.symbol.Symbol.{Symbol}
+use Rattle.object_file.specs.linking_section.declared.symbol.SymbolKind.{SymbolKind}
+use Rattle.object_file.specs.linking_section.declared.symbol.SymbolKind.TheVariants.{Function, Datum}
 use Rattle.object_file.specs.declared.object.Object.{Object}
 use Rattle.object_file.specs.Spaces.{no_type}
 use Rattle.made_symbols.specs.declared.mode.Mode.TheVariants.{Plain}

@@ -4,7 +4,7 @@ use Rattle.std.specs.Prelude.{◌==◌}
 use Rattle.std.specs.List.{flat_map, range_with_len, fold}
 use Rattle.std.specs.Option.{option_and_then}
 use Rattle.std.specs.List.Sorted.{IsStrictlyIncreasing}
-use Rattle.object_file.specs.declared.object.Object.{Object}
+use Rattle.name_entries.specs.object_file.declared.object.Object.{Object}
 use Rattle.mark_bits.specs.declared.chunk.Chunk.{Chunk}
 use Rattle.mark_bits.specs.Words.{bit_of}
 use Rattle.name_entries.specs.View.{InputsRise}

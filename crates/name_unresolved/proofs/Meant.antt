@@ -2,11 +2,11 @@
 use Rattle.std.proofs.Common.{◌≡◌, ℕ, zero, suc, ◌<◌, List, [], ◌∷◌, length, map, slice_get, get_or, refl, ap, ◌∙◌, arith, subst, Bool, ◌+◌}
 use Rattle.std.specs.List.{AllZip}
 use Rattle.std.specs.Option.{IsSome}
-use Rattle.linking_section.specs.declared.symbol.Symbol.{Symbol}
-use Rattle.made_symbols.specs.declared.mode.Mode.{Mode}
-use Rattle.object_file.specs.declared.object.Object.{Object}
-use Rattle.name_rules.specs.Entries.{Entry, symbols_of, entries_from}
-use Rattle.name_rules.specs.Meanings.{meaning, resolve, resolved_in, uses_of, Resolved}
+use Rattle.name_entries.specs.linking_section.declared.symbol.Symbol.{Symbol}
+use Rattle.name_entries.specs.made_symbols.declared.mode.Mode.{Mode}
+use Rattle.name_entries.specs.object_file.declared.object.Object.{Object}
+use Rattle.name_entries.specs.name_rules.Entries.{Entry, symbols_of, entries_from}
+use Rattle.name_entries.specs.name_rules.Meanings.{meaning, resolve, resolved_in, uses_of, Resolved}
 use Rattle.name_meanings.specs.Means.{Means, Answers, row_of, IsResolution}
 use Rattle.name_unresolved.specs.Unresolved.{AreMeant}
 

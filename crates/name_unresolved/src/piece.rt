@@ -1,19 +1,19 @@
 //! The least unresolved symbol of a piece of an object.
 ghost use Rattle.std.specs.Prelude.{◌≡◌, slice_get};
-ghost use Rattle.body_windows.specs.Operands.{operand_of};
+ghost use Rattle.name_entries.specs.body_windows.Operands.{operand_of};
 ghost use Rattle.name_unresolved.specs.Refers.{function_names, segment_names, names_in, open_inits, is_undefined_one};
 ghost use Rattle.name_unresolved.specs.Least.{least_by};
 ghost use Rattle.name_unresolved.specs.Search.{rows_in, IsMeant, opened_in, opened_by, opened_init, least_open, object_least};
 
 use crate::order::lesser;
-use body_windows::{Operand, Reference};
-use linking_section::InitFunc;
 use mark_bits::Chunk;
+use name_entries::body_windows::{Operand, Reference};
+use name_entries::linking_section::InitFunc;
+use name_entries::name_rules::Meaning;
+use name_entries::object_file::Object;
+use name_entries::reloc_section::Reloc;
+use name_entries::wl_base::InputId;
 use name_meanings::Resolution;
-use name_rules::Meaning;
-use object_file::Object;
-use reloc_section::Reloc;
-use wl_base::InputId;
 
 /// An object, and what its symbols mean.
 #[derive(Clone, Copy)]

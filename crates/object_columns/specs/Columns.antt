@@ -1,10 +1,10 @@
 -- Lists of records, kept as columns: the record at a place is made of what stands there in each.
 use Rattle.std.specs.Prelude.{ℕ, Bool, List, [], ◌∷◌, Option, Some, None, if◌then◌else◌}
-use Rattle.wl_base.specs.declared.span.Span.{Span}
-use Rattle.wasm_types.specs.declared.value.ValType.{ValType}
-use Rattle.wasm_types.specs.declared.function.FuncType.{FuncType}
-use Rattle.wasm_types.specs.declared.import.ImportKind.{ImportKind}
-use Rattle.wasm_types.specs.declared.import.Import.{Import}
+use Rattle.wasm_instr.specs.wl_base.declared.span.Span.{Span}
+use Rattle.wasm_instr.specs.wasm_types.declared.value.ValType.{ValType}
+use Rattle.wasm_instr.specs.wasm_types.declared.function.FuncType.{FuncType}
+use Rattle.wasm_instr.specs.wasm_types.declared.import.ImportKind.{ImportKind}
+use Rattle.wasm_instr.specs.wasm_types.declared.import.Import.{Import}
 use Rattle.linking_section.specs.declared.symbol.Symbol.{Symbol}
 use Rattle.reloc_section.specs.declared.entry.Reloc.{Reloc}
 use Rattle.body_windows.specs.declared.operands.Reference.{Reference}

@@ -4,8 +4,8 @@ ghost use Rattle.object_columns.specs.Seen.{func_type_seen};
 
 use std::alloc::Global;
 use std::marker::Model;
-use wasm_types::{FuncType, ValType};
-use wl_base::OutOfMemory;
+use wasm_instr::wasm_types::{FuncType, ValType};
+use wasm_instr::wl_base::OutOfMemory;
 use wl_lists::Lists;
 
 /// A function type, lent.
@@ -26,7 +26,7 @@ pub struct FuncTypes {
 
 impl Model for FuncTypes {
     ghost use Rattle.std.specs.Prelude.{◌≡◌, List, length};
-    ghost use Rattle.wasm_types.specs.declared.function.FuncType.{FuncType as Kind};
+    ghost use Rattle.wasm_instr.specs.wasm_types.declared.function.FuncType.{FuncType as Kind};
     ghost use Rattle.object_columns.specs.Columns.{joined, func_type};
 
     ghost Value = { List Kind };

@@ -4,8 +4,8 @@ ghost use Rattle.object_columns.specs.Seen.{import_seen};
 
 use std::alloc::Global;
 use std::marker::Model;
-use wasm_types::{Import, ImportKind};
-use wl_base::{OutOfMemory, Seq};
+use wasm_instr::wasm_types::{Import, ImportKind};
+use wasm_instr::wl_base::{OutOfMemory, Seq};
 use wl_lists::{Lists, shrunk};
 
 /// An import, lent (Core 5.5.5).
@@ -29,7 +29,7 @@ pub struct Imports {
 
 impl Model for Imports {
     ghost use Rattle.std.specs.Prelude.{◌≡◌, List, length};
-    ghost use Rattle.wasm_types.specs.declared.import.Import.{Import as Taken};
+    ghost use Rattle.wasm_instr.specs.wasm_types.declared.import.Import.{Import as Taken};
     ghost use Rattle.object_columns.specs.Columns.{joined_three, import_of};
 
     ghost Value = { List Taken };

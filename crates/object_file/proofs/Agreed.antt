@@ -1,8 +1,8 @@
 -- The rules that an object keeps, each by itself.
 use Rattle.std.proofs.Common.{◌≡◌, ℕ, Bool, true, false, cond, not, List, Option, Some, None, refl}
-use Rattle.wasm_sections.specs.declared.section.SectionSpan.{SectionSpan}
-use Rattle.linking_section.specs.declared.linking.Linking.{Linking}
-use Rattle.object_parts.specs.declared.parts.Parts.{Parts}
+use Rattle.object_rules.specs.wasm_sections.declared.section.SectionSpan.{SectionSpan}
+use Rattle.object_rules.specs.linking_section.declared.linking.Linking.{Linking}
+use Rattle.object_rules.specs.object_parts.declared.parts.Parts.{Parts}
 use Rattle.object_rules.specs.Spaces.{counts_of}
 use Rattle.object_rules.specs.Indexes.{are_counted, are_in_range}
 use Rattle.object_rules.specs.Symbols.{symbols_stand, names_differ}

@@ -3,11 +3,11 @@ use Rattle.std.proofs.Common.{◌≡◌, ℕ, suc, ◌+◌, List, [], ◌∷◌,
 use Rattle.std.specs.Prelude.{filter_map}
 use Rattle.std.specs.List.{cons_option, filter}
 use Rattle.std.proofs.lemmas.List.{length-append, length-map}
-use Rattle.wasm_types.specs.declared.import.Import.{Import}
-use Rattle.wasm_types.specs.declared.import.ImportKind.{ImportKind}
-use Rattle.wasm_types.specs.declared.import.ImportKind.TheVariants as kinds
-use Rattle.linking_section.specs.declared.symbol.SymbolKind.TheVariants.{Function, GlobalVar}
-use Rattle.object_parts.specs.declared.parts.GlobalDef.{GlobalDef}
+use Rattle.object_rules.specs.wasm_types.declared.import.Import.{Import}
+use Rattle.object_rules.specs.wasm_types.declared.import.ImportKind.{ImportKind}
+use Rattle.object_rules.specs.wasm_types.declared.import.ImportKind.TheVariants as kinds
+use Rattle.object_rules.specs.linking_section.declared.symbol.SymbolKind.TheVariants.{Function, GlobalVar}
+use Rattle.object_rules.specs.object_parts.declared.parts.GlobalDef.{GlobalDef}
 use Rattle.object_rules.specs.Spaces.{imports_of}
 use Rattle.object_file.specs.declared.object.Object.{Object}
 use Rattle.object_file.specs.Spaces.{imported_type, imported_global, defined_type, function_types, global_types}

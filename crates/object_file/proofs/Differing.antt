@@ -7,8 +7,8 @@ use Rattle.std.proofs.lemmas.Bool.{and_parts, and_from, or_left, or_right, not-t
 use Rattle.std.proofs.lemmas.List.Folds.{list_any-append}
 use Rattle.std.proofs.lemmas.Option.{slice_get-map}
 use Rattle.std.proofs.lemmas.Slice.Eq.{bytes_eq-Decides}
-use Rattle.linking_section.specs.declared.group.Member.{Member}
-use Rattle.linking_section.specs.declared.group.Group.{Group}
+use Rattle.object_rules.specs.linking_section.declared.group.Member.{Member}
+use Rattle.object_rules.specs.linking_section.declared.group.Group.{Group}
 use Rattle.object_rules.specs.Differ.{all_differ}
 use Rattle.object_rules.specs.Metadata.{member_key}
 use Rattle.object_file.specs.Sound.{GroupsDiffer, MembersDiffer}

@@ -5,7 +5,7 @@ use Rattle.std.proofs.lemmas.Option.{slice_get-get_or}
 use Rattle.std.proofs.lemmas.Bool.{ne_eqb, eq-eqb, ltb-false, cases_eq}
 use borrow.Author.Tests.{ltb-true}
 use Rattle.std.proofs.lemmas.Grind.{get_or-set_at}
-use Rattle.wasm_module.specs.declared.parts.Export.{Export}
+use Rattle.object_rules.specs.wasm_module.declared.parts.Export.{Export}
 use Rattle.object_file.specs.Objects.{last_name, export_name}
 use Rattle.object_file.specs.Exports.{named, name_at, noted}
 

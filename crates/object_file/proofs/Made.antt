@@ -3,16 +3,16 @@ use Rattle.std.proofs.Common.{◌≡◌, ℕ, zero, suc, ◌+◌, ◌<◌, ◌�
 use Rattle.std.specs.Prelude.{slice_get}
 use Rattle.std.proofs.lemmas.Option.{get_or_from_slice_get}
 use Rattle.std.proofs.lemmas.List.{at_drop_more, drop_all, append-nil, length-append}
-use Rattle.wasm_module.specs.declared.parts.Export.{Export}
-use Rattle.object_parts.specs.declared.parts.CodeBody.{CodeBody}
-use Rattle.wasm_sections.specs.declared.section.SectionSpan.{SectionSpan}
-use Rattle.wasm_sections.specs.Sections.{rank_of, AreSections, header, IsFrame}
+use Rattle.object_rules.specs.wasm_module.declared.parts.Export.{Export}
+use Rattle.object_rules.specs.object_parts.declared.parts.CodeBody.{CodeBody}
+use Rattle.object_rules.specs.wasm_sections.declared.section.SectionSpan.{SectionSpan}
+use Rattle.object_rules.specs.wasm_sections.Sections.{rank_of, AreSections, header, IsFrame}
 use Rattle.object_columns.specs.declared.functions.FunctionDef.{FunctionDef}
 use Rattle.object_columns.specs.declared.segments.SegmentDef.{SegmentDef}
-use Rattle.reloc_section.specs.declared.entry.Reloc.{Reloc}
-use Rattle.linking_section.specs.declared.segment.SegmentInfo.{SegmentInfo}
-use Rattle.object_parts.specs.declared.parts.DataPart.{DataPart}
-use Rattle.object_parts.specs.Code.{before, behind, end_in, base_in}
+use Rattle.object_rules.specs.reloc_section.declared.entry.Reloc.{Reloc}
+use Rattle.object_rules.specs.linking_section.declared.segment.SegmentInfo.{SegmentInfo}
+use Rattle.object_rules.specs.object_parts.declared.parts.DataPart.{DataPart}
+use Rattle.object_rules.specs.object_parts.Code.{before, behind, end_in, base_in}
 use Rattle.object_file.specs.Objects.{export_name, operands_of, functions_from, first_info, other_infos, window_from, segments_from}
 
 abbrev pub made : List Export → ℕ → ℕ → CodeBody → FunctionDef

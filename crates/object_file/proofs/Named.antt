@@ -3,15 +3,15 @@ use Rattle.std.proofs.Common.{◌≡◌, ℕ, zero, suc, ◌<◌, Bool, true, fa
 use Rattle.std.specs.Prelude.{All, is_some, slice_get, not, IsTrue}
 use Rattle.std.proofs.lemmas.Bool.{or_parts}
 use Rattle.std.proofs.lemmas.List.Elements.{All-nil, All-cons, All-weaker}
-use Rattle.wasm_grammar.specs.Grammar.{SpellsMany}
-use Rattle.wasm_types.specs.declared.import.Import.{Import}
-use Rattle.linking_section.specs.declared.symbol.Symbol.{Symbol}
-use Rattle.linking_section.specs.declared.symbol.SymbolKind.{SymbolKind}
-use Rattle.linking_section.specs.declared.symbol.SymbolKind.TheVariants.{Function, Datum, GlobalVar, Section, Table}
-use Rattle.linking_section.specs.declared.group.Group.{Group}
-use Rattle.linking_section.specs.declared.linking.Linking.{Linking}
-use Rattle.linking_section.specs.Flags.{has_bit, is_named, is_undefined}
-use Rattle.linking_section.specs.Linking.{SpellsMaybe, SpellsBody, SpellsSymbol, is_member_kind, SpellsMember, SpellsGroup, IsSaid, payloads_of, SpellsLinking}
+use Rattle.object_rules.specs.wasm_grammar.Grammar.{SpellsMany}
+use Rattle.object_rules.specs.wasm_types.declared.import.Import.{Import}
+use Rattle.object_rules.specs.linking_section.declared.symbol.Symbol.{Symbol}
+use Rattle.object_rules.specs.linking_section.declared.symbol.SymbolKind.{SymbolKind}
+use Rattle.object_rules.specs.linking_section.declared.symbol.SymbolKind.TheVariants.{Function, Datum, GlobalVar, Section, Table}
+use Rattle.object_rules.specs.linking_section.declared.group.Group.{Group}
+use Rattle.object_rules.specs.linking_section.declared.linking.Linking.{Linking}
+use Rattle.object_rules.specs.linking_section.Flags.{has_bit, is_named, is_undefined}
+use Rattle.object_rules.specs.linking_section.Linking.{SpellsMaybe, SpellsBody, SpellsSymbol, is_member_kind, SpellsMember, SpellsGroup, IsSaid, payloads_of, SpellsLinking}
 use Rattle.object_rules.specs.Spaces.{imports_of}
 use Rattle.object_rules.specs.Symbols.{field_of, own_or, import_name, name_of, is_section}
 

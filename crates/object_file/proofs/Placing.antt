@@ -4,28 +4,28 @@ use Rattle.std.specs.Prelude.{All, nat_lt, slice_get, filter_map, option_map, â—
 use Rattle.std.specs.List.{cons_option}
 use Rattle.std.proofs.lemmas.Bool.{and_parts, ltb-true, leb-true, eqb-true, not-true}
 use Rattle.std.proofs.lemmas.List.Elements.{All-nil, All-cons, All-head, All-tail}
-use Rattle.wasm_types.specs.declared.import.ImportKind.{ImportKind}
-use Rattle.wasm_types.specs.declared.import.ImportKind.TheVariants as kinds
-use Rattle.wasm_types.specs.declared.value.ValType.{ValType}
-use Rattle.wasm_types.specs.declared.function.FuncType.{FuncType}
-use Rattle.wasm_types.specs.declared.import.Import.{Import}
+use Rattle.object_rules.specs.wasm_types.declared.import.ImportKind.{ImportKind}
+use Rattle.object_rules.specs.wasm_types.declared.import.ImportKind.TheVariants as kinds
+use Rattle.object_rules.specs.wasm_types.declared.value.ValType.{ValType}
+use Rattle.object_rules.specs.wasm_types.declared.function.FuncType.{FuncType}
+use Rattle.object_rules.specs.wasm_types.declared.import.Import.{Import}
 use Rattle.std.proofs.lemmas.Option.{get_or_from_slice_get}
 use Rattle.object_rules.specs.Spaces.{imported_type}
 use Rattle.object_rules.specs.Metadata.{is_plain, is_plain_at}
 use Rattle.object_file.specs.declared.object.Object.{Object}
 use Rattle.object_file.specs.Spaces as spaces
 use Rattle.object_file.specs.Spaces.{no_type, written_type, defined_type}
-use Rattle.wasm_module.specs.declared.parts.Export.{Export}
-use Rattle.reloc_section.specs.declared.entry.Reloc.{Reloc}
-use Rattle.linking_section.specs.declared.symbol.Symbol.{Symbol}
-use Rattle.linking_section.specs.declared.segment.SegmentInfo.{SegmentInfo}
-use Rattle.linking_section.specs.Flags.{is_undefined}
-use Rattle.object_parts.specs.declared.parts.CodeBody.{CodeBody}
-use Rattle.object_parts.specs.declared.parts.DataPart.{DataPart}
-use Rattle.object_parts.specs.Code.{behind, end_in}
+use Rattle.object_rules.specs.wasm_module.declared.parts.Export.{Export}
+use Rattle.object_rules.specs.reloc_section.declared.entry.Reloc.{Reloc}
+use Rattle.object_rules.specs.linking_section.declared.symbol.Symbol.{Symbol}
+use Rattle.object_rules.specs.linking_section.declared.segment.SegmentInfo.{SegmentInfo}
+use Rattle.object_rules.specs.linking_section.Flags.{is_undefined}
+use Rattle.object_rules.specs.object_parts.declared.parts.CodeBody.{CodeBody}
+use Rattle.object_rules.specs.object_parts.declared.parts.DataPart.{DataPart}
+use Rattle.object_rules.specs.object_parts.Code.{behind, end_in}
 use Rattle.object_columns.specs.declared.functions.FunctionDef.{FunctionDef}
 use Rattle.object_rules.specs.Symbols.{stands, lies_in}
-use Rattle.object_parts.specs.Spans.{LiesIn}
+use Rattle.object_rules.specs.object_parts.Spans.{LiesIn}
 use Rattle.object_file.specs.Objects.{other_infos, functions_from, segments_from}
 use Rattle.object_file.specs.Sound.{NamesOneOf, EndsIn}
 use Rattle.object_file.proofs.Made.{made}

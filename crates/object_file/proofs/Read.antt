@@ -2,16 +2,16 @@
 use Rattle.std.proofs.Common.{◌≡◌, ℕ, ◌^◌, ◌≤◌, Bool, true, false, cond, List, length, Result, Ok, Err, Option, Some, None, refl, sym, ap}
 use Rattle.std.specs.Prelude.{IfOk, nat_lt}
 use Rattle.std.proofs.lemmas.Bool.{ltb-false, le-ltb}
-use Rattle.wl_base.specs.declared.fault.Fault.{Fault}
-use Rattle.wl_base.specs.declared.fault.Fault.TheVariants.{TooLong}
-use Rattle.wasm_sections.specs.declared.section.SectionSpan.{SectionSpan}
-use Rattle.wasm_sections.specs.declared.fault.FrameFault.{FrameFault}
-use Rattle.wasm_sections.specs.Reading.{frame_at}
-use Rattle.wasm_sections.proofs.FrameLaws.{frame_found, frame_again}
-use Rattle.object_parts.specs.declared.parts.Parts.{Parts}
-use Rattle.object_parts.specs.declared.reading.SectionStop.{SectionStop}
-use Rattle.object_parts.specs.Reading.{parts_of}
-use Rattle.object_parts.proofs.Sections.{parts_found, parts_again}
+use Rattle.object_rules.specs.wl_base.declared.fault.Fault.{Fault}
+use Rattle.object_rules.specs.wl_base.declared.fault.Fault.TheVariants.{TooLong}
+use Rattle.object_rules.specs.wasm_sections.declared.section.SectionSpan.{SectionSpan}
+use Rattle.object_rules.specs.wasm_sections.declared.fault.FrameFault.{FrameFault}
+use Rattle.object_rules.specs.wasm_sections.Reading.{frame_at}
+use Rattle.object_rules.proofs.wasm_sections_lemmas.FrameLaws.{frame_found, frame_again}
+use Rattle.object_rules.specs.object_parts.declared.parts.Parts.{Parts}
+use Rattle.object_rules.specs.object_parts.declared.reading.SectionStop.{SectionStop}
+use Rattle.object_rules.specs.object_parts.Reading.{parts_of}
+use Rattle.object_rules.proofs.object_parts_lemmas.Sections.{parts_found, parts_again}
 use Rattle.object_rules.specs.Rules.{broken_rule}
 use Rattle.object_file.specs.declared.object.Object.{Object}
 use Rattle.object_file.specs.declared.reading.ObjectError.{ObjectError}

@@ -5,53 +5,53 @@ use Rattle.std.specs.List.{list_all, prefix_len, cons_option}
 use Rattle.std.proofs.lemmas.Bool.{and_parts, or_cases, ltb-true, leb-true, eqb-true, eq-eqb, ne_eqb}
 use Rattle.std.proofs.lemmas.List.Elements.{All-map, All-weaker, All-take}
 use Rattle.std.proofs.lemmas.List.Sums.{AllPass-from_list_all}
-use Rattle.wasm_types.specs.declared.import.ImportKind.{ImportKind}
-use Rattle.wasm_types.specs.declared.import.ImportKind.TheVariants as kinds
-use Rattle.wasm_sections.specs.declared.section.SectionSpan.{SectionSpan}
-use Rattle.linking_section.specs.declared.symbol.Symbol.{Symbol}
-use Rattle.linking_section.specs.declared.symbol.SymbolKind.{SymbolKind}
-use Rattle.linking_section.specs.declared.symbol.SymbolKind.TheVariants.{Function, Datum, GlobalVar, Section, Table}
-use Rattle.linking_section.specs.declared.linking.Linking.{Linking}
-use Rattle.linking_section.specs.Linking.{SpellsSymbol}
-use Rattle.object_parts.specs.declared.parts.Parts.{Parts}
-use Rattle.object_parts.specs.Reading.{code_relocs}
-use Rattle.object_parts.specs.Spans.{LiesIn, LieIn}
+use Rattle.object_rules.specs.wasm_types.declared.import.ImportKind.{ImportKind}
+use Rattle.object_rules.specs.wasm_types.declared.import.ImportKind.TheVariants as kinds
+use Rattle.object_rules.specs.wasm_sections.declared.section.SectionSpan.{SectionSpan}
+use Rattle.object_rules.specs.linking_section.declared.symbol.Symbol.{Symbol}
+use Rattle.object_rules.specs.linking_section.declared.symbol.SymbolKind.{SymbolKind}
+use Rattle.object_rules.specs.linking_section.declared.symbol.SymbolKind.TheVariants.{Function, Datum, GlobalVar, Section, Table}
+use Rattle.object_rules.specs.linking_section.declared.linking.Linking.{Linking}
+use Rattle.object_rules.specs.linking_section.Linking.{SpellsSymbol}
+use Rattle.object_rules.specs.object_parts.declared.parts.Parts.{Parts}
+use Rattle.object_rules.specs.object_parts.Reading.{code_relocs}
+use Rattle.object_rules.specs.object_parts.Spans.{LiesIn, LieIn}
 use Rattle.object_columns.specs.declared.segments.SegmentDef.{SegmentDef}
 use Rattle.object_rules.specs.Spaces.{counts_of, imports_of}
 use Rattle.object_rules.specs.Spaces as rules
 use Rattle.object_rules.specs.Metadata.{is_function_kind, is_plain_at, is_init, member_key, member_stands}
 use Rattle.std.specs.Str.{bytes_eq}
 use Rattle.std.proofs.lemmas.List.{map-append}
-use Rattle.linking_section.specs.declared.group.Member.{Member}
-use Rattle.linking_section.specs.declared.group.Group.{Group}
-use Rattle.linking_section.specs.Linking.{is_member_kind}
+use Rattle.object_rules.specs.linking_section.declared.group.Member.{Member}
+use Rattle.object_rules.specs.linking_section.declared.group.Group.{Group}
+use Rattle.object_rules.specs.linking_section.Linking.{is_member_kind}
 use Rattle.object_file.specs.Spaces.{function_types, written_type, defined_type}
 use Rattle.object_rules.specs.Indexes.{count_is, import_in_range, export_in_range, element_in_range, segment_in_range}
 use Rattle.object_rules.specs.Symbols.{is_section, is_seen, seen_name, symbol_stands, name_of}
 use Rattle.object_rules.specs.Differ.{all_differ}
 use Rattle.object_rules.specs.Relocs.{target_stands, windows_lie, may_name, is_table_name, names_symbol, entry_stands}
 use Rattle.object_rules.specs.Windows.{start_of, relocs_for, in_segment, data_windows_stand, code_windows_stand, is_placed, is_covered, may_stand}
-use Rattle.object_parts.specs.declared.parts.DataPart.{DataPart}
-use Rattle.object_parts.specs.Code.{begins_before, before, base_in, end_in}
-use Rattle.reloc_section.specs.declared.entry.Reloc.{Reloc}
+use Rattle.object_rules.specs.object_parts.declared.parts.DataPart.{DataPart}
+use Rattle.object_rules.specs.object_parts.Code.{begins_before, before, base_in, end_in}
+use Rattle.object_rules.specs.reloc_section.declared.entry.Reloc.{Reloc}
 use Rattle.std.proofs.lemmas.Option.{slice_get-map}
 use Rattle.object_file.proofs.Windowed.{AreApart, windows_in_place, segments_all}
 use Rattle.object_file.proofs.Targets.{for_all, data_apart, code_relocs_are}
 use Rattle.object_file.proofs.Operated.{IsOfCode, operands_stand_in, operands_all}
-use Rattle.body_windows.specs.declared.immediate.Immediate.{Immediate}
-use Rattle.body_windows.specs.declared.operand.Operand.TheVariants as operands
-use Rattle.body_windows.specs.Immediates.{operand_of}
-use Rattle.body_windows.specs.Operands.{StandIn}
+use Rattle.object_rules.specs.body_windows.declared.immediate.Immediate.{Immediate}
+use Rattle.object_rules.specs.body_windows.declared.operand.Operand.TheVariants as operands
+use Rattle.object_rules.specs.body_windows.Immediates.{operand_of}
+use Rattle.object_rules.specs.body_windows.Operands.{StandIn}
 use Rattle.object_file.specs.declared.object.Object.{Object}
 use Rattle.object_file.specs.Objects.{window_from, with_name, linking_of, object_with, object_from}
 use Rattle.object_file.specs.ObjectOf.{IsObject}
 use Rattle.object_file.specs.Sound.{function_count, global_count, TypeInRange, EndsIn, NamesInRange, is_code_type, IsNamedBy, OperandNames, WindowNames, WindowsStandIn, IsInit, MemberStands, NamesDiffer, Sound}
-use Rattle.wasm_sections.proofs.FrameLaws.{frame_within}
-use Rattle.object_parts.proofs.Lying.{parts_lie}
-use Rattle.object_parts.proofs.Sections.{parts_again}
+use Rattle.object_rules.proofs.wasm_sections_lemmas.FrameLaws.{frame_within}
+use Rattle.object_rules.proofs.object_parts_lemmas.Lying.{parts_lie}
+use Rattle.object_rules.proofs.object_parts_lemmas.Sections.{parts_again}
 use Rattle.object_file.specs.Bodies.{BodyStands}
 use Rattle.object_file.proofs.Standing.{made_stands}
-use Rattle.wasm_sections.specs.Sections.{IsFrame}
+use Rattle.object_rules.specs.wasm_sections.Sections.{IsFrame}
 use Rattle.object_file.proofs.Agreed.{Keeps, agreed_keeps}
 use Rattle.object_file.proofs.Told.{BodyTold, LinkingTold, Told, parts_told}
 use Rattle.object_file.proofs.Named.{NamesImport, symbol_named, symbols_spelled, members_spelled}

@@ -4,24 +4,24 @@ use Rattle.std.specs.Prelude.{All, ◌&&◌, ◌==◌}
 use Rattle.std.specs.List.{list_any}
 use Rattle.std.proofs.lemmas.Bool.{and_parts, or_cases, eqb-true}
 use Rattle.std.proofs.lemmas.List.Elements.{All-nil, All-cons, All-head, All-tail, All-weaker}
-use Rattle.wl_base.specs.Choice.{first_some, unless}
-use Rattle.reloc_section.specs.declared.entry.Reloc.{Reloc}
-use Rattle.body_windows.specs.declared.operand.Operand.{Operand}
-use Rattle.body_windows.specs.declared.operand.Operand.TheVariants.{Number, Symbol, TypeRef, TableZero}
-use Rattle.body_windows.specs.declared.fault.Mismatch.{Mismatch}
-use Rattle.body_windows.specs.declared.fault.Mismatch.TheVariants.{Overlap, OffImmediate, BareIndex}
-use Rattle.body_windows.specs.declared.immediate.Immediate.{Immediate}
-use Rattle.body_windows.specs.declared.immediate.ImmediateKind.{ImmediateKind}
-use Rattle.body_windows.specs.declared.immediate.ImmediateKind.TheVariants.{FunctionIndex, TypeIndex, TableIndex, GlobalIndex, MemoryOffset, Constant}
-use Rattle.body_windows.specs.Immediates.{immediates, AreInOrder, may_stand, needs_window, plain_operand, fills, operand_of}
-use Rattle.body_windows.specs.Windows.{reloc_at, operand_by, operand_at, is_bare, least_overlap, first_off, first_bare, fault_with, operands_at, windows_of}
-use Rattle.body_windows.proofs.Order.{body_order}
-use Rattle.body_windows.proofs.Within.{operands_are}
-use Rattle.wasm_instr.specs.declared.body.Body.{Body}
-use Rattle.wasm_instr.specs.Bodies.{SpellsBody}
+use Rattle.object_rules.specs.wl_base.Choice.{first_some, unless}
+use Rattle.object_rules.specs.reloc_section.declared.entry.Reloc.{Reloc}
+use Rattle.object_rules.specs.body_windows.declared.operand.Operand.{Operand}
+use Rattle.object_rules.specs.body_windows.declared.operand.Operand.TheVariants.{Number, Symbol, TypeRef, TableZero}
+use Rattle.object_rules.specs.body_windows.declared.fault.Mismatch.{Mismatch}
+use Rattle.object_rules.specs.body_windows.declared.fault.Mismatch.TheVariants.{Overlap, OffImmediate, BareIndex}
+use Rattle.object_rules.specs.body_windows.declared.immediate.Immediate.{Immediate}
+use Rattle.object_rules.specs.body_windows.declared.immediate.ImmediateKind.{ImmediateKind}
+use Rattle.object_rules.specs.body_windows.declared.immediate.ImmediateKind.TheVariants.{FunctionIndex, TypeIndex, TableIndex, GlobalIndex, MemoryOffset, Constant}
+use Rattle.object_rules.specs.body_windows.Immediates.{immediates, AreInOrder, may_stand, needs_window, plain_operand, fills, operand_of}
+use Rattle.object_rules.specs.body_windows.Windows.{reloc_at, operand_by, operand_at, is_bare, least_overlap, first_off, first_bare, fault_with, operands_at, windows_of}
+use Rattle.object_rules.proofs.body_windows_lemmas.Order.{body_order}
+use Rattle.object_rules.proofs.body_windows_lemmas.Within.{operands_are}
+use Rattle.object_rules.specs.wasm_instr.declared.body.Body.{Body}
+use Rattle.object_rules.specs.wasm_instr.Bodies.{SpellsBody}
 use Rattle.object_rules.specs.Windows.{is_placed, is_covered}
-use Rattle.wasm_module.specs.declared.parts.Export.{Export}
-use Rattle.object_parts.specs.declared.parts.CodeBody.{CodeBody}
+use Rattle.object_rules.specs.wasm_module.declared.parts.Export.{Export}
+use Rattle.object_rules.specs.object_parts.declared.parts.CodeBody.{CodeBody}
 use Rattle.object_file.specs.Objects.{operands_of}
 use Rattle.object_file.specs.Bodies.{IsOperandOf, AreOperandsOf, BodyStands}
 use Rattle.object_file.proofs.Made.{made}

@@ -6,25 +6,25 @@ use Rattle.std.proofs.lemmas.Bool.{and_parts, eqb-true, both_ways}
 use Rattle.std.proofs.lemmas.List.{append-nil}
 use Rattle.std.proofs.lemmas.List.Elements.{All-nil}
 use Rattle.std.proofs.lemmas.List.Sums.{AllPass-from_list_all}
-use Rattle.wl_base.specs.declared.span.Span.{Span}
-use Rattle.wasm_grammar.specs.Reading.{u32_at, name_at}
-use Rattle.wasm_grammar.specs.ReaderLaws.{u32_reader, name_reader}
-use Rattle.wasm_sections.specs.declared.section.SectionSpan.{SectionSpan}
-use Rattle.reloc_section.specs.declared.entry.Reloc.{Reloc}
-use Rattle.reloc_section.specs.declared.section.RelocSection.{RelocSection}
-use Rattle.reloc_section.specs.Relocs.{relocs_at}
-use Rattle.reloc_section.specs.RelocLaws.{relocs_again}
-use Rattle.linking_section.specs.declared.linking.Linking.{Linking}
-use Rattle.object_parts.specs.declared.kind.SectionKind.{SectionKind}
-use Rattle.object_parts.specs.declared.kind.SectionKind.TheVariants as sections
-use Rattle.object_parts.specs.declared.kind.CustomKind.{CustomKind}
-use Rattle.object_parts.specs.declared.kind.CustomKind.TheVariants as customs
-use Rattle.object_parts.specs.declared.parts.Parts.{Parts}
-use Rattle.object_parts.specs.Kinds.{kind_of, custom_kind_of}
-use Rattle.wasm_grammar.specs.Grammar.{SpellsU32}
-use Rattle.object_parts.specs.Adding.{no_parts, section_is, has_id, end_of, with_linking, SpellsRelocsFor, AddsCustom, AddsKind}
-use Rattle.object_parts.specs.Sections.{bytes_in, AddInTurn}
-use Rattle.object_parts.specs.Reading.{entries_or_none, code_target, code_relocs_of, code_relocs_in, or_else, code_relocs}
+use Rattle.object_rules.specs.wl_base.declared.span.Span.{Span}
+use Rattle.object_rules.specs.wasm_grammar.Reading.{u32_at, name_at}
+use Rattle.object_rules.specs.wasm_grammar.ReaderLaws.{u32_reader, name_reader}
+use Rattle.object_rules.specs.wasm_sections.declared.section.SectionSpan.{SectionSpan}
+use Rattle.object_rules.specs.reloc_section.declared.entry.Reloc.{Reloc}
+use Rattle.object_rules.specs.reloc_section.declared.section.RelocSection.{RelocSection}
+use Rattle.object_rules.specs.reloc_section.Relocs.{relocs_at}
+use Rattle.object_rules.specs.reloc_section.RelocLaws.{relocs_again}
+use Rattle.object_rules.specs.linking_section.declared.linking.Linking.{Linking}
+use Rattle.object_rules.specs.object_parts.declared.kind.SectionKind.{SectionKind}
+use Rattle.object_rules.specs.object_parts.declared.kind.SectionKind.TheVariants as sections
+use Rattle.object_rules.specs.object_parts.declared.kind.CustomKind.{CustomKind}
+use Rattle.object_rules.specs.object_parts.declared.kind.CustomKind.TheVariants as customs
+use Rattle.object_rules.specs.object_parts.declared.parts.Parts.{Parts}
+use Rattle.object_rules.specs.object_parts.Kinds.{kind_of, custom_kind_of}
+use Rattle.object_rules.specs.wasm_grammar.Grammar.{SpellsU32}
+use Rattle.object_rules.specs.object_parts.Adding.{no_parts, section_is, has_id, end_of, with_linking, SpellsRelocsFor, AddsCustom, AddsKind}
+use Rattle.object_rules.specs.object_parts.Sections.{bytes_in, AddInTurn}
+use Rattle.object_rules.specs.object_parts.Reading.{entries_or_none, code_target, code_relocs_of, code_relocs_in, or_else, code_relocs}
 use Rattle.object_rules.specs.Relocs.{lie_apart, width_in, payload_len, windows_lie}
 use Rattle.object_rules.specs.Windows.{relocs_for}
 use Rattle.object_file.proofs.Windowed.{AreApart}

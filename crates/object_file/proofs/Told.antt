@@ -4,27 +4,27 @@ use Rattle.std.specs.Prelude.{All, Contains}
 use Rattle.std.specs.List.{prefix_len}
 use Rattle.std.proofs.lemmas.List.Elements.{All-nil, All-cons, All-head, All-tail, All-take, All-drop, All-contains_itself}
 use Rattle.std.proofs.lemmas.List.{append-nil, length-append, length-drop, length-take-le, take-append-drop, take_at, drop-drop, drop_at}
-use Rattle.wl_base.specs.declared.span.Span.{Span}
-use Rattle.wasm_instr.specs.declared.body.Body.{Body}
-use Rattle.wasm_instr.specs.Bodies.{SpellsBody}
-use Rattle.wasm_sections.specs.declared.section.SectionSpan.{SectionSpan}
-use Rattle.reloc_section.specs.declared.entry.Reloc.{Reloc}
-use Rattle.linking_section.specs.declared.linking.Linking.{Linking}
-use Rattle.linking_section.specs.Linking.{SpellsLinking}
-use Rattle.body_windows.specs.Windows.{windows_of}
-use Rattle.object_parts.specs.declared.kind.SectionKind.{SectionKind}
-use Rattle.object_parts.specs.declared.kind.SectionKind.TheVariants as sections
-use Rattle.object_parts.specs.declared.kind.CustomKind.{CustomKind}
-use Rattle.object_parts.specs.declared.kind.CustomKind.TheVariants as customs
-use Rattle.object_parts.specs.declared.parts.CodeBody.{CodeBody}
-use Rattle.object_parts.specs.declared.parts.Parts.{Parts}
-use Rattle.object_parts.specs.Kinds.{kind_of, custom_kind_of}
-use Rattle.object_parts.specs.Spans.{LiesIn}
-use Rattle.object_parts.specs.Placed.{span_before}
-use Rattle.object_parts.specs.Turns.{Spelling, AreInTurn}
-use Rattle.object_parts.specs.Code.{begins_before, before, base_in, end_in, left_behind, SpellsCodeBody}
-use Rattle.object_parts.specs.Adding.{no_parts, with_linking, AddsCustom, AddsKind}
-use Rattle.object_parts.specs.Sections.{bytes_in, AddInTurn}
+use Rattle.object_rules.specs.wl_base.declared.span.Span.{Span}
+use Rattle.object_rules.specs.wasm_instr.declared.body.Body.{Body}
+use Rattle.object_rules.specs.wasm_instr.Bodies.{SpellsBody}
+use Rattle.object_rules.specs.wasm_sections.declared.section.SectionSpan.{SectionSpan}
+use Rattle.object_rules.specs.reloc_section.declared.entry.Reloc.{Reloc}
+use Rattle.object_rules.specs.linking_section.declared.linking.Linking.{Linking}
+use Rattle.object_rules.specs.linking_section.Linking.{SpellsLinking}
+use Rattle.object_rules.specs.body_windows.Windows.{windows_of}
+use Rattle.object_rules.specs.object_parts.declared.kind.SectionKind.{SectionKind}
+use Rattle.object_rules.specs.object_parts.declared.kind.SectionKind.TheVariants as sections
+use Rattle.object_rules.specs.object_parts.declared.kind.CustomKind.{CustomKind}
+use Rattle.object_rules.specs.object_parts.declared.kind.CustomKind.TheVariants as customs
+use Rattle.object_rules.specs.object_parts.declared.parts.CodeBody.{CodeBody}
+use Rattle.object_rules.specs.object_parts.declared.parts.Parts.{Parts}
+use Rattle.object_rules.specs.object_parts.Kinds.{kind_of, custom_kind_of}
+use Rattle.object_rules.specs.object_parts.Spans.{LiesIn}
+use Rattle.object_rules.specs.object_parts.Placed.{span_before}
+use Rattle.object_rules.specs.object_parts.Turns.{Spelling, AreInTurn}
+use Rattle.object_rules.specs.object_parts.Code.{begins_before, before, base_in, end_in, left_behind, SpellsCodeBody}
+use Rattle.object_rules.specs.object_parts.Adding.{no_parts, with_linking, AddsCustom, AddsKind}
+use Rattle.object_rules.specs.object_parts.Sections.{bytes_in, AddInTurn}
 
 -- A body that was read from bytes, with some of the relocations.
 pub record BodyTold (bytes : List ℕ) (relocs : List Reloc) (b : CodeBody) : Type 0 where

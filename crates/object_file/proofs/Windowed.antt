@@ -4,11 +4,11 @@ use Rattle.std.specs.Prelude.{All, nat_le, ◌&&◌, ◌||◌}
 use Rattle.std.specs.List.{list_all, prefix_len}
 use Rattle.std.proofs.lemmas.Bool.{and_parts, leb-true}
 use Rattle.std.proofs.lemmas.List.Elements.{All-nil, All-cons, All-drop}
-use Rattle.wl_base.specs.declared.span.Span.{Span}
-use Rattle.reloc_section.specs.declared.entry.Reloc.{Reloc}
-use Rattle.linking_section.specs.declared.segment.SegmentInfo.{SegmentInfo}
-use Rattle.object_parts.specs.declared.parts.DataPart.{DataPart}
-use Rattle.object_parts.specs.Code.{begins_before, before, behind, end_in, base_in}
+use Rattle.object_rules.specs.wl_base.declared.span.Span.{Span}
+use Rattle.object_rules.specs.reloc_section.declared.entry.Reloc.{Reloc}
+use Rattle.object_rules.specs.linking_section.declared.segment.SegmentInfo.{SegmentInfo}
+use Rattle.object_rules.specs.object_parts.declared.parts.DataPart.{DataPart}
+use Rattle.object_rules.specs.object_parts.Code.{begins_before, before, behind, end_in, base_in}
 use Rattle.object_columns.specs.declared.segments.SegmentDef.{SegmentDef}
 use Rattle.object_rules.specs.Relocs.{lie_apart}
 use Rattle.object_rules.specs.Windows.{in_segment, data_windows_stand}

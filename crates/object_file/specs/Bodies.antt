@@ -1,15 +1,15 @@
 -- How the bodies of an object that was read stand in its bytes, and their operands on their
 -- immediates (Linking.md, "Relocation Sections").
 use Rattle.std.specs.Prelude.{◌≡◌, ℕ, false, List, [], ◌∷◌, IsTrue}
-use Rattle.wasm_instr.specs.declared.body.Body.{Body}
-use Rattle.wasm_instr.specs.Bodies.{SpellsBody}
-use Rattle.body_windows.specs.declared.operand.Operand.{Operand}
-use Rattle.body_windows.specs.declared.operand.Operand.TheVariants.{Number, Symbol, TypeRef, TableZero}
-use Rattle.body_windows.specs.declared.immediate.Immediate.{Immediate}
-use Rattle.body_windows.specs.declared.immediate.ImmediateKind.TheVariants.{TypeIndex, TableIndex}
-use Rattle.body_windows.specs.Immediates.{immediates, may_stand, needs_window}
+use Rattle.object_rules.specs.wasm_instr.declared.body.Body.{Body}
+use Rattle.object_rules.specs.wasm_instr.Bodies.{SpellsBody}
+use Rattle.object_rules.specs.body_windows.declared.operand.Operand.{Operand}
+use Rattle.object_rules.specs.body_windows.declared.operand.Operand.TheVariants.{Number, Symbol, TypeRef, TableZero}
+use Rattle.object_rules.specs.body_windows.declared.immediate.Immediate.{Immediate}
+use Rattle.object_rules.specs.body_windows.declared.immediate.ImmediateKind.TheVariants.{TypeIndex, TableIndex}
+use Rattle.object_rules.specs.body_windows.Immediates.{immediates, may_stand, needs_window}
 use Rattle.object_columns.specs.declared.functions.FunctionDef.{FunctionDef}
-use Rattle.object_parts.specs.Sections.{bytes_in}
+use Rattle.object_rules.specs.object_parts.Sections.{bytes_in}
 
 -- The operand of an immediate. A window stands on all of an immediate, which has five bytes, and its
 -- type may stand there; where there is none, none is needed.

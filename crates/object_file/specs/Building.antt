@@ -1,7 +1,7 @@
 -- An object in two steps: the lists that are kept as columns, and the rest.
 use Rattle.std.specs.Prelude.{ℕ, List, map}
-use Rattle.wasm_sections.specs.declared.section.SectionSpan.{SectionSpan}
-use Rattle.object_parts.specs.declared.parts.Parts.{Parts}
+use Rattle.object_rules.specs.wasm_sections.declared.section.SectionSpan.{SectionSpan}
+use Rattle.object_rules.specs.object_parts.declared.parts.Parts.{Parts}
 use Rattle.object_rules.specs.Spaces.{counts_of}
 use Rattle.object_rules.specs.Windows.{relocs_for, start_of}
 use Rattle.object_file.specs.declared.building.Columns.{Columns}

@@ -1,6 +1,6 @@
 -- Names of exported functions, by the places of exports.
 use Rattle.std.specs.Prelude.{◌≡◌, ℕ, ◌<◌, ◌==◌, nat_lt, ◌&&◌, if◌then◌else◌, List, length, slice_get, slice_index_or, slice_set, Option, Some, None}
-use Rattle.wasm_module.specs.declared.parts.Export.{Export}
+use Rattle.object_rules.specs.wasm_module.declared.parts.Export.{Export}
 use Rattle.object_file.specs.Objects.{export_name}
 
 abbrev pub named : Option Export → Option (List ℕ)

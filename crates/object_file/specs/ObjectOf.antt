@@ -1,19 +1,19 @@
 -- Which bytes are an object (Linking.md), and the first fault of those that aren't.
 use Rattle.std.specs.Prelude.{◌≡◌, ℕ, ◌^◌, ◌≤◌, nat_lt, List, length, if◌then◌else◌, Option, Some, None, Result, Ok, Err}
-use Rattle.wl_base.specs.declared.fault.Fault.{Fault}
-use Rattle.wl_base.specs.declared.fault.Fault.TheVariants.{TooLong, Malformed, Unsupported}
-use Rattle.wl_base.specs.declared.fault.Part.TheVariants as broken
-use Rattle.wasm_grammar.specs.declared.fault.Stop.{Stop}
-use Rattle.wasm_grammar.specs.declared.fault.Stop.TheVariants.{Broken, Foreign}
-use Rattle.wasm_sections.specs.declared.section.SectionSpan.{SectionSpan}
-use Rattle.wasm_sections.specs.declared.fault.FrameFault.{FrameFault}
-use Rattle.wasm_sections.specs.Sections.{IsFrame}
-use Rattle.wasm_sections.specs.Reading.{frame_at}
-use Rattle.object_parts.specs.declared.parts.Parts.{Parts}
-use Rattle.object_parts.specs.declared.reading.SectionStop.{SectionStop}
-use Rattle.object_parts.specs.Adding.{no_parts}
-use Rattle.object_parts.specs.Sections.{AddInTurn}
-use Rattle.object_parts.specs.Reading.{code_relocs, parts_of}
+use Rattle.object_rules.specs.wl_base.declared.fault.Fault.{Fault}
+use Rattle.object_rules.specs.wl_base.declared.fault.Fault.TheVariants.{TooLong, Malformed, Unsupported}
+use Rattle.object_rules.specs.wl_base.declared.fault.Part.TheVariants as broken
+use Rattle.object_rules.specs.wasm_grammar.declared.fault.Stop.{Stop}
+use Rattle.object_rules.specs.wasm_grammar.declared.fault.Stop.TheVariants.{Broken, Foreign}
+use Rattle.object_rules.specs.wasm_sections.declared.section.SectionSpan.{SectionSpan}
+use Rattle.object_rules.specs.wasm_sections.declared.fault.FrameFault.{FrameFault}
+use Rattle.object_rules.specs.wasm_sections.Sections.{IsFrame}
+use Rattle.object_rules.specs.wasm_sections.Reading.{frame_at}
+use Rattle.object_rules.specs.object_parts.declared.parts.Parts.{Parts}
+use Rattle.object_rules.specs.object_parts.declared.reading.SectionStop.{SectionStop}
+use Rattle.object_rules.specs.object_parts.Adding.{no_parts}
+use Rattle.object_rules.specs.object_parts.Sections.{AddInTurn}
+use Rattle.object_rules.specs.object_parts.Reading.{code_relocs, parts_of}
 use Rattle.object_rules.specs.Rules.{broken_rule}
 use Rattle.object_file.specs.declared.object.Object.{Object}
 use Rattle.object_file.specs.declared.reading.ObjectError.{ObjectError}

@@ -1,18 +1,18 @@
 -- An object as it is linked, made of what its sections tell (Linking.md).
 use Rattle.std.specs.Prelude.{ℕ, ◌+◌, ◌-◌, ◌==◌, ◌&&◌, List, [], ◌∷◌, map, Option, Some, None, Result, Ok, Err, if◌then◌else◌}
-use Rattle.wasm_types.specs.declared.import.Import.{Import}
-use Rattle.wasm_module.specs.declared.parts.Export.{Export}
-use Rattle.wasm_sections.specs.declared.section.SectionSpan.{SectionSpan}
-use Rattle.reloc_section.specs.declared.entry.Reloc.{Reloc}
-use Rattle.linking_section.specs.declared.symbol.Symbol.{Symbol}
-use Rattle.linking_section.specs.declared.segment.SegmentInfo.{SegmentInfo}
-use Rattle.linking_section.specs.declared.linking.Linking.{Linking}
-use Rattle.body_windows.specs.declared.operand.Operand.{Operand}
-use Rattle.body_windows.specs.declared.fault.Mismatch.{Mismatch}
-use Rattle.object_parts.specs.declared.parts.CodeBody.{CodeBody}
-use Rattle.object_parts.specs.declared.parts.DataPart.{DataPart}
-use Rattle.object_parts.specs.declared.parts.Parts.{Parts}
-use Rattle.object_parts.specs.Code.{before, behind, end_in, base_in}
+use Rattle.object_rules.specs.wasm_types.declared.import.Import.{Import}
+use Rattle.object_rules.specs.wasm_module.declared.parts.Export.{Export}
+use Rattle.object_rules.specs.wasm_sections.declared.section.SectionSpan.{SectionSpan}
+use Rattle.object_rules.specs.reloc_section.declared.entry.Reloc.{Reloc}
+use Rattle.object_rules.specs.linking_section.declared.symbol.Symbol.{Symbol}
+use Rattle.object_rules.specs.linking_section.declared.segment.SegmentInfo.{SegmentInfo}
+use Rattle.object_rules.specs.linking_section.declared.linking.Linking.{Linking}
+use Rattle.object_rules.specs.body_windows.declared.operand.Operand.{Operand}
+use Rattle.object_rules.specs.body_windows.declared.fault.Mismatch.{Mismatch}
+use Rattle.object_rules.specs.object_parts.declared.parts.CodeBody.{CodeBody}
+use Rattle.object_rules.specs.object_parts.declared.parts.DataPart.{DataPart}
+use Rattle.object_rules.specs.object_parts.declared.parts.Parts.{Parts}
+use Rattle.object_rules.specs.object_parts.Code.{before, behind, end_in, base_in}
 use Rattle.object_rules.specs.Spaces.{counts_of}
 use Rattle.object_rules.specs.Symbols.{name_of}
 use Rattle.object_rules.specs.Windows.{relocs_for, start_of}

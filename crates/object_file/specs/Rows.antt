@@ -2,8 +2,8 @@
 use Rattle.std.specs.Prelude.{◌≡◌, ℕ, ◌+◌, ◌^◌, pos, List, [], ◌∷◌, length, Err, refl}
 use Rattle.std.proofs.Common.{arith}
 use Rattle.std.proofs.lemmas.Bool.{lt-ltb}
-use Rattle.wl_base.specs.declared.fault.Fault.TheVariants.{TooLong}
-use Rattle.reloc_section.specs.declared.entry.Reloc.{Reloc}
+use Rattle.object_rules.specs.wl_base.declared.fault.Fault.TheVariants.{TooLong}
+use Rattle.object_rules.specs.reloc_section.declared.entry.Reloc.{Reloc}
 use Rattle.object_file.specs.ObjectOf.{object_of}
 use Rattle.object_file.specs.Sound.{WindowsStandIn}
 

@@ -1,21 +1,21 @@
 -- What holds of an object that was read (Linking.md): its indexes are in range, its symbols have
 -- names, its parts lie in its bytes, and its relocations name what their types ask for.
 use Rattle.std.specs.Prelude.{◌≡◌, ℕ, ◌+◌, ◌^◌, ◌<◌, ◌≤◌, nat_lt, Bool, false, ◌==◌, ◌||◌, List, [], ◌∷◌, length, slice_get, All, Option, Some, None, is_some, IsTrue}
-use Rattle.wasm_types.specs.declared.import.ImportKind.{ImportKind}
-use Rattle.wasm_types.specs.declared.import.ImportKind.TheVariants as kinds
-use Rattle.linking_section.specs.declared.symbol.Symbol.{Symbol}
-use Rattle.linking_section.specs.declared.symbol.SymbolKind.{SymbolKind}
-use Rattle.linking_section.specs.declared.symbol.SymbolKind.TheVariants.{Function, Datum, GlobalVar, Section, Table}
-use Rattle.linking_section.specs.declared.group.Member.{Member}
-use Rattle.linking_section.specs.declared.group.Group.{Group}
-use Rattle.linking_section.specs.Flags.{is_undefined}
-use Rattle.linking_section.specs.Linking.{is_member_kind}
-use Rattle.reloc_section.specs.declared.entry.Reloc.{Reloc}
-use Rattle.body_windows.specs.declared.operand.Operand.{Operand}
-use Rattle.body_windows.specs.declared.operand.Operand.TheVariants as operands
-use Rattle.body_windows.specs.Operands.{StandIn}
+use Rattle.object_rules.specs.wasm_types.declared.import.ImportKind.{ImportKind}
+use Rattle.object_rules.specs.wasm_types.declared.import.ImportKind.TheVariants as kinds
+use Rattle.object_rules.specs.linking_section.declared.symbol.Symbol.{Symbol}
+use Rattle.object_rules.specs.linking_section.declared.symbol.SymbolKind.{SymbolKind}
+use Rattle.object_rules.specs.linking_section.declared.symbol.SymbolKind.TheVariants.{Function, Datum, GlobalVar, Section, Table}
+use Rattle.object_rules.specs.linking_section.declared.group.Member.{Member}
+use Rattle.object_rules.specs.linking_section.declared.group.Group.{Group}
+use Rattle.object_rules.specs.linking_section.Flags.{is_undefined}
+use Rattle.object_rules.specs.linking_section.Linking.{is_member_kind}
+use Rattle.object_rules.specs.reloc_section.declared.entry.Reloc.{Reloc}
+use Rattle.object_rules.specs.body_windows.declared.operand.Operand.{Operand}
+use Rattle.object_rules.specs.body_windows.declared.operand.Operand.TheVariants as operands
+use Rattle.object_rules.specs.body_windows.Operands.{StandIn}
 use Rattle.object_columns.specs.declared.segments.SegmentDef.{SegmentDef}
-use Rattle.object_parts.specs.Spans.{LiesIn}
+use Rattle.object_rules.specs.object_parts.Spans.{LiesIn}
 use Rattle.object_rules.specs.Symbols.{is_section, is_seen}
 use Rattle.object_rules.specs.Metadata.{is_function_kind}
 use Rattle.object_rules.specs.Relocs.{may_name, is_table_name}

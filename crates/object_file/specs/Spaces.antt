@@ -1,11 +1,11 @@
 -- The index spaces of an object: what is imported first, then what is defined (Core 2.5.1).
 use Rattle.std.specs.Prelude.{ℕ, ◌-◌, List, [], ◌∷◌, ◌++◌, length, map, filter_map, slice_index_or, Option, Some, None}
-use Rattle.wasm_types.specs.declared.function.FuncType.{FuncType}
-use Rattle.wasm_types.specs.declared.table.GlobalType.{GlobalType}
-use Rattle.wasm_types.specs.declared.import.Import.{Import}
-use Rattle.wasm_types.specs.declared.import.ImportKind.{ImportKind}
-use Rattle.wasm_types.specs.declared.import.ImportKind.TheVariants as kinds
-use Rattle.linking_section.specs.declared.symbol.SymbolKind.TheVariants.{Function, GlobalVar, Table}
+use Rattle.object_rules.specs.wasm_types.declared.function.FuncType.{FuncType}
+use Rattle.object_rules.specs.wasm_types.declared.table.GlobalType.{GlobalType}
+use Rattle.object_rules.specs.wasm_types.declared.import.Import.{Import}
+use Rattle.object_rules.specs.wasm_types.declared.import.ImportKind.{ImportKind}
+use Rattle.object_rules.specs.wasm_types.declared.import.ImportKind.TheVariants as kinds
+use Rattle.object_rules.specs.linking_section.declared.symbol.SymbolKind.TheVariants.{Function, GlobalVar, Table}
 use Rattle.object_columns.specs.declared.functions.FunctionDef.{FunctionDef}
 use Rattle.object_rules.specs.Spaces.{imports_of}
 use Rattle.object_file.specs.declared.object.Object.{Object}

@@ -7,13 +7,13 @@ use crate::functions::functions_from;
 use crate::names::with_names;
 use crate::object::Object;
 use crate::segments::segments_from;
-use linking_section::{Linking, SegmentInfo, Symbol};
 use object_columns::{FuncTypes, Functions, Imports, Segments, Symbols};
-use object_parts::Parts;
+use object_rules::linking_section::{Linking, SegmentInfo, Symbol};
+use object_rules::object_parts::Parts;
+use object_rules::wasm_sections::SectionSpan;
+use object_rules::wl_base::{InputId, OutOfMemory, Seq};
 use object_rules::{Counts, relocs_for, start_of};
 use std::alloc::Global;
-use wasm_sections::SectionSpan;
-use wl_base::{InputId, OutOfMemory, Seq};
 
 /// The lists of an object that are kept as columns.
 #[derive(Drop)]

@@ -2,15 +2,15 @@
 ghost use Rattle.std.specs.Prelude.{◌≡◌, ◌+◌, ◌<◌, ◌^◌, length, slice_get, option_copied, IfOk};
 ghost use Rattle.object_file.specs.Objects.{operands_of, functions_from};
 ghost use Rattle.object_file.specs.Exports.{AreLast};
-ghost use Rattle.body_windows.specs.Operands.{operands_seen};
+ghost use Rattle.object_rules.specs.body_windows.Operands.{operands_seen};
 
 use crate::exports::{last_exports, name_at, place_of};
-use body_windows::{Mismatch, Operands, OperandsRef};
 use object_columns::{FunctionRef, Functions};
-use object_parts::CodeBody;
+use object_rules::body_windows::{Mismatch, Operands, OperandsRef};
+use object_rules::object_parts::CodeBody;
+use object_rules::wasm_module::Export;
+use object_rules::wl_base::OutOfMemory;
 use std::alloc::Global;
-use wasm_module::Export;
-use wl_base::OutOfMemory;
 
 /// The operands of a body.
 fn operands_of(windows: &Result<Operands, Mismatch>) -> OperandsRef<'_>

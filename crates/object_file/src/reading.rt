@@ -1,19 +1,19 @@
 //! Reading an object.
 ghost use Rattle.std.specs.Prelude.{◌≡◌, ◌≤◌, ◌+◌, ◌^◌, length, All, Ok, IfOk};
-ghost use Rattle.wasm_sections.specs.Reading.{frame_at};
-ghost use Rattle.object_parts.specs.Reading.{parts_of};
+ghost use Rattle.object_rules.specs.wasm_sections.Reading.{frame_at};
+ghost use Rattle.object_rules.specs.object_parts.Reading.{parts_of};
 ghost use Rattle.object_rules.specs.Rules.{broken_rule};
 ghost use Rattle.object_file.specs.ObjectOf.{IsObject, section_fault, agreed, spelled_object, framed_object, object_of, Answers};
 ghost use Rattle.object_file.specs.declared.object.Object.{Object as Read};
 
 use crate::building::object_from;
 use crate::object::Object;
-use object_parts::{Parts, PartsFault, SectionStop, parts_of};
 use object_rules::broken_rule;
+use object_rules::object_parts::{Parts, PartsFault, SectionStop, parts_of};
+use object_rules::wasm_grammar::Stop;
+use object_rules::wasm_sections::{FrameFault, SectionSpan, frame};
+use object_rules::wl_base::{Fault, InputId, OutOfMemory, Part};
 use std::alloc::Global;
-use wasm_grammar::Stop;
-use wasm_sections::{FrameFault, SectionSpan, frame};
-use wl_base::{Fault, InputId, OutOfMemory, Part};
 
 /// How many bytes an object has at most.
 const MAX_LEN: usize = 1 << 30;

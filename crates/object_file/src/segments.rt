@@ -1,16 +1,16 @@
 //! The data segments of an object.
 ghost use Rattle.std.specs.Prelude.{◌≡◌, drop, map, IfOk};
 ghost use Rattle.object_columns.specs.Seen.{segment_seen};
-ghost use Rattle.object_parts.specs.Code.{end_in};
+ghost use Rattle.object_rules.specs.object_parts.Code.{end_in};
 ghost use Rattle.object_file.specs.Objects.{first_info, window_from, segments_from};
 
-use linking_section::SegmentInfo;
 use object_columns::{SegmentRef, Segments};
-use object_parts::DataPart;
+use object_rules::linking_section::SegmentInfo;
+use object_rules::object_parts::DataPart;
+use object_rules::reloc_section::Reloc;
 use object_rules::split_before;
-use reloc_section::Reloc;
+use object_rules::wl_base::{OutOfMemory, Seq, Span};
 use std::alloc::Global;
-use wl_base::{OutOfMemory, Seq, Span};
 
 /// A segment, with the info at its place, or else no name, alignment 1 and no flags.
 fn with_info<'a>(

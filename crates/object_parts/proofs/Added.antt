@@ -1,19 +1,19 @@
 -- What a section adds: what is read of it is spelled so, and the other way round.
 use Rattle.std.proofs.Common.{◌≡◌, ℕ, zero, suc, ◌+◌, ◌-◌, Bool, true, false, List, [], ◌∷◌, ◌++◌, length, Result, Ok, Err, Option, Some, None, refl, sym, ap, subst, ◌∙◌}
 use Rattle.std.proofs.lemmas.List.{append-nil}
-use Rattle.wl_base.specs.declared.item.Item.{Item}
-use Rattle.wl_base.specs.declared.item.Item.TheVariants as items
-use Rattle.wl_base.specs.declared.span.Span.{Span}
-use Rattle.wasm_grammar.specs.declared.fault.Stop.{Stop}
-use Rattle.wasm_grammar.specs.declared.fault.Stop.TheVariants.{Broken, Foreign}
-use Rattle.wasm_grammar.specs.Grammar.{SpellsU32, SpellsName, SpellsVector}
-use Rattle.wasm_grammar.specs.Readers.{Takes, IsReader}
-use Rattle.wasm_grammar.specs.Reading.{Read, ◌>>=◌, u32_at, name_at, vector_at, whole, ended}
-use Rattle.wasm_grammar.specs.ReaderLaws.{bind_ok, ok_is, u32_reader, name_reader, vector_reader, whole_found, whole_again}
-use Rattle.wasm_types.specs.Types.{SpellsFuncType, func_type_at}
-use Rattle.wasm_types.specs.TypeLaws.{func_type_reader}
-use Rattle.wasm_types.specs.declared.function.FuncType.{FuncType}
-use Rattle.wasm_types.specs.declared.import.Import.{Import}
+use Rattle.wasm_instr.specs.wl_base.declared.item.Item.{Item}
+use Rattle.wasm_instr.specs.wl_base.declared.item.Item.TheVariants as items
+use Rattle.wasm_instr.specs.wl_base.declared.span.Span.{Span}
+use Rattle.wasm_instr.specs.wasm_grammar.declared.fault.Stop.{Stop}
+use Rattle.wasm_instr.specs.wasm_grammar.declared.fault.Stop.TheVariants.{Broken, Foreign}
+use Rattle.wasm_instr.specs.wasm_grammar.Grammar.{SpellsU32, SpellsName, SpellsVector}
+use Rattle.wasm_instr.specs.wasm_grammar.Readers.{Takes, IsReader}
+use Rattle.wasm_instr.specs.wasm_grammar.Reading.{Read, ◌>>=◌, u32_at, name_at, vector_at, whole, ended}
+use Rattle.wasm_instr.specs.wasm_grammar.ReaderLaws.{bind_ok, ok_is, u32_reader, name_reader, vector_reader, whole_found, whole_again}
+use Rattle.wasm_instr.specs.wasm_types.Types.{SpellsFuncType, func_type_at}
+use Rattle.wasm_instr.specs.wasm_types.TypeLaws.{func_type_reader}
+use Rattle.wasm_instr.specs.wasm_types.declared.function.FuncType.{FuncType}
+use Rattle.wasm_instr.specs.wasm_types.declared.import.Import.{Import}
 use Rattle.wasm_sections.specs.declared.section.SectionSpan.{SectionSpan}
 use Rattle.wasm_module.specs.declared.parts.Element.{Element}
 use Rattle.wasm_module.specs.declared.parts.Export.{Export}

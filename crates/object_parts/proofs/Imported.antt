@@ -2,19 +2,19 @@
 use Rattle.std.proofs.Common.{◌≡◌, ℕ, ◌-◌, Bool, true, false, not, ◌&&◌, cond, eqb, List, [], ◌∷◌, ◌++◌, length, Result, Ok, Err, refl, sym, ap, subst, ◌∙◌, append_assoc}
 use Rattle.std.specs.Prelude.{IsTrue}
 use Rattle.std.proofs.lemmas.Bool.{eqb-true, eq-eqb}
-use Rattle.wl_base.specs.declared.item.Item.TheVariants as items
-use Rattle.wasm_grammar.specs.declared.fault.Stop.{Stop}
-use Rattle.wasm_grammar.specs.declared.fault.Stop.TheVariants.{Broken, Foreign}
-use Rattle.wasm_grammar.specs.Grammar.{SpellsByte, Then}
-use Rattle.wasm_grammar.specs.Readers.{Takes, IsReader}
-use Rattle.wasm_grammar.specs.Reading.{Read, ◌>>=◌, byte_at, name_at}
-use Rattle.wasm_grammar.specs.ReaderLaws.{bind_ok, ok_is, regrouped, branch, never, is_byte, byte_reader, name_reader, Takes-then}
-use Rattle.wasm_types.specs.Types.{SpellsImportKind, SpellsImport, SpellsTableType, SpellsLimits, ref_byte, table_type_at, import_kind_at}
-use Rattle.wasm_types.specs.TypeLaws.{table_type_reader, import_kind_reader}
-use Rattle.wasm_types.specs.declared.table.TableType.{TableType}
-use Rattle.wasm_types.specs.declared.import.Import.{Import}
-use Rattle.wasm_types.specs.declared.import.ImportKind.{ImportKind}
-use Rattle.wasm_types.specs.declared.import.ImportKind.TheVariants as kinds
+use Rattle.wasm_instr.specs.wl_base.declared.item.Item.TheVariants as items
+use Rattle.wasm_instr.specs.wasm_grammar.declared.fault.Stop.{Stop}
+use Rattle.wasm_instr.specs.wasm_grammar.declared.fault.Stop.TheVariants.{Broken, Foreign}
+use Rattle.wasm_instr.specs.wasm_grammar.Grammar.{SpellsByte, Then}
+use Rattle.wasm_instr.specs.wasm_grammar.Readers.{Takes, IsReader}
+use Rattle.wasm_instr.specs.wasm_grammar.Reading.{Read, ◌>>=◌, byte_at, name_at}
+use Rattle.wasm_instr.specs.wasm_grammar.ReaderLaws.{bind_ok, ok_is, regrouped, branch, never, is_byte, byte_reader, name_reader, Takes-then}
+use Rattle.wasm_instr.specs.wasm_types.Types.{SpellsImportKind, SpellsImport, SpellsTableType, SpellsLimits, ref_byte, table_type_at, import_kind_at}
+use Rattle.wasm_instr.specs.wasm_types.TypeLaws.{table_type_reader, import_kind_reader}
+use Rattle.wasm_instr.specs.wasm_types.declared.table.TableType.{TableType}
+use Rattle.wasm_instr.specs.wasm_types.declared.import.Import.{Import}
+use Rattle.wasm_instr.specs.wasm_types.declared.import.ImportKind.{ImportKind}
+use Rattle.wasm_instr.specs.wasm_types.declared.import.ImportKind.TheVariants as kinds
 use Rattle.object_parts.specs.declared.imports.Seen.{Seen}
 use Rattle.object_parts.specs.Turns.{IsPlacedReader}
 use Rattle.object_parts.specs.Imports.{names_table, IsTaken, SpellsObjectImport, funcref_table_at, table_import_at, taken_kind, object_import_at}

@@ -3,19 +3,19 @@ use Rattle.std.proofs.Common.{◌≡◌, ℕ, ◌-◌, ◌+◌, ◌≤◌, Bool,
 use Rattle.std.specs.Prelude.{IsTrue}
 use Rattle.std.proofs.lemmas.List.{length-append}
 use Rattle.std.proofs.lemmas.Bool.{eqb-true}
-use Rattle.wl_base.specs.declared.item.Item.TheVariants as items
-use Rattle.wl_base.specs.declared.span.Span.{Span}
-use Rattle.wasm_grammar.specs.declared.fault.Stop.{Stop}
-use Rattle.wasm_grammar.specs.declared.fault.Stop.TheVariants.{Broken, Foreign}
-use Rattle.wasm_grammar.specs.Grammar.{SpellsByte, SpellsU32}
-use Rattle.wasm_grammar.specs.Readers.{Takes, IsReader}
-use Rattle.wasm_grammar.specs.Reading.{Read, ◌>>=◌, byte_at, name_at, part_at}
-use Rattle.wasm_grammar.specs.ReaderLaws.{bind_ok, ok_is, regrouped, branch, never, byte_reader, name_reader, part_found, part_again, Takes-then}
-use Rattle.wasm_types.specs.Types.{SpellsImportKind, SpellsImport, SpellsGlobalType, SpellsConstExpr, global_type_at, const_expr_at, table_type_at, import_kind_at}
-use Rattle.wasm_types.specs.TypeLaws.{global_type_reader, const_expr_reader, table_type_reader, import_kind_reader}
-use Rattle.wasm_types.specs.declared.import.Import.{Import}
-use Rattle.wasm_types.specs.declared.import.ImportKind.{ImportKind}
-use Rattle.wasm_types.specs.declared.import.ImportKind.TheVariants as kinds
+use Rattle.wasm_instr.specs.wl_base.declared.item.Item.TheVariants as items
+use Rattle.wasm_instr.specs.wl_base.declared.span.Span.{Span}
+use Rattle.wasm_instr.specs.wasm_grammar.declared.fault.Stop.{Stop}
+use Rattle.wasm_instr.specs.wasm_grammar.declared.fault.Stop.TheVariants.{Broken, Foreign}
+use Rattle.wasm_instr.specs.wasm_grammar.Grammar.{SpellsByte, SpellsU32}
+use Rattle.wasm_instr.specs.wasm_grammar.Readers.{Takes, IsReader}
+use Rattle.wasm_instr.specs.wasm_grammar.Reading.{Read, ◌>>=◌, byte_at, name_at, part_at}
+use Rattle.wasm_instr.specs.wasm_grammar.ReaderLaws.{bind_ok, ok_is, regrouped, branch, never, byte_reader, name_reader, part_found, part_again, Takes-then}
+use Rattle.wasm_instr.specs.wasm_types.Types.{SpellsImportKind, SpellsImport, SpellsGlobalType, SpellsConstExpr, global_type_at, const_expr_at, table_type_at, import_kind_at}
+use Rattle.wasm_instr.specs.wasm_types.TypeLaws.{global_type_reader, const_expr_reader, table_type_reader, import_kind_reader}
+use Rattle.wasm_instr.specs.wasm_types.declared.import.Import.{Import}
+use Rattle.wasm_instr.specs.wasm_types.declared.import.ImportKind.{ImportKind}
+use Rattle.wasm_instr.specs.wasm_types.declared.import.ImportKind.TheVariants as kinds
 use Rattle.wasm_instr.specs.Bodies.{SpellsBody, body_at}
 use Rattle.wasm_instr.specs.BodyLaws.{body_found, body_again}
 use Rattle.wasm_module.specs.declared.parts.DataSegment.{DataSegment}

@@ -5,3 +5,5 @@ pub mod Items
 pub mod Imported
 pub mod Added
 pub mod Lying
+pub use Rattle.body_windows.proofs as body_windows_lemmas
+pub use Rattle.wasm_sections.proofs as wasm_sections_lemmas

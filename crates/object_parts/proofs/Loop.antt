@@ -1,11 +1,11 @@
 -- Reading items in turn, as a loop does.
 use Rattle.std.proofs.Common.{◌≡◌, ℕ, suc, ◌-◌, ◌+◌, ◌≤◌, ◌<◌, List, [], ◌∷◌, ◌++◌, Result, Ok, Err, refl, sym, ap, ◌∙◌, append_assoc, arith}
 use Rattle.std.proofs.lemmas.List.{append-nil}
-use Rattle.wasm_grammar.specs.declared.fault.Stop.{Stop}
-use Rattle.wasm_grammar.specs.declared.fault.ReadFault.{ReadFault}
-use Rattle.wasm_grammar.specs.declared.fault.ReadFault.TheVariants.{Stopped, OutOfMemory}
-use Rattle.wasm_grammar.specs.Fault.{Fails}
-use Rattle.wasm_grammar.specs.Reading.{Read, ◌>>=◌}
+use Rattle.wasm_instr.specs.wasm_grammar.declared.fault.Stop.{Stop}
+use Rattle.wasm_instr.specs.wasm_grammar.declared.fault.ReadFault.{ReadFault}
+use Rattle.wasm_instr.specs.wasm_grammar.declared.fault.ReadFault.TheVariants.{Stopped, OutOfMemory}
+use Rattle.wasm_instr.specs.wasm_grammar.Fault.{Fails}
+use Rattle.wasm_instr.specs.wasm_grammar.Reading.{Read, ◌>>=◌}
 use Rattle.object_parts.specs.Turns.{turns_at}
 
 -- what was read before, and what is still read

@@ -4,15 +4,15 @@ use Rattle.std.specs.Prelude.{All, IfOk}
 use Rattle.std.proofs.lemmas.List.{length-append}
 use Rattle.std.proofs.lemmas.List.Elements.{All-nil, All-cons, All-head, All-tail, All-weaker}
 use Rattle.std.specs.Prelude.{Bool, true, false, Option, Some, None}
-use Rattle.wasm_grammar.specs.Grammar.{SpellsBytes, Then}
-use Rattle.wasm_types.specs.declared.const_expr.ConstExpr.{ConstExpr}
+use Rattle.wasm_instr.specs.wasm_grammar.Grammar.{SpellsBytes, Then}
+use Rattle.wasm_instr.specs.wasm_types.declared.const_expr.ConstExpr.{ConstExpr}
 use Rattle.wasm_module.specs.Parts.{SpellsData}
 use Rattle.object_parts.specs.Reading.{code_relocs, parts_of, GivesParts}
 use Rattle.object_parts.specs.declared.reading.PartsFault.{PartsFault}
 use Rattle.object_parts.proofs.Sections.{parts_found}
 use Rattle.object_parts.specs.Imports.{SpellsObjectImport, seen_import, none_seen}
-use Rattle.wl_base.specs.declared.span.Span.{Span}
-use Rattle.wasm_grammar.specs.declared.fault.Stop.{Stop}
+use Rattle.wasm_instr.specs.wl_base.declared.span.Span.{Span}
+use Rattle.wasm_instr.specs.wasm_grammar.declared.fault.Stop.{Stop}
 use Rattle.wasm_sections.specs.declared.section.SectionSpan.{SectionSpan}
 use Rattle.wasm_module.specs.declared.parts.DataSegment.{DataSegment}
 use Rattle.wasm_module.specs.Parts.{SpellsDataSegment}

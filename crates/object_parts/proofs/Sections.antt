@@ -1,12 +1,12 @@
 -- Sections one after another, as loops go over them.
 use Rattle.std.proofs.Common.{◌≡◌, ℕ, ◌+◌, ◌≤◌, ◌<◌, List, [], ◌∷◌, ◌++◌, length, drop, get_or, Option, Some, None, Result, Ok, Err, refl, sym, ap, ◌∙◌, arith}
 use Rattle.std.proofs.lemmas.List.{at_drop_more, length-append, drop_all}
-use Rattle.wasm_grammar.specs.declared.fault.Stop.{Stop}
-use Rattle.wasm_grammar.specs.declared.fault.ReadFault.{ReadFault}
-use Rattle.wasm_grammar.specs.declared.fault.ReadFault.TheVariants.{Stopped, OutOfMemory}
-use Rattle.wasm_grammar.specs.Fault.{Fails}
-use Rattle.wasm_grammar.specs.Reading.{part_at, u32_at}
-use Rattle.wasm_grammar.specs.ReaderLaws.{part_found, u32_reader, taken_length}
+use Rattle.wasm_instr.specs.wasm_grammar.declared.fault.Stop.{Stop}
+use Rattle.wasm_instr.specs.wasm_grammar.declared.fault.ReadFault.{ReadFault}
+use Rattle.wasm_instr.specs.wasm_grammar.declared.fault.ReadFault.TheVariants.{Stopped, OutOfMemory}
+use Rattle.wasm_instr.specs.wasm_grammar.Fault.{Fails}
+use Rattle.wasm_instr.specs.wasm_grammar.Reading.{part_at, u32_at}
+use Rattle.wasm_instr.specs.wasm_grammar.ReaderLaws.{part_found, u32_reader, taken_length}
 use Rattle.wasm_sections.specs.declared.section.SectionSpan.{SectionSpan}
 use Rattle.reloc_section.specs.declared.entry.Reloc.{Reloc}
 use Rattle.object_parts.specs.declared.parts.Parts.{Parts}

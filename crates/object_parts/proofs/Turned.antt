@@ -1,11 +1,11 @@
 -- Items that are read in turn are spelled in turn, and the other way round.
 use Rattle.std.proofs.Common.{◌≡◌, ℕ, zero, suc, ◌-◌, List, [], ◌∷◌, ◌++◌, length, Result, Ok, Err, refl, sym, ap, subst, ◌∙◌, append_assoc}
 use Rattle.std.proofs.lemmas.List.{append-nil}
-use Rattle.wasm_grammar.specs.declared.fault.Stop.{Stop}
-use Rattle.wasm_grammar.specs.Grammar.{SpellsU32}
-use Rattle.wasm_grammar.specs.Readers.{Takes, IsReader}
-use Rattle.wasm_grammar.specs.Reading.{Read, ◌>>=◌, u32_at, ended}
-use Rattle.wasm_grammar.specs.ReaderLaws.{bind_ok, ok_is, regrouped, u32_reader}
+use Rattle.wasm_instr.specs.wasm_grammar.declared.fault.Stop.{Stop}
+use Rattle.wasm_instr.specs.wasm_grammar.Grammar.{SpellsU32}
+use Rattle.wasm_instr.specs.wasm_grammar.Readers.{Takes, IsReader}
+use Rattle.wasm_instr.specs.wasm_grammar.Reading.{Read, ◌>>=◌, u32_at, ended}
+use Rattle.wasm_instr.specs.wasm_grammar.ReaderLaws.{bind_ok, ok_is, regrouped, u32_reader}
 use Rattle.object_parts.specs.Turns.{Spelling, AreInTurn, AreEntries, turns_at, entries_at, IsPlacedReader}
 
 ended_ok : {A : Type 0} (end : ℕ) (x y : A) (rest : List ℕ) → ended end x rest ≡ Ok y → (rest ≡ []) × (x ≡ y)

@@ -1,16 +1,16 @@
 -- What one section adds to the parts of an object (Core 5.5, Linking.md): which payloads spell it,
 -- and how it is read.
 use Rattle.std.specs.Prelude.{◌≡◌, ℕ, zero, suc, ◌+◌, ◌==◌, ◌&&◌, Bool, true, false, List, [], ◌∷◌, ◌++◌, length, take, drop, slice_get, Option, Some, None, is_some, if◌then◌else◌, Result, Ok, Err}
-use Rattle.wl_base.specs.declared.item.Item.{Item}
-use Rattle.wl_base.specs.declared.item.Item.TheVariants as items
-use Rattle.wl_base.specs.declared.span.Span.{Span}
-use Rattle.wasm_grammar.specs.declared.fault.Stop.{Stop}
-use Rattle.wasm_grammar.specs.declared.fault.Stop.TheVariants.{Broken, Foreign}
-use Rattle.wasm_grammar.specs.Grammar.{SpellsU32, SpellsName, SpellsVector}
-use Rattle.wasm_grammar.specs.Reading.{Read, ◌>>=◌, u32_at, name_at, vector_at, whole, ended}
-use Rattle.wasm_types.specs.declared.function.FuncType.{FuncType}
-use Rattle.wasm_types.specs.declared.import.Import.{Import}
-use Rattle.wasm_types.specs.Types.{SpellsFuncType, func_type_at}
+use Rattle.wasm_instr.specs.wl_base.declared.item.Item.{Item}
+use Rattle.wasm_instr.specs.wl_base.declared.item.Item.TheVariants as items
+use Rattle.wasm_instr.specs.wl_base.declared.span.Span.{Span}
+use Rattle.wasm_instr.specs.wasm_grammar.declared.fault.Stop.{Stop}
+use Rattle.wasm_instr.specs.wasm_grammar.declared.fault.Stop.TheVariants.{Broken, Foreign}
+use Rattle.wasm_instr.specs.wasm_grammar.Grammar.{SpellsU32, SpellsName, SpellsVector}
+use Rattle.wasm_instr.specs.wasm_grammar.Reading.{Read, ◌>>=◌, u32_at, name_at, vector_at, whole, ended}
+use Rattle.wasm_instr.specs.wasm_types.declared.function.FuncType.{FuncType}
+use Rattle.wasm_instr.specs.wasm_types.declared.import.Import.{Import}
+use Rattle.wasm_instr.specs.wasm_types.Types.{SpellsFuncType, func_type_at}
 use Rattle.wasm_sections.specs.declared.section.SectionSpan.{SectionSpan}
 use Rattle.wasm_module.specs.declared.parts.Element.{Element}
 use Rattle.wasm_module.specs.declared.parts.Export.{Export}

@@ -5,10 +5,10 @@
 -- one that stands before that body's bytes, as on its size, is on no immediate.
 use Rattle.std.specs.Prelude.{◌≡◌, ℕ, ◌+◌, ◌-◌, List, ◌++◌, length, take, drop, nat_lt, Result, Ok, Bool}
 use Rattle.std.specs.List.{prefix_len}
-use Rattle.wl_base.specs.declared.span.Span.{Span}
-use Rattle.wasm_grammar.specs.declared.fault.Stop.{Stop}
-use Rattle.wasm_grammar.specs.Grammar.{SpellsU32}
-use Rattle.wasm_grammar.specs.Reading.{Read, ◌>>=◌, part_at}
+use Rattle.wasm_instr.specs.wl_base.declared.span.Span.{Span}
+use Rattle.wasm_instr.specs.wasm_grammar.declared.fault.Stop.{Stop}
+use Rattle.wasm_instr.specs.wasm_grammar.Grammar.{SpellsU32}
+use Rattle.wasm_instr.specs.wasm_grammar.Reading.{Read, ◌>>=◌, part_at}
 use Rattle.wasm_instr.specs.Bodies.{SpellsBody, body_at}
 use Rattle.wasm_instr.specs.declared.body.Body.{Body}
 use Rattle.reloc_section.specs.declared.entry.Reloc.{Reloc}

@@ -2,14 +2,14 @@
 -- which is the table of functions of funcref.
 use Rattle.std.specs.Prelude.{◌≡◌, ℕ, ◌==◌, ◌&&◌, Bool, true, false, not, IsTrue, List, length, codes, if◌then◌else◌, Result, Ok, Err}
 use Rattle.std.specs.Str.{bytes_eq}
-use Rattle.wl_base.specs.declared.item.Item.TheVariants as items
-use Rattle.wasm_grammar.specs.declared.fault.Stop.{Stop}
-use Rattle.wasm_grammar.specs.declared.fault.Stop.TheVariants.{Foreign}
-use Rattle.wasm_grammar.specs.Reading.{Read, ◌>>=◌, byte_at, name_at}
-use Rattle.wasm_types.specs.Types.{SpellsImport, table_type_at, import_kind_at}
-use Rattle.wasm_types.specs.declared.import.Import.{Import}
-use Rattle.wasm_types.specs.declared.import.ImportKind.{ImportKind}
-use Rattle.wasm_types.specs.declared.import.ImportKind.TheVariants as kinds
+use Rattle.wasm_instr.specs.wl_base.declared.item.Item.TheVariants as items
+use Rattle.wasm_instr.specs.wasm_grammar.declared.fault.Stop.{Stop}
+use Rattle.wasm_instr.specs.wasm_grammar.declared.fault.Stop.TheVariants.{Foreign}
+use Rattle.wasm_instr.specs.wasm_grammar.Reading.{Read, ◌>>=◌, byte_at, name_at}
+use Rattle.wasm_instr.specs.wasm_types.Types.{SpellsImport, table_type_at, import_kind_at}
+use Rattle.wasm_instr.specs.wasm_types.declared.import.Import.{Import}
+use Rattle.wasm_instr.specs.wasm_types.declared.import.ImportKind.{ImportKind}
+use Rattle.wasm_instr.specs.wasm_types.declared.import.ImportKind.TheVariants as kinds
 use Rattle.object_parts.specs.declared.imports.Seen.{Seen}
 use Rattle.object_parts.specs.Turns.{Spelling}
 

@@ -1,10 +1,10 @@
 -- Reading the sections of an object in file order: its parts, or the first section that isn't
 -- spelled whole and what stands there.
 use Rattle.std.specs.Prelude.{◌≡◌, ℕ, ◌+◌, ◌==◌, List, [], ◌∷◌, Option, Some, None, if◌then◌else◌, Result, Ok, Err}
-use Rattle.wasm_grammar.specs.declared.fault.Stop.{Stop}
-use Rattle.wasm_grammar.specs.declared.fault.ReadFault.{ReadFault}
-use Rattle.wasm_grammar.specs.declared.fault.ReadFault.TheVariants as read
-use Rattle.wasm_grammar.specs.Reading.{u32_at, name_at}
+use Rattle.wasm_instr.specs.wasm_grammar.declared.fault.Stop.{Stop}
+use Rattle.wasm_instr.specs.wasm_grammar.declared.fault.ReadFault.{ReadFault}
+use Rattle.wasm_instr.specs.wasm_grammar.declared.fault.ReadFault.TheVariants as read
+use Rattle.wasm_instr.specs.wasm_grammar.Reading.{u32_at, name_at}
 use Rattle.wasm_sections.specs.declared.section.SectionSpan.{SectionSpan}
 use Rattle.reloc_section.specs.declared.entry.Reloc.{Reloc}
 use Rattle.reloc_section.specs.declared.section.RelocSection.{RelocSection}

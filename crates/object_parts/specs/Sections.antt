@@ -1,6 +1,6 @@
 -- The parts of an object: what its sections add, one after another (Core 5.5.16, Linking.md).
 use Rattle.std.specs.Prelude.{◌≡◌, ℕ, List, [], ◌∷◌, take, drop}
-use Rattle.wl_base.specs.declared.span.Span.{Span}
+use Rattle.wasm_instr.specs.wl_base.declared.span.Span.{Span}
 use Rattle.wasm_sections.specs.declared.section.SectionSpan.{SectionSpan}
 use Rattle.reloc_section.specs.declared.entry.Reloc.{Reloc}
 use Rattle.object_parts.specs.declared.parts.Parts.{Parts}

@@ -1,6 +1,6 @@
 -- Where the parts of an object stand.
 use Rattle.std.specs.Prelude.{ℕ, ◌+◌, ◌≤◌, All}
-use Rattle.wl_base.specs.declared.span.Span.{Span}
+use Rattle.wasm_instr.specs.wl_base.declared.span.Span.{Span}
 use Rattle.object_parts.specs.declared.parts.Parts.{Parts}
 
 -- The span lies in so many bytes.

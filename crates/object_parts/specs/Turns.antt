@@ -1,8 +1,8 @@
 -- Items one after another, each read in the state that those before it leave.
 use Rattle.std.specs.Prelude.{◌≡◌, ℕ, zero, suc, List, [], ◌∷◌, ◌++◌, length, Result, Ok}
-use Rattle.wasm_grammar.specs.declared.fault.Stop.{Stop}
-use Rattle.wasm_grammar.specs.Grammar.{SpellsU32}
-use Rattle.wasm_grammar.specs.Reading.{Read, ◌>>=◌, u32_at, ended}
+use Rattle.wasm_instr.specs.wasm_grammar.declared.fault.Stop.{Stop}
+use Rattle.wasm_instr.specs.wasm_grammar.Grammar.{SpellsU32}
+use Rattle.wasm_instr.specs.wasm_grammar.Reading.{Read, ◌>>=◌, u32_at, ended}
 
 -- ---- the grammar
 

@@ -1,6 +1,6 @@
 //! What one section adds.
 ghost use Rattle.std.specs.Prelude.{◌≡◌, ◌+◌, ◌≤◌, ◌^◌, length};
-ghost use Rattle.wasm_grammar.specs.Fault.{Reads, Gives};
+ghost use Rattle.wasm_instr.specs.wasm_grammar.Fault.{Reads, Gives};
 ghost use Rattle.object_parts.specs.Adding.{none_of, no_entries, end_of, add_types, add_imports, add_functions, add_globals, add_exports, add_elements, add_data_count, add_code, add_segments, add_kind};
 
 use crate::code::bodies_at;
@@ -13,9 +13,9 @@ use crate::kind::SectionKind;
 use crate::parts::Parts;
 use reloc_section::Reloc;
 use std::alloc::Global;
-use wasm_grammar::{ReadFault, Stop, none_at, u32_at, whole};
+use wasm_instr::wasm_grammar::{ReadFault, Stop, none_at, u32_at, whole};
+use wasm_instr::wl_base::{Item, Span};
 use wasm_sections::SectionSpan;
-use wl_base::{Item, Span};
 
 fn none_of(item: Item, count: u32, end: usize, bytes: &[u8]) -> Result<(), Stop>
     ensures { Reads (λ x. x) result (none_of item count end bytes.now) }

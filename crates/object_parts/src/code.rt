@@ -1,7 +1,7 @@
 //! The code section.
 ghost use Rattle.std.specs.Prelude.{◌≡◌, ◌+◌, ◌≤◌, ◌^◌, length, IfOk};
 ghost use Rattle.std.specs.List.{prefix_len};
-ghost use Rattle.wasm_grammar.specs.Fault.{Gives};
+ghost use Rattle.wasm_instr.specs.wasm_grammar.Fault.{Gives};
 ghost use Rattle.object_parts.specs.Placed.{span_before};
 ghost use Rattle.object_parts.specs.Turns.{turns_at, entries_at};
 ghost use Rattle.object_parts.specs.Code.{begins_before, before, behind, left_behind, body_in, code_body_at};
@@ -11,8 +11,8 @@ use crate::placed::span_before;
 use body_windows::scan;
 use reloc_section::Reloc;
 use std::alloc::Global;
-use wasm_grammar::{ReadFault, none_at, part_at, u32_at};
-use wl_base::{Seq, Span};
+use wasm_instr::wasm_grammar::{ReadFault, none_at, part_at, u32_at};
+use wasm_instr::wl_base::{Seq, Span};
 
 /// How many relocations in front begin before a place of the payload.
 fn count_before(place: u64, relocs: &[Reloc]) -> usize

@@ -1,13 +1,13 @@
 //! Element segments.
 ghost use Rattle.std.specs.Prelude.{false};
-ghost use Rattle.wasm_grammar.specs.Fault.{Gives};
-ghost use Rattle.wasm_grammar.specs.Reading.{many_at, vector_at, whole};
+ghost use Rattle.wasm_instr.specs.wasm_grammar.Fault.{Gives};
+ghost use Rattle.wasm_instr.specs.wasm_grammar.Reading.{many_at, vector_at, whole};
 ghost use Rattle.wasm_module.specs.PartReading.{element_at};
 
 use std::alloc::Global;
-use wasm_grammar::{ReadFault, none_at, u32_at};
+use wasm_instr::wasm_grammar::{ReadFault, none_at, u32_at};
+use wasm_instr::wl_base::Seq;
 use wasm_module::{Element, element_at};
-use wl_base::Seq;
 
 /// So many element segments, and the bytes after them.
 fn many_elements(
@@ -29,7 +29,7 @@ fn many_elements(
 }
 
 /// The element segments that are all the bytes (Core 5.5.12).
-#[tactic(auto, unfolding(wasm_grammar::specs::Reading::vector_at, wasm_grammar::specs::Reading::whole))]
+#[tactic(auto, unfolding(wasm_instr::specs::wasm_grammar::Reading::vector_at, wasm_instr::specs::wasm_grammar::Reading::whole))]
 pub fn elements_at(alloc: Global, end: usize, payload: &[u8]) -> Result<Seq<Element>, ReadFault>
     ensures { Gives (λ x. x) result (whole (vector_at (element_at false)) end payload.now) }
 {

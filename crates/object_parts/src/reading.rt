@@ -1,6 +1,6 @@
 //! The sections of an object in file order.
 ghost use Rattle.std.specs.Prelude.{◌≡◌, ◌+◌, ◌≤◌, ◌<◌, ◌^◌, length, All, IfOk};
-ghost use Rattle.wasm_grammar.specs.Reading.{u32_at, name_at};
+ghost use Rattle.wasm_instr.specs.wasm_grammar.Reading.{u32_at, name_at};
 ghost use Rattle.reloc_section.specs.Relocs.{relocs_at};
 ghost use Rattle.object_parts.specs.Adding.{no_parts};
 ghost use Rattle.object_parts.specs.Sections.{AddInTurn};
@@ -15,9 +15,9 @@ use crate::parts::Parts;
 use crate::placed::bytes_in;
 use reloc_section::{Reloc, relocs_at};
 use std::alloc::Global;
-use wasm_grammar::{ReadFault, Stop, name_at, u32_at};
+use wasm_instr::wasm_grammar::{ReadFault, Stop, name_at, u32_at};
+use wasm_instr::wl_base::{OutOfMemory, Seq};
 use wasm_sections::SectionSpan;
-use wl_base::{OutOfMemory, Seq};
 
 /// The first section that isn't spelled whole.
 #[derive(Clone, Copy, Debug, PartialEq, Eq)]

@@ -1,7 +1,7 @@
 -- The places of the imports of each kind.
 use Rattle.std.proofs.Common.{◌≡◌, false, List, [], ◌∷◌, map, filter, Option, Some, refl}
-use Rattle.wasm_types.specs.declared.import.Import.{Import}
-use Rattle.linking_section.specs.declared.symbol.SymbolKind.TheVariants.{Function, Datum, GlobalVar, Section, Table}
+use Rattle.object_parts.specs.wasm_types.declared.import.Import.{Import}
+use Rattle.object_parts.specs.linking_section.declared.symbol.SymbolKind.TheVariants.{Function, Datum, GlobalVar, Section, Table}
 use Rattle.object_rules.specs.declared.spaces.ImportPlaces.{ImportPlaces}
 use Rattle.object_rules.specs.Spaces.{HoldPlaces, ArePlaces}
 

@@ -1,7 +1,7 @@
 -- Worked examples.
 use Rattle.std.specs.Prelude.{◌≡◌, ℕ, pos, true, false, [], ◌∷◌, nat_eq, None, refl}
-use Rattle.reloc_section.specs.declared.entry.Reloc.{Reloc}
-use Rattle.linking_section.specs.declared.symbol.SymbolKind.TheVariants.{Function, Datum}
+use Rattle.object_parts.specs.reloc_section.declared.entry.Reloc.{Reloc}
+use Rattle.object_parts.specs.linking_section.declared.symbol.SymbolKind.TheVariants.{Function, Datum}
 use Rattle.object_parts.specs.declared.parts.DataPart.{DataPart}
 use Rattle.object_rules.specs.Differ.{all_differ}
 use Rattle.object_rules.specs.Relocs.{lie_apart, may_name}

@@ -2,10 +2,10 @@
 -- counted twice is counted alike (Core 2.5, 3.4, 5.5.16).
 use Rattle.std.specs.Prelude.{ℕ, ◌==◌, nat_lt, Bool, true, ◌&&◌, length, Option, Some, None, if◌then◌else◌}
 use Rattle.std.specs.List.{list_all}
-use Rattle.wasm_types.specs.declared.import.ImportKind.{ImportKind}
-use Rattle.wasm_types.specs.declared.import.ImportKind.TheVariants as kinds
-use Rattle.wasm_module.specs.declared.parts.Export.{Export}
-use Rattle.wasm_module.specs.declared.parts.Element.{Element}
+use Rattle.object_parts.specs.wasm_types.declared.import.ImportKind.{ImportKind}
+use Rattle.object_parts.specs.wasm_types.declared.import.ImportKind.TheVariants as kinds
+use Rattle.object_parts.specs.wasm_module.declared.parts.Export.{Export}
+use Rattle.object_parts.specs.wasm_module.declared.parts.Element.{Element}
 use Rattle.object_parts.specs.declared.parts.DataPart.{DataPart}
 use Rattle.object_parts.specs.declared.parts.Parts.{Parts}
 use Rattle.object_rules.specs.declared.spaces.Counts.{Counts}

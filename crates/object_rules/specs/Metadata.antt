@@ -3,14 +3,14 @@
 use Rattle.std.specs.Prelude.{ℕ, ◌+◌, ◌*◌, ◌^◌, ◌==◌, nat_lt, nat_le, nat_eq, Bool, true, false, ◌&&◌, List, length, map, flat_map, slice_get, Option, Some, None, if◌then◌else◌}
 use Rattle.std.specs.List.{list_all}
 use Rattle.std.specs.Str.{bytes_eq}
-use Rattle.wasm_types.specs.declared.function.FuncType.{FuncType}
-use Rattle.linking_section.specs.declared.symbol.Symbol.{Symbol}
-use Rattle.linking_section.specs.declared.symbol.SymbolKind.{SymbolKind}
-use Rattle.linking_section.specs.declared.symbol.SymbolKind.TheVariants.{Function, Datum, GlobalVar, Section, Table}
-use Rattle.linking_section.specs.declared.segment.SegmentInfo.{SegmentInfo}
-use Rattle.linking_section.specs.declared.init.InitFunc.{InitFunc}
-use Rattle.linking_section.specs.declared.group.Member.{Member}
-use Rattle.linking_section.specs.declared.group.Group.{Group}
+use Rattle.object_parts.specs.wasm_types.declared.function.FuncType.{FuncType}
+use Rattle.object_parts.specs.linking_section.declared.symbol.Symbol.{Symbol}
+use Rattle.object_parts.specs.linking_section.declared.symbol.SymbolKind.{SymbolKind}
+use Rattle.object_parts.specs.linking_section.declared.symbol.SymbolKind.TheVariants.{Function, Datum, GlobalVar, Section, Table}
+use Rattle.object_parts.specs.linking_section.declared.segment.SegmentInfo.{SegmentInfo}
+use Rattle.object_parts.specs.linking_section.declared.init.InitFunc.{InitFunc}
+use Rattle.object_parts.specs.linking_section.declared.group.Member.{Member}
+use Rattle.object_parts.specs.linking_section.declared.group.Group.{Group}
 use Rattle.object_parts.specs.declared.parts.Parts.{Parts}
 use Rattle.object_rules.specs.declared.spaces.Counts.{Counts}
 use Rattle.object_rules.specs.Spaces.{function_types}

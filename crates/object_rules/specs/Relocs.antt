@@ -2,13 +2,13 @@
 use Rattle.std.specs.Prelude.{ℕ, ◌+◌, ◌==◌, nat_lt, nat_le, nat_eq, Bool, true, false, ◌&&◌, ◌||◌, List, [], ◌∷◌, map, slice_get, codes, Option, Some, None, if◌then◌else◌}
 use Rattle.std.specs.List.{list_all}
 use Rattle.std.specs.Str.{bytes_eq}
-use Rattle.wasm_types.specs.declared.import.Import.{Import}
-use Rattle.wasm_sections.specs.declared.section.SectionSpan.{SectionSpan}
-use Rattle.reloc_section.specs.declared.entry.Reloc.{Reloc}
-use Rattle.reloc_section.specs.declared.section.RelocSection.{RelocSection}
-use Rattle.linking_section.specs.declared.symbol.Symbol.{Symbol}
-use Rattle.linking_section.specs.declared.symbol.SymbolKind.{SymbolKind}
-use Rattle.linking_section.specs.declared.symbol.SymbolKind.TheVariants.{Function, Datum, GlobalVar, Section, Table}
+use Rattle.object_parts.specs.wasm_types.declared.import.Import.{Import}
+use Rattle.object_parts.specs.wasm_sections.declared.section.SectionSpan.{SectionSpan}
+use Rattle.object_parts.specs.reloc_section.declared.entry.Reloc.{Reloc}
+use Rattle.object_parts.specs.reloc_section.declared.section.RelocSection.{RelocSection}
+use Rattle.object_parts.specs.linking_section.declared.symbol.Symbol.{Symbol}
+use Rattle.object_parts.specs.linking_section.declared.symbol.SymbolKind.{SymbolKind}
+use Rattle.object_parts.specs.linking_section.declared.symbol.SymbolKind.TheVariants.{Function, Datum, GlobalVar, Section, Table}
 use Rattle.object_parts.specs.Adding.{has_id}
 use Rattle.object_rules.specs.declared.spaces.Counts.{Counts}
 use Rattle.object_rules.specs.Differ.{all_differ}

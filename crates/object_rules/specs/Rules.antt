@@ -1,7 +1,7 @@
 -- The rules by which the sections of an object agree, and the first that is broken.
 use Rattle.std.specs.Prelude.{ℕ, not, List, Option, Some, None, if◌then◌else◌}
-use Rattle.wasm_sections.specs.declared.section.SectionSpan.{SectionSpan}
-use Rattle.linking_section.specs.declared.linking.Linking.{Linking}
+use Rattle.object_parts.specs.wasm_sections.declared.section.SectionSpan.{SectionSpan}
+use Rattle.object_parts.specs.linking_section.declared.linking.Linking.{Linking}
 use Rattle.object_parts.specs.declared.parts.Parts.{Parts}
 use Rattle.object_rules.specs.Spaces.{counts_of}
 use Rattle.object_rules.specs.Indexes.{are_counted, are_in_range}

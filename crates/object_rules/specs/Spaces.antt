@@ -1,11 +1,11 @@
 -- The index spaces of an object: what is imported first, then what is defined (Core 2.5.1).
 use Rattle.std.specs.Prelude.{◌≡◌, ℕ, ◌+◌, Bool, true, false, List, [], ◌++◌, length, map, slice_get, filter, filter_map, Option, Some, None}
-use Rattle.wasm_types.specs.declared.import.Import.{Import}
-use Rattle.wasm_types.specs.declared.import.ImportKind.{ImportKind}
-use Rattle.wasm_types.specs.declared.import.ImportKind.TheVariants as kinds
-use Rattle.wasm_sections.specs.declared.section.SectionSpan.{SectionSpan}
-use Rattle.linking_section.specs.declared.symbol.SymbolKind.{SymbolKind}
-use Rattle.linking_section.specs.declared.symbol.SymbolKind.TheVariants.{Function, Datum, GlobalVar, Section, Table}
+use Rattle.object_parts.specs.wasm_types.declared.import.Import.{Import}
+use Rattle.object_parts.specs.wasm_types.declared.import.ImportKind.{ImportKind}
+use Rattle.object_parts.specs.wasm_types.declared.import.ImportKind.TheVariants as kinds
+use Rattle.object_parts.specs.wasm_sections.declared.section.SectionSpan.{SectionSpan}
+use Rattle.object_parts.specs.linking_section.declared.symbol.SymbolKind.{SymbolKind}
+use Rattle.object_parts.specs.linking_section.declared.symbol.SymbolKind.TheVariants.{Function, Datum, GlobalVar, Section, Table}
 use Rattle.object_parts.specs.declared.parts.Parts.{Parts}
 use Rattle.object_rules.specs.declared.spaces.Counts.{Counts}
 use Rattle.object_rules.specs.declared.spaces.ImportPlaces.{ImportPlaces}

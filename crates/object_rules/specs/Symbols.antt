@@ -3,11 +3,11 @@
 use Rattle.std.specs.Prelude.{ℕ, ◌+◌, nat_lt, nat_le, Bool, true, false, not, ◌&&◌, ◌||◌, List, slice_get, filter_map, Option, Some, None, if◌then◌else◌}
 use Rattle.std.specs.List.{list_all}
 use Rattle.std.specs.Str.{bytes_eq}
-use Rattle.wasm_types.specs.declared.import.Import.{Import}
-use Rattle.linking_section.specs.declared.symbol.Symbol.{Symbol}
-use Rattle.linking_section.specs.declared.symbol.SymbolKind.{SymbolKind}
-use Rattle.linking_section.specs.declared.symbol.SymbolKind.TheVariants.{Function, Datum, GlobalVar, Section, Table}
-use Rattle.linking_section.specs.Flags.{is_local, is_undefined}
+use Rattle.object_parts.specs.wasm_types.declared.import.Import.{Import}
+use Rattle.object_parts.specs.linking_section.declared.symbol.Symbol.{Symbol}
+use Rattle.object_parts.specs.linking_section.declared.symbol.SymbolKind.{SymbolKind}
+use Rattle.object_parts.specs.linking_section.declared.symbol.SymbolKind.TheVariants.{Function, Datum, GlobalVar, Section, Table}
+use Rattle.object_parts.specs.linking_section.Flags.{is_local, is_undefined}
 use Rattle.object_parts.specs.declared.parts.DataPart.{DataPart}
 use Rattle.object_parts.specs.declared.parts.Parts.{Parts}
 use Rattle.object_rules.specs.declared.spaces.Counts.{Counts}

@@ -2,16 +2,16 @@
 -- "Relocation Sections").
 use Rattle.std.specs.Prelude.{ℕ, ◌+◌, ◌-◌, ◌==◌, nat_le, Bool, true, false, not, ◌&&◌, ◌||◌, List, [], ◌∷◌, length, slice_get, slice_index_or, Option, Some, None, Result, Ok, Err, if◌then◌else◌}
 use Rattle.std.specs.List.{list_all}
-use Rattle.wl_base.specs.declared.span.Span.{Span}
-use Rattle.wasm_sections.specs.declared.section.SectionSpan.{SectionSpan}
-use Rattle.reloc_section.specs.declared.entry.Reloc.{Reloc}
-use Rattle.reloc_section.specs.declared.section.RelocSection.{RelocSection}
-use Rattle.linking_section.specs.declared.symbol.Symbol.{Symbol}
-use Rattle.linking_section.specs.declared.symbol.SymbolKind.{SymbolKind}
-use Rattle.linking_section.specs.declared.symbol.SymbolKind.TheVariants.{Function, Datum, GlobalVar, Section, Table}
-use Rattle.body_windows.specs.declared.operand.Operand.{Operand}
-use Rattle.body_windows.specs.declared.fault.Mismatch.{Mismatch}
-use Rattle.body_windows.specs.declared.fault.Mismatch.TheVariants as mismatches
+use Rattle.object_parts.specs.wl_base.declared.span.Span.{Span}
+use Rattle.object_parts.specs.wasm_sections.declared.section.SectionSpan.{SectionSpan}
+use Rattle.object_parts.specs.reloc_section.declared.entry.Reloc.{Reloc}
+use Rattle.object_parts.specs.reloc_section.declared.section.RelocSection.{RelocSection}
+use Rattle.object_parts.specs.linking_section.declared.symbol.Symbol.{Symbol}
+use Rattle.object_parts.specs.linking_section.declared.symbol.SymbolKind.{SymbolKind}
+use Rattle.object_parts.specs.linking_section.declared.symbol.SymbolKind.TheVariants.{Function, Datum, GlobalVar, Section, Table}
+use Rattle.object_parts.specs.body_windows.declared.operand.Operand.{Operand}
+use Rattle.object_parts.specs.body_windows.declared.fault.Mismatch.{Mismatch}
+use Rattle.object_parts.specs.body_windows.declared.fault.Mismatch.TheVariants as mismatches
 use Rattle.object_parts.specs.declared.parts.DataPart.{DataPart}
 use Rattle.object_parts.specs.declared.parts.Parts.{Parts}
 use Rattle.object_parts.specs.Adding.{has_id}

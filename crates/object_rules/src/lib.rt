@@ -18,6 +18,11 @@ mod tests;
 mod windows;
 
 pub use names::name_of;
+pub use object_parts;
+pub use object_parts::{
+    body_windows, leb_codec, linking_section, reloc_section, wasm_grammar, wasm_instr, wasm_module,
+    wasm_sections, wasm_types, wl_base, wl_lists,
+};
 pub use rules::broken_rule;
 pub use spaces::{Counts, ImportPlaces, function_types};
 pub use windows::{relocs_for, split_before, start_of};

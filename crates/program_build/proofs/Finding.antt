@@ -2,29 +2,29 @@
 use Rattle.std.proofs.Common.{◌≡◌, ℕ, ◌≤◌, ◌<◌, ◌^◌, ◌∙◌, List, [], ◌∷◌, ◌++◌, length, refl, sym, ap, subst, Option, Some, None, Result, Ok, Err}
 use Rattle.std.specs.Prelude.{flat_map, filter_map, IsErr}
 use Rattle.std.specs.Result.{IsErrAnd}
-use Rattle.wl_base.specs.Choice.{distinct, unless}
-use Rattle.wl_base.specs.declared.name_table.NameFault.{NameFault}
-use Rattle.wl_base.specs.declared.name_table.NameFault.TheVariants.{TooMany}
-use Rattle.wl_base.specs.declared.fault.Fault.{Fault}
-use Rattle.wl_base.specs.declared.fault.Fault.TheVariants.{TooManyNames}
-use Rattle.object_file.specs.declared.object.Object.{Object}
-use Rattle.made_symbols.specs.declared.mode.Mode.{Mode}
-use Rattle.link_names.specs.Numbered as names
-use Rattle.name_rules.specs.Entries.{entries, same_import}
-use Rattle.name_rules.specs.Meanings.{Meaning, here, imported, null, nothing}
-use Rattle.name_entries.specs.Parts.{AreParts}
-use Rattle.name_entries.specs.declared.table.EntryTable.{EntryTable}
-use Rattle.name_meanings.specs.Means.{import_meant, imports_meant}
-use Rattle.link_plan.specs.declared.plan.Plan.{Plan}
-use Rattle.link_rules.specs.Program.{Program, program_of}
-use Rattle.link_rules.specs.Keys.{import_of, imports_in_order}
+use Rattle.link_program.specs.wl_base.Choice.{distinct, unless}
+use Rattle.link_program.specs.wl_base.declared.name_table.NameFault.{NameFault}
+use Rattle.link_program.specs.wl_base.declared.name_table.NameFault.TheVariants.{TooMany}
+use Rattle.link_program.specs.wl_base.declared.fault.Fault.{Fault}
+use Rattle.link_program.specs.wl_base.declared.fault.Fault.TheVariants.{TooManyNames}
+use Rattle.link_program.specs.object_file.declared.object.Object.{Object}
+use Rattle.link_program.specs.made_symbols.declared.mode.Mode.{Mode}
+use Rattle.link_program.specs.link_names.Numbered as names
+use Rattle.link_program.specs.name_rules.Entries.{entries, same_import}
+use Rattle.link_program.specs.name_rules.Meanings.{Meaning, here, imported, null, nothing}
+use Rattle.link_program.specs.name_entries.Parts.{AreParts}
+use Rattle.link_program.specs.name_entries.declared.table.EntryTable.{EntryTable}
+use Rattle.link_program.specs.name_meanings.Means.{import_meant, imports_meant}
+use Rattle.link_program.specs.link_plan.declared.plan.Plan.{Plan}
+use Rattle.link_program.specs.link_rules.Program.{Program, program_of}
+use Rattle.link_program.specs.link_rules.Keys.{import_of, imports_in_order}
 use Rattle.link_program.specs.declared.home.Home.{Home}
 use Rattle.link_program.specs.Loaded.{Origin, IsLoaded}
 use Rattle.program_build.specs.declared.error.BuildError.{BuildError}
 use Rattle.program_build.specs.declared.error.BuildError.TheVariants.{Refused, OutOfMemory}
 use Rattle.program_build.specs.declared.found.Found.{Found}
 use Rattle.program_build.specs.declared.meanings.Meanings.{Meanings}
-use Rattle.link_rules.specs.LinkOf.{asked_names, too_many_names}
+use Rattle.link_program.specs.link_rules.LinkOf.{asked_names, too_many_names}
 use Rattle.program_build.specs.Steps.{Numbered, names_of, case_of, AreMeanings, MeansOrRefused}
 use Rattle.program_build.specs.Found.{found_of, IsFound, Finds}
 use Rattle.program_build.proofs.Names.{few, many}

@@ -3,23 +3,23 @@ use Rattle.std.proofs.Common.{◌≡◌, ℕ, ◌+◌, ◌-◌, ◌≤◌, ◌<�
 use Rattle.std.specs.Prelude.{IfSome, slice_get, slice_index_or, find, filter, flat_map, option_map, filter_map, if◌then◌else◌}
 use Rattle.std.proofs.lemmas.List.Elements.{All-append, All-cons, All-nil, All-filter}
 use Rattle.std.proofs.lemmas.Option.{slice_get-map}
-use Rattle.wl_base.specs.declared.span.Span.{Span}
-use Rattle.linking_section.specs.declared.symbol.SymbolKind.{SymbolKind}
-use Rattle.linking_section.specs.declared.symbol.SymbolKind.TheVariants.{Function, Datum, GlobalVar, Section, Table}
-use Rattle.object_parts.specs.declared.parts.GlobalDef.{GlobalDef}
-use Rattle.object_columns.specs.declared.functions.FunctionDef.{FunctionDef}
-use Rattle.object_columns.specs.declared.segments.SegmentDef.{SegmentDef}
-use Rattle.body_windows.specs.Operands.{StandIn}
-use Rattle.object_parts.specs.Spans.{LiesIn}
-use Rattle.object_file.specs.declared.object.Object.{Object}
-use Rattle.object_file.specs.Sound.{Sound, WindowNames, WindowsStandIn}
-use Rattle.made_symbols.specs.declared.mode.Mode.{Mode}
-use Rattle.made_symbols.specs.Made.{made, MadeSymbol}
-use Rattle.lib_rounds.specs.Rounds.{Candidate}
-use Rattle.name_rules.specs.Entries.{Entry, entries, made_entry}
-use Rattle.name_rules.specs.Meanings.{Resolved, resolve, resolved_in, uses_of}
-use Rattle.link_plan.specs.declared.plan.Plan.{Plan}
-use Rattle.link_rules.specs.Program.{Program, program_of, Part, Ref, parts_of, parts_in, made_parts_from, made_part, made_kind, linker_made, no_source, a_symbol, init_calls, indexed, function_part, segment_part, global_part, is_part_kept, span_in, option_onto, operand_named, window_named}
+use Rattle.link_program.specs.wl_base.declared.span.Span.{Span}
+use Rattle.link_program.specs.linking_section.declared.symbol.SymbolKind.{SymbolKind}
+use Rattle.link_program.specs.linking_section.declared.symbol.SymbolKind.TheVariants.{Function, Datum, GlobalVar, Section, Table}
+use Rattle.link_program.specs.object_parts.declared.parts.GlobalDef.{GlobalDef}
+use Rattle.link_program.specs.object_columns.declared.functions.FunctionDef.{FunctionDef}
+use Rattle.link_program.specs.object_columns.declared.segments.SegmentDef.{SegmentDef}
+use Rattle.link_program.specs.body_windows.Operands.{StandIn}
+use Rattle.link_program.specs.object_parts.Spans.{LiesIn}
+use Rattle.link_program.specs.object_file.declared.object.Object.{Object}
+use Rattle.link_program.specs.object_file.Sound.{Sound, WindowNames, WindowsStandIn}
+use Rattle.link_program.specs.made_symbols.declared.mode.Mode.{Mode}
+use Rattle.link_program.specs.made_symbols.Made.{made, MadeSymbol}
+use Rattle.link_program.specs.lib_rounds.Rounds.{Candidate}
+use Rattle.link_program.specs.name_rules.Entries.{Entry, entries, made_entry}
+use Rattle.link_program.specs.name_rules.Meanings.{Resolved, resolve, resolved_in, uses_of}
+use Rattle.link_program.specs.link_plan.declared.plan.Plan.{Plan}
+use Rattle.link_program.specs.link_rules.Program.{Program, program_of, Part, Ref, parts_of, parts_in, made_parts_from, made_part, made_kind, linker_made, no_source, a_symbol, init_calls, indexed, function_part, segment_part, global_part, is_part_kept, span_in, option_onto, operand_named, window_named}
 use Rattle.link_program.specs.declared.home.Home.{Home}
 use Rattle.link_program.specs.Loaded.{IsLoaded, IsReadFrom}
 use Rattle.link_program.specs.Stand.{PartStands, PartsStand, SourceLies, NamedStand}

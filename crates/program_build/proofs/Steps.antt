@@ -1,10 +1,10 @@
 -- The first faults of a program, one after another.
 use Rattle.std.proofs.Common.{◌≡◌, ◌∙◌, refl, ap, List, [], ◌∷◌, Option, Some, None, Result, Ok, Err}
-use Rattle.wl_base.specs.Choice.{first_some, unless, ◌>>=◌}
-use Rattle.wl_base.specs.declared.fault.Fault.{Fault}
-use Rattle.name_rules.specs.Cases.{clash, duplicate}
-use Rattle.link_rules.specs.Program.{Program}
-use Rattle.link_rules.specs.LinkOf.{too_many_names}
+use Rattle.link_program.specs.wl_base.Choice.{first_some, unless, ◌>>=◌}
+use Rattle.link_program.specs.wl_base.declared.fault.Fault.{Fault}
+use Rattle.link_program.specs.name_rules.Cases.{clash, duplicate}
+use Rattle.link_program.specs.link_rules.Program.{Program}
+use Rattle.link_program.specs.link_rules.LinkOf.{too_many_names}
 use Rattle.program_build.specs.Steps.{case_of}
 use Rattle.program_build.specs.Found.{found_of}
 

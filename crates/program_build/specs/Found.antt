@@ -1,21 +1,21 @@
 -- What is found of the loaded objects.
 use Rattle.std.specs.Prelude.{◌≡◌, ℕ, ◌++◌, List, Result, Ok, Err}
-use Rattle.wl_base.specs.Choice.{unless, ◌>>=◌}
-use Rattle.wl_base.specs.declared.fault.Fault.{Fault}
-use Rattle.object_file.specs.declared.object.Object.{Object}
-use Rattle.made_symbols.specs.declared.mode.Mode.{Mode}
-use Rattle.lib_rounds.specs.Rounds.{Candidate}
-use Rattle.link_names.specs.Numbered.{AreNumbers, different_names}
-use Rattle.name_rules.specs.Entries.{entries}
-use Rattle.name_rules.specs.Meanings.{resolve}
-use Rattle.name_rules.specs.Cases.{clash, duplicate}
-use Rattle.name_entries.specs.View.{InputsRise, WinnersAre}
-use Rattle.name_entries.specs.Parts.{AreParts}
-use Rattle.name_meanings.specs.Means.{IsResolution}
-use Rattle.link_plan.specs.declared.plan.Plan.{Plan}
-use Rattle.link_rules.specs.Program.{Program, winners_of, parts_of}
-use Rattle.link_rules.specs.Keys.{imports_in_order}
-use Rattle.link_rules.specs.LinkOf.{asked_names, too_many_names}
+use Rattle.link_program.specs.wl_base.Choice.{unless, ◌>>=◌}
+use Rattle.link_program.specs.wl_base.declared.fault.Fault.{Fault}
+use Rattle.link_program.specs.object_file.declared.object.Object.{Object}
+use Rattle.link_program.specs.made_symbols.declared.mode.Mode.{Mode}
+use Rattle.link_program.specs.lib_rounds.Rounds.{Candidate}
+use Rattle.link_program.specs.link_names.Numbered.{AreNumbers, different_names}
+use Rattle.link_program.specs.name_rules.Entries.{entries}
+use Rattle.link_program.specs.name_rules.Meanings.{resolve}
+use Rattle.link_program.specs.name_rules.Cases.{clash, duplicate}
+use Rattle.link_program.specs.name_entries.View.{InputsRise, WinnersAre}
+use Rattle.link_program.specs.name_entries.Parts.{AreParts}
+use Rattle.link_program.specs.name_meanings.Means.{IsResolution}
+use Rattle.link_program.specs.link_plan.declared.plan.Plan.{Plan}
+use Rattle.link_program.specs.link_rules.Program.{Program, winners_of, parts_of}
+use Rattle.link_program.specs.link_rules.Keys.{imports_in_order}
+use Rattle.link_program.specs.link_rules.LinkOf.{asked_names, too_many_names}
 use Rattle.link_program.specs.Program.{AreTables}
 use Rattle.program_build.specs.declared.error.BuildError.{BuildError}
 use Rattle.program_build.specs.declared.error.BuildError.TheVariants.{Refused, OutOfMemory}

@@ -1,20 +1,20 @@
 -- What each step of building a program answers.
 use Rattle.std.specs.Prelude.{◌≡◌, ℕ, ◌≤◌, ◌<◌, ◌^◌, List, [], ◌∷◌, ◌++◌, length, Option, Some, None, Result, Ok, Err}
-use Rattle.wl_base.specs.Choice.{first_some}
-use Rattle.wl_base.specs.declared.fault.Fault.{Fault}
-use Rattle.wl_base.specs.declared.fault.Fault.TheVariants.{TooManyNames}
-use Rattle.object_file.specs.declared.object.Object.{Object}
-use Rattle.made_symbols.specs.declared.mode.Mode.{Mode}
-use Rattle.link_names.specs.Numbered as names
-use Rattle.link_names.specs.Numbered.{AreNumbers, different_names}
-use Rattle.name_rules.specs.Entries.{Entry, entries}
-use Rattle.name_rules.specs.Meanings.{resolve}
-use Rattle.name_rules.specs.Cases.{clash, duplicate}
-use Rattle.name_entries.specs.View.{WinnersAre}
-use Rattle.name_meanings.specs.Means.{IsResolution}
-use Rattle.link_plan.specs.declared.plan.Plan.{Plan}
-use Rattle.link_rules.specs.Program.{program_of}
-use Rattle.link_rules.specs.LinkOf.{asked_names}
+use Rattle.link_program.specs.wl_base.Choice.{first_some}
+use Rattle.link_program.specs.wl_base.declared.fault.Fault.{Fault}
+use Rattle.link_program.specs.wl_base.declared.fault.Fault.TheVariants.{TooManyNames}
+use Rattle.link_program.specs.object_file.declared.object.Object.{Object}
+use Rattle.link_program.specs.made_symbols.declared.mode.Mode.{Mode}
+use Rattle.link_program.specs.link_names.Numbered as names
+use Rattle.link_program.specs.link_names.Numbered.{AreNumbers, different_names}
+use Rattle.link_program.specs.name_rules.Entries.{Entry, entries}
+use Rattle.link_program.specs.name_rules.Meanings.{resolve}
+use Rattle.link_program.specs.name_rules.Cases.{clash, duplicate}
+use Rattle.link_program.specs.name_entries.View.{WinnersAre}
+use Rattle.link_program.specs.name_meanings.Means.{IsResolution}
+use Rattle.link_program.specs.link_plan.declared.plan.Plan.{Plan}
+use Rattle.link_program.specs.link_rules.Program.{program_of}
+use Rattle.link_program.specs.link_rules.LinkOf.{asked_names}
 use Rattle.link_program.specs.Loaded.{Origin}
 use Rattle.link_program.specs.Program.{AreTables}
 use Rattle.program_build.specs.declared.error.BuildError.{BuildError}

@@ -1,9 +1,9 @@
 //! What is found of the loaded objects, in order: the numbers of names, the winners of groups and of names, the least clash and the least
 //! duplicate, what symbols mean, and the tables of parts.
 ghost use Rattle.std.specs.Prelude.{◌≡◌};
-ghost use Rattle.made_symbols.specs.declared.mode.Mode.TheVariants as modes;
-ghost use Rattle.link_plan.specs.Plan.{IsPlan};
-ghost use Rattle.link_rules.specs.Program.{program_of};
+ghost use Rattle.link_program.specs.made_symbols.declared.mode.Mode.TheVariants as modes;
+ghost use Rattle.link_program.specs.link_plan.Plan.{IsPlan};
+ghost use Rattle.link_program.specs.link_rules.Program.{program_of};
 ghost use Rattle.link_program.specs.Loaded.{IsLoaded, Origin};
 ghost use Rattle.program_build.specs.Found.{Finds};
 
@@ -11,16 +11,16 @@ use crate::error::BuildError;
 use crate::found::Found;
 use crate::meanings::{Meanings, meanings_of};
 use crate::numbers::numbers_of;
-use link_plan::Plan;
 use link_program::Home;
-use made_symbols::Mode;
-use name_entries::EntryTable;
+use link_program::link_plan::Plan;
+use link_program::made_symbols::Mode;
+use link_program::name_entries::EntryTable;
+use link_program::object_file::Object;
+use link_program::wl_fan::Workers;
+use link_program::wl_outside::Gate;
 use name_jobs::group_winners;
-use object_file::Object;
 use std::alloc::Global;
 use std::thread::Threads;
-use wl_fan::Workers;
-use wl_outside::Gate;
 
 /// What the loaded objects are as a program: the numbers of their names, who wins each name, what each symbol means, and the tables of
 /// their symbols, parts and references. `homes` has where the bytes of each candidate begin.

@@ -1,20 +1,20 @@
 //! Entries of one name that can't stand together.
 ghost use Rattle.std.specs.Prelude.{◌≡◌, [], slice_index_or, IfOk};
-ghost use Rattle.made_symbols.specs.declared.mode.Mode.TheVariants as modes;
-ghost use Rattle.name_rules.specs.Entries.{entries};
-ghost use Rattle.name_entries.specs.Fits.{Fits};
+ghost use Rattle.link_program.specs.made_symbols.declared.mode.Mode.TheVariants as modes;
+ghost use Rattle.link_program.specs.name_rules.Entries.{entries};
+ghost use Rattle.link_program.specs.name_entries.Fits.{Fits};
 ghost use Rattle.name_cases.specs.Told.{clash_told, duplicate_told};
 ghost use Rattle.program_build.specs.Steps.{Passes};
 
 use crate::error::BuildError;
-use link_names::Names;
-use made_symbols::Mode;
+use link_program::link_names::Names;
+use link_program::made_symbols::Mode;
+use link_program::name_entries::Entries;
+use link_program::name_rules::PairCase;
+use link_program::wl_base::{Fault, OutOfMemory, Seq};
 use name_cases::{first_clash, first_duplicate};
-use name_entries::Entries;
-use name_rules::PairCase;
 use std::alloc::Global;
 use std::thread::Threads;
-use wl_base::{Fault, OutOfMemory, Seq};
 
 /// The name of a number; the empty one where there is no such name.
 fn name_at(names: &Names, number: u32) -> &[u8]

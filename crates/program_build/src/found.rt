@@ -1,21 +1,21 @@
 //! What is found of the loaded objects.
 ghost use Rattle.std.specs.Prelude.{◌≡◌};
-ghost use Rattle.made_symbols.specs.declared.mode.Mode.{Mode};
-ghost use Rattle.link_names.specs.Numbered.{AreNumbers};
-ghost use Rattle.name_entries.specs.View.{InputsRise};
-ghost use Rattle.name_entries.specs.Parts.{AreParts};
-ghost use Rattle.name_entries.specs.Fits.{Fits};
-ghost use Rattle.link_rules.specs.Program as rules;
+ghost use Rattle.link_program.specs.made_symbols.declared.mode.Mode.{Mode};
+ghost use Rattle.link_program.specs.link_names.Numbered.{AreNumbers};
+ghost use Rattle.link_program.specs.name_entries.View.{InputsRise};
+ghost use Rattle.link_program.specs.name_entries.Parts.{AreParts};
+ghost use Rattle.link_program.specs.name_entries.Fits.{Fits};
+ghost use Rattle.link_program.specs.link_rules.Program as rules;
 ghost use Rattle.link_program.specs.Program.{IsProgram};
 ghost use Rattle.program_build.specs.Found.{IsFound};
 
-use link_names::Names;
-use link_plan::Plan;
+use link_program::link_names::Names;
+use link_program::link_plan::Plan;
+use link_program::name_entries::{Entries, EntryTable};
+use link_program::name_meanings::Resolution;
+use link_program::object_file::Object;
+use link_program::symbol_race::Winners;
 use link_program::{Program, Tables};
-use name_entries::{Entries, EntryTable};
-use name_meanings::Resolution;
-use object_file::Object;
-use symbol_race::Winners;
 
 /// What is found of the loaded objects of a link.
 #[derive(Drop)]

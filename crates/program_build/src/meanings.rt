@@ -1,24 +1,24 @@
 //! Who wins each name, what each symbol means, and the tables of parts.
 ghost use Rattle.std.specs.Prelude.{◌≡◌};
-ghost use Rattle.made_symbols.specs.declared.mode.Mode.TheVariants as modes;
-ghost use Rattle.name_entries.specs.Fits.{Fits};
+ghost use Rattle.link_program.specs.made_symbols.declared.mode.Mode.TheVariants as modes;
+ghost use Rattle.link_program.specs.name_entries.Fits.{Fits};
 ghost use Rattle.link_program.specs.Loaded.{IsLoaded, Origin};
 ghost use Rattle.program_build.specs.Steps.{MeansOrRefused};
 
 use crate::cases::refuse_cases;
 use crate::error::BuildError;
-use link_plan::Plan;
+use link_program::link_plan::Plan;
+use link_program::made_symbols::Mode;
+use link_program::name_entries::Entries;
+use link_program::name_meanings::{Resolution, resolve};
+use link_program::symbol_race::Winners;
+use link_program::wl_fan::Workers;
+use link_program::wl_outside::Gate;
 use link_program::{Home, Tables};
-use made_symbols::Mode;
-use name_entries::Entries;
 use name_jobs::name_winners;
-use name_meanings::{Resolution, resolve};
 use program_tables::tables_of;
 use std::alloc::Global;
 use std::thread::Threads;
-use symbol_race::Winners;
-use wl_fan::Workers;
-use wl_outside::Gate;
 
 /// What is found by a view of the objects.
 #[derive(Drop)]

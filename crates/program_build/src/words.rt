@@ -1,10 +1,10 @@
 //! The names that the words of the command line give.
 ghost use Rattle.std.specs.Prelude.{◌≡◌, ◌++◌, ◌∷◌, [], OnOk, IfOk};
-ghost use Rattle.link_rules.specs.LinkOf.{asked_names};
+ghost use Rattle.link_program.specs.link_rules.LinkOf.{asked_names};
 
-use link_plan::Plan;
+use link_program::link_plan::Plan;
+use link_program::wl_base::{Name, OutOfMemory, Seq};
 use std::alloc::Global;
-use wl_base::{Name, OutOfMemory, Seq};
 
 /// Puts a copy of a name at the end.
 fn add_name(alloc: Global, names: &mut Seq<Name>, name: &[u8]) -> Result<(), OutOfMemory>
@@ -24,7 +24,7 @@ fn add_names(alloc: Global, names: &mut Seq<Name>, more: &[Name]) -> Result<(), 
 }
 
 /// The names that the words give: the entry, and those of `--export`, `-u` and `--export-if-defined`.
-#[tactic(auto, unfolding(link_rules::specs::LinkOf::asked_names))]
+#[tactic(auto, unfolding(link_program::specs::link_rules::LinkOf::asked_names))]
 pub(crate) fn words_of(alloc: Global, plan: &Plan) -> Result<Seq<Name>, OutOfMemory>
     ensures { IfOk result (λ names. names ≡ asked_names plan.now ++ plan.now.exports_if) }
 {

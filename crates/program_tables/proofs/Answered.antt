@@ -4,18 +4,18 @@ use Rattle.std.specs.Prelude.{slice_get, flat_map, map, filter_map, option_map, 
 use Rattle.std.specs.List.{AllZip}
 use Rattle.std.proofs.lemmas.List.{length-map}
 use Rattle.std.proofs.lemmas.Option.{same_Some, slice_get_within, slice_get-map}
-use Rattle.linking_section.specs.declared.symbol.Symbol.{Symbol as SymbolOf}
-use Rattle.object_file.specs.declared.object.Object.{Object}
-use Rattle.made_symbols.specs.declared.mode.Mode.TheVariants.{Plain}
-use Rattle.made_symbols.specs.Made.{made, made_at}
-use Rattle.name_rules.specs.declared.meaning.Meaning.{Meaning as Answer}
-use Rattle.name_rules.specs.declared.meaning.Meaning.TheVariants.{Here, Made, Import, Null, Nothing}
-use Rattle.name_rules.specs.Entries.{Entry, ImportKey, symbols_of, entry_in, entries_from, entries, made_entry}
-use Rattle.name_rules.specs.Meanings.{Meaning, here, imported, null, nothing, Resolved, resolve, resolved_in, meaning, no_uses}
-use Rattle.name_entries.specs.View.{InputsRise, entry_at}
-use Rattle.name_entries.proofs.Found.{mapped}
-use Rattle.name_entries.proofs.Rows.{no_entry}
-use Rattle.name_meanings.specs.Means.{Means, Answers, row_of, answer_at, IsResolution, import_meant, imports_meant}
+use Rattle.link_program.specs.linking_section.declared.symbol.Symbol.{Symbol as SymbolOf}
+use Rattle.link_program.specs.object_file.declared.object.Object.{Object}
+use Rattle.link_program.specs.made_symbols.declared.mode.Mode.TheVariants.{Plain}
+use Rattle.link_program.specs.made_symbols.Made.{made, made_at}
+use Rattle.link_program.specs.name_rules.declared.meaning.Meaning.{Meaning as Answer}
+use Rattle.link_program.specs.name_rules.declared.meaning.Meaning.TheVariants.{Here, Made, Import, Null, Nothing}
+use Rattle.link_program.specs.name_rules.Entries.{Entry, ImportKey, symbols_of, entry_in, entries_from, entries, made_entry}
+use Rattle.link_program.specs.name_rules.Meanings.{Meaning, here, imported, null, nothing, Resolved, resolve, resolved_in, meaning, no_uses}
+use Rattle.link_program.specs.name_entries.View.{InputsRise, entry_at}
+use Rattle.link_program.proofs.name_entries_lemmas.Found.{mapped}
+use Rattle.link_program.proofs.name_entries_lemmas.Rows.{no_entry}
+use Rattle.link_program.specs.name_meanings.Means.{Means, Answers, row_of, answer_at, IsResolution, import_meant, imports_meant}
 use Rattle.link_program.specs.declared.symbol.Symbol.{Symbol}
 use Rattle.link_program.specs.declared.symbol.Lead.TheVariants as leads
 use Rattle.link_program.specs.Told.{told_definition, told_lead, told_symbol, told_all, told_symbols}

@@ -1,17 +1,17 @@
 -- The call of an init function.
 use Rattle.std.proofs.Common.{◌≡◌, ℕ, ◌+◌, Bool, ◌||◌, ◌∙◌, List, ap, sym, Some}
 use Rattle.std.specs.Prelude.{slice_get, option_and_then, pos}
-use Rattle.wl_base.specs.Choice.{given}
-use Rattle.linking_section.specs.declared.symbol.Symbol.{Symbol}
-use Rattle.linking_section.specs.declared.init.InitFunc.{InitFunc}
-use Rattle.linking_section.specs.Flags.{is_undefined}
-use Rattle.object_columns.specs.Seen.{symbol_seen}
-use Rattle.object_file.specs.declared.object.Object.{Object}
-use Rattle.name_rules.specs.Entries.{Entry}
-use Rattle.name_rules.specs.Meanings.{is_init_use}
-use Rattle.name_entries.specs.View.{entry_at}
-use Rattle.name_entries.specs.Shown.{Shows}
-use Rattle.name_entries.specs.declared.entry.EntryRef.{EntryRef}
+use Rattle.link_program.specs.wl_base.Choice.{given}
+use Rattle.link_program.specs.linking_section.declared.symbol.Symbol.{Symbol}
+use Rattle.link_program.specs.linking_section.declared.init.InitFunc.{InitFunc}
+use Rattle.link_program.specs.linking_section.Flags.{is_undefined}
+use Rattle.link_program.specs.object_columns.Seen.{symbol_seen}
+use Rattle.link_program.specs.object_file.declared.object.Object.{Object}
+use Rattle.link_program.specs.name_rules.Entries.{Entry}
+use Rattle.link_program.specs.name_rules.Meanings.{is_init_use}
+use Rattle.link_program.specs.name_entries.View.{entry_at}
+use Rattle.link_program.specs.name_entries.Shown.{Shows}
+use Rattle.link_program.specs.name_entries.declared.entry.EntryRef.{EntryRef}
 use Rattle.link_program.specs.declared.named.Named.TheVariants as items
 use Rattle.program_tables.specs.Views.{View}
 use Rattle.program_tables.specs.Inits.{call_by, call_of}

@@ -2,21 +2,21 @@
 use Rattle.std.proofs.Common.{◌≡◌, ℕ, zero, suc, ◌^◌, ◌<◌, Bool, true, false, ◌∙◌, List, [], ◌∷◌, refl, ap, sym, subst, arith, Option, Some, None, length, get_or}
 use Rattle.std.specs.Prelude.{slice_get, map, if◌then◌else◌, option_map, option_and_then, unwrap_or, is_some, IsSome}
 use Rattle.std.proofs.lemmas.Option.{same_Some, slice_get_within, get_or_from_slice_get, slice_get-map}
-use Rattle.wl_base.specs.Choice.{given}
-use Rattle.wl_base.specs.Names.{number_of}
-use Rattle.linking_section.specs.declared.symbol.Symbol.{Symbol}
-use Rattle.linking_section.specs.Flags.{is_weak}
-use Rattle.symbol_race.specs.Ranks.{rank_of}
-use Rattle.object_file.specs.declared.object.Object.{Object}
-use Rattle.made_symbols.specs.declared.mode.Mode.TheVariants.{Plain}
-use Rattle.made_symbols.specs.Made.{MadeSymbol, made, made_at}
-use Rattle.link_names.specs.Numbered.{Numbered, AreNumbers}
-use Rattle.name_rules.specs.Entries.{Entry, entry_in, index_in, made_entry}
-use Rattle.name_rules.specs.Meanings.{entry_rank}
-use Rattle.name_entries.specs.View.{InputsRise, entry_at, entry_number}
-use Rattle.name_entries.specs.Shown.{Shows, AreShown}
-use Rattle.name_entries.specs.declared.entry.EntryRef.{EntryRef}
-use Rattle.name_entries.proofs.Rows.{entry_of, no_entry, the_entry}
+use Rattle.link_program.specs.wl_base.Choice.{given}
+use Rattle.link_program.specs.wl_base.Names.{number_of}
+use Rattle.link_program.specs.linking_section.declared.symbol.Symbol.{Symbol}
+use Rattle.link_program.specs.linking_section.Flags.{is_weak}
+use Rattle.link_program.specs.symbol_race.Ranks.{rank_of}
+use Rattle.link_program.specs.object_file.declared.object.Object.{Object}
+use Rattle.link_program.specs.made_symbols.declared.mode.Mode.TheVariants.{Plain}
+use Rattle.link_program.specs.made_symbols.Made.{MadeSymbol, made, made_at}
+use Rattle.link_program.specs.link_names.Numbered.{Numbered, AreNumbers}
+use Rattle.link_program.specs.name_rules.Entries.{Entry, entry_in, index_in, made_entry}
+use Rattle.link_program.specs.name_rules.Meanings.{entry_rank}
+use Rattle.link_program.specs.name_entries.View.{InputsRise, entry_at, entry_number}
+use Rattle.link_program.specs.name_entries.Shown.{Shows, AreShown}
+use Rattle.link_program.specs.name_entries.declared.entry.EntryRef.{EntryRef}
+use Rattle.link_program.proofs.name_entries_lemmas.Rows.{entry_of, no_entry, the_entry}
 use Rattle.link_program.specs.declared.symbol.Definition.{Definition}
 use Rattle.link_program.specs.Told.{told_definition}
 use Rattle.program_tables.specs.Objects.{symbol_of}

@@ -5,12 +5,12 @@ use Rattle.std.specs.List.{All}
 use Rattle.std.proofs.lemmas.List.{map-append, take_more}
 use Rattle.std.proofs.lemmas.List.Elements.{All-append, All-cons, All-nil, filter-append}
 use Rattle.std.proofs.lemmas.Option.{same_Some, slice_get_within, get_or_from_slice_get}
-use Rattle.mark_bits.specs.declared.chunk.Chunk.{Chunk}
-use Rattle.mark_bits.specs.Chunks.{Differ, Lacks}
-use Rattle.object_file.specs.declared.object.Object.{Object}
-use Rattle.made_symbols.specs.Made.{MadeSymbol}
-use Rattle.name_entries.specs.View.{InputsRise}
-use Rattle.link_rules.specs.Program.{indexed, option_onto}
+use Rattle.link_program.specs.mark_bits.declared.chunk.Chunk.{Chunk}
+use Rattle.link_program.specs.mark_bits.Chunks.{Differ, Lacks}
+use Rattle.link_program.specs.object_file.declared.object.Object.{Object}
+use Rattle.link_program.specs.made_symbols.Made.{MadeSymbol}
+use Rattle.link_program.specs.name_entries.View.{InputsRise}
+use Rattle.link_program.specs.link_rules.Program.{indexed, option_onto}
 use Rattle.link_program.specs.declared.named.Named.{Named}
 use Rattle.program_tables.specs.declared.parts.AllParts.{AllParts}
 use Rattle.program_tables.specs.Rows.{Row, made_row, made_rows}

@@ -5,10 +5,10 @@ use Rattle.std.specs.List.{list_any, position_or_len}
 use Rattle.std.proofs.lemmas.Bool.Decides.{nat_tests}
 use Rattle.std.proofs.lemmas.Option.{slice_get_within, get_or_from_slice_get}
 use Rattle.std.proofs.lemmas.Slice.Eq.{bytes_eq-Decides}
-use Rattle.wl_base.specs.Choice.{distinct, distinct_onto}
-use Rattle.wasm_types.specs.SameLaws.{same_type_is, same_global_type_is}
-use Rattle.index_layout.specs.Numbers.{number_by}
-use Rattle.name_rules.specs.Entries.{ImportKey, SymbolType, of_function, of_global, untyped, same_import, same_symbol_type}
+use Rattle.link_program.specs.wl_base.Choice.{distinct, distinct_onto}
+use Rattle.link_program.specs.wasm_types.SameLaws.{same_type_is, same_global_type_is}
+use Rattle.link_program.specs.index_layout.Numbers.{number_by}
+use Rattle.link_program.specs.name_rules.Entries.{ImportKey, SymbolType, of_function, of_global, untyped, same_import, same_symbol_type}
 
 -- ---- what is the same is equal
 

@@ -5,8 +5,8 @@ use Rattle.std.specs.List.{AllZip, All, cons_option}
 use Rattle.std.proofs.lemmas.List.{take_more}
 use Rattle.std.proofs.lemmas.List.Elements.{All-cons, All-nil}
 use Rattle.std.proofs.lemmas.Option.{slice_get_within, get_or_from_slice_get}
-use Rattle.wl_base.specs.Choice.{given}
-use Rattle.link_rules.specs.Program.{indexed}
+use Rattle.link_program.specs.wl_base.Choice.{given}
+use Rattle.link_program.specs.link_rules.Program.{indexed}
 use Rattle.program_tables.specs.Symbols.{starts}
 
 -- ---- each item

@@ -2,9 +2,9 @@
 use Rattle.std.proofs.Common.{◌≡◌, ℕ, zero, suc, ◌+◌, ◌∙◌, List, [], ◌∷◌, refl, ap, sym, arith, Some, length}
 use Rattle.std.specs.Prelude.{slice_get}
 use Rattle.std.proofs.lemmas.Option.{same_Some, slice_get_within}
-use Rattle.made_symbols.specs.declared.mode.Mode.TheVariants.{Plain}
-use Rattle.made_symbols.specs.Made.{MadeSymbol, made, made_at}
-use Rattle.name_rules.specs.Entries.{Entry, made_entry, made_from}
+use Rattle.link_program.specs.made_symbols.declared.mode.Mode.TheVariants.{Plain}
+use Rattle.link_program.specs.made_symbols.Made.{MadeSymbol, made, made_at}
+use Rattle.link_program.specs.name_rules.Entries.{Entry, made_entry, made_from}
 use Rattle.program_tables.proofs.Lists.{each_at}
 use Rattle.program_tables.proofs.There.{OfLinker, linkers_stand}
 

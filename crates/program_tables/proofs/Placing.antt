@@ -2,8 +2,8 @@
 use Rattle.std.proofs.Common.{◌≡◌, ◌⊎◌, ℕ, zero, suc, ◌+◌, ◌-◌, ◌<◌, ◌≤◌, ◌∙◌, List, [], ◌∷◌, ◌++◌, refl, ap, sym, subst, arith, Some, length, length-append, get_or, drop, drop-cons, add-one, inl, inr}
 use Rattle.std.specs.Prelude.{slice_get}
 use Rattle.std.proofs.lemmas.Option.{same_Some, slice_get_within, get_or_from_slice_get}
-use Rattle.object_file.specs.declared.object.Object.{Object}
-use Rattle.name_entries.specs.View.{InputsRise}
+use Rattle.link_program.specs.object_file.declared.object.Object.{Object}
+use Rattle.link_program.specs.name_entries.View.{InputsRise}
 use Rattle.program_tables.specs.Objects.{ArePlaces}
 use Rattle.program_tables.proofs.Lists.{front, behind}
 

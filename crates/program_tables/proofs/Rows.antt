@@ -5,26 +5,26 @@ use Rattle.std.specs.List.{AllZip, cons_option}
 use Rattle.std.proofs.lemmas.Bool.Decides.{nat_tests}
 use Rattle.std.proofs.lemmas.List.Elements.{filter-append}
 use Rattle.std.proofs.lemmas.Option.{slice_get_within, get_or_from_slice_get}
-use Rattle.wl_base.specs.Choice.{given}
-use Rattle.wl_base.specs.declared.span.Span.{Span}
-use Rattle.wasm_types.specs.declared.function.FuncType.{FuncType}
-use Rattle.linking_section.specs.declared.init.InitFunc.{InitFunc}
-use Rattle.linking_section.specs.Flags.{is_undefined}
-use Rattle.reloc_section.specs.declared.entry.Reloc.{Reloc}
-use Rattle.body_windows.specs.declared.operand.Operand.{Operand}
-use Rattle.body_windows.specs.declared.operand.Operand.TheVariants as operands
-use Rattle.object_parts.specs.declared.parts.GlobalDef.{GlobalDef}
-use Rattle.object_columns.specs.declared.functions.FunctionDef.{FunctionDef}
-use Rattle.object_columns.specs.declared.segments.SegmentDef.{SegmentDef}
-use Rattle.object_file.specs.declared.object.Object.{Object}
-use Rattle.object_file.specs.Spaces.{written_type, function_imports}
-use Rattle.mark_bits.specs.declared.chunk.Chunk.{Chunk}
-use Rattle.name_rules.specs.Entries.{Entry, ImportKey, is_kept, symbols_of}
-use Rattle.name_rules.specs.Meanings.{Meaning, Resolved, is_init_use}
-use Rattle.name_entries.specs.Parts.{has_flag, ArePartsOf}
-use Rattle.lib_rounds.specs.Rounds.{Candidate}
-use Rattle.link_rules.specs.Program as rules
-use Rattle.link_rules.specs.Program.{ref_to, ref_in, operand_named as rule_operand, window_named as rule_window, a_symbol, a_type, indexed, function_part, segment_part, global_part, is_part_kept, parts_in, kept_in, span_of, init_call, init_calls_in, is_skipped}
+use Rattle.link_program.specs.wl_base.Choice.{given}
+use Rattle.link_program.specs.wl_base.declared.span.Span.{Span}
+use Rattle.link_program.specs.wasm_types.declared.function.FuncType.{FuncType}
+use Rattle.link_program.specs.linking_section.declared.init.InitFunc.{InitFunc}
+use Rattle.link_program.specs.linking_section.Flags.{is_undefined}
+use Rattle.link_program.specs.reloc_section.declared.entry.Reloc.{Reloc}
+use Rattle.link_program.specs.body_windows.declared.operand.Operand.{Operand}
+use Rattle.link_program.specs.body_windows.declared.operand.Operand.TheVariants as operands
+use Rattle.link_program.specs.object_parts.declared.parts.GlobalDef.{GlobalDef}
+use Rattle.link_program.specs.object_columns.declared.functions.FunctionDef.{FunctionDef}
+use Rattle.link_program.specs.object_columns.declared.segments.SegmentDef.{SegmentDef}
+use Rattle.link_program.specs.object_file.declared.object.Object.{Object}
+use Rattle.link_program.specs.object_file.Spaces.{written_type, function_imports}
+use Rattle.link_program.specs.mark_bits.declared.chunk.Chunk.{Chunk}
+use Rattle.link_program.specs.name_rules.Entries.{Entry, ImportKey, is_kept, symbols_of}
+use Rattle.link_program.specs.name_rules.Meanings.{Meaning, Resolved, is_init_use}
+use Rattle.link_program.specs.name_entries.Parts.{has_flag, ArePartsOf}
+use Rattle.link_program.specs.lib_rounds.Rounds.{Candidate}
+use Rattle.link_program.specs.link_rules.Program as rules
+use Rattle.link_program.specs.link_rules.Program.{ref_to, ref_in, operand_named as rule_operand, window_named as rule_window, a_symbol, a_type, indexed, function_part, segment_part, global_part, is_part_kept, parts_in, kept_in, span_of, init_call, init_calls_in, is_skipped}
 use Rattle.link_program.specs.declared.symbol.Symbol.{Symbol}
 use Rattle.link_program.specs.declared.named.Named.{Named}
 use Rattle.link_program.specs.declared.named.Named.TheVariants as items

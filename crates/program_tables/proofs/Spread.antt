@@ -3,9 +3,9 @@ use Rattle.std.proofs.Common.{◌≡◌, ℕ, zero, suc, ◌∙◌, List, [], �
 use Rattle.std.specs.Prelude.{filter_map, map}
 use Rattle.std.specs.List.{cons_option}
 use Rattle.std.proofs.lemmas.List.Elements.{filter_map-append}
-use Rattle.body_windows.specs.declared.operands.Reference.{Reference}
-use Rattle.body_windows.specs.declared.operand.Operand.TheVariants.{Number}
-use Rattle.body_windows.specs.Operands.{operand_of, spread}
+use Rattle.link_program.specs.body_windows.declared.operands.Reference.{Reference}
+use Rattle.link_program.specs.body_windows.declared.operand.Operand.TheVariants.{Number}
+use Rattle.link_program.specs.body_windows.Operands.{operand_of, spread}
 use Rattle.program_tables.specs.Views.{View}
 use Rattle.program_tables.specs.Rows.{operand_named}
 

@@ -4,17 +4,17 @@ use Rattle.std.specs.Prelude.{◌==◌, ◌&&◌, slice_get, flat_map, filter, i
 use Rattle.std.proofs.lemmas.Bool.{eq-eqb}
 use Rattle.std.proofs.lemmas.Bool.Decides.{nat_tests}
 use Rattle.std.proofs.lemmas.Option.{same_Some, slice_get_within, get_or_from_slice_get, slice_get-get_or}
-use Rattle.wl_base.specs.Choice.{first_some, given}
-use Rattle.linking_section.specs.declared.symbol.Symbol.{Symbol}
-use Rattle.object_file.specs.declared.object.Object.{Object}
-use Rattle.made_symbols.specs.declared.mode.Mode.TheVariants.{Plain}
-use Rattle.made_symbols.specs.Made.{MadeSymbol, made, made_at}
-use Rattle.name_rules.specs.Entries.{Entry, ImportKey, entries_from, symbols_of, made_entry, made_from, is_entry, entries, name_of, is_named, named}
-use Rattle.name_rules.specs.Meanings.{Meaning, here, imported, null, nothing, entry_rank, lesser, least, meaning, no_uses, by_rules, own_meaning, references, least_import, may_import, may_be_null, where_given}
-use Rattle.linking_section.specs.Flags.{is_explicit}
-use Rattle.name_entries.specs.View.{InputsRise, rows_of, entry_at}
-use Rattle.name_entries.proofs.Found.{mapped}
-use Rattle.name_entries.proofs.Rows.{the_entry}
+use Rattle.link_program.specs.wl_base.Choice.{first_some, given}
+use Rattle.link_program.specs.linking_section.declared.symbol.Symbol.{Symbol}
+use Rattle.link_program.specs.object_file.declared.object.Object.{Object}
+use Rattle.link_program.specs.made_symbols.declared.mode.Mode.TheVariants.{Plain}
+use Rattle.link_program.specs.made_symbols.Made.{MadeSymbol, made, made_at}
+use Rattle.link_program.specs.name_rules.Entries.{Entry, ImportKey, entries_from, symbols_of, made_entry, made_from, is_entry, entries, name_of, is_named, named}
+use Rattle.link_program.specs.name_rules.Meanings.{Meaning, here, imported, null, nothing, entry_rank, lesser, least, meaning, no_uses, by_rules, own_meaning, references, least_import, may_import, may_be_null, where_given}
+use Rattle.link_program.specs.linking_section.Flags.{is_explicit}
+use Rattle.link_program.specs.name_entries.View.{InputsRise, rows_of, entry_at}
+use Rattle.link_program.proofs.name_entries_lemmas.Found.{mapped}
+use Rattle.link_program.proofs.name_entries_lemmas.Rows.{the_entry}
 use Rattle.program_tables.specs.Objects.{object_of, symbol_of}
 use Rattle.program_tables.proofs.Lists.{Each, each_append, each_filter}
 

@@ -3,13 +3,13 @@ use Rattle.std.proofs.Common.{◌≡◌, ℕ, ◌-◌, ◌<◌, ◌^◌, ◌∙�
 use Rattle.std.specs.Prelude.{map}
 use Rattle.std.specs.List.{AllZip, All}
 use Rattle.std.proofs.lemmas.List.{length-map}
-use Rattle.wasm_types.specs.declared.function.FuncType.{FuncType}
-use Rattle.mark_bits.specs.Chunks.{Differ}
-use Rattle.made_symbols.specs.declared.mode.Mode.TheVariants.{Plain}
-use Rattle.name_rules.specs.Entries.{ImportKey, entries}
-use Rattle.name_rules.specs.Meanings.{resolve}
-use Rattle.link_rules.specs.Program as rules
-use Rattle.link_rules.specs.Program.{program_of, parts_of}
+use Rattle.link_program.specs.wasm_types.declared.function.FuncType.{FuncType}
+use Rattle.link_program.specs.mark_bits.Chunks.{Differ}
+use Rattle.link_program.specs.made_symbols.declared.mode.Mode.TheVariants.{Plain}
+use Rattle.link_program.specs.name_rules.Entries.{ImportKey, entries}
+use Rattle.link_program.specs.name_rules.Meanings.{resolve}
+use Rattle.link_program.specs.link_rules.Program as rules
+use Rattle.link_program.specs.link_rules.Program.{program_of, parts_of}
 use Rattle.link_program.specs.declared.symbol.Symbol.{Symbol}
 use Rattle.link_program.specs.declared.named.Named.{Named}
 use Rattle.link_program.specs.declared.program.Tables.{Tables}

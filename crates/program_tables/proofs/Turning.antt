@@ -2,11 +2,11 @@
 use Rattle.std.proofs.Common.{◌≡◌, ℕ, suc, ◌+◌, ◌<◌, ◌∙◌, List, [], ◌∷◌, ◌++◌, refl, ap, sym, subst, arith, Option, Some, None, length, drop}
 use Rattle.std.specs.Prelude.{slice_get}
 use Rattle.std.proofs.lemmas.List.{append-nil}
-use Rattle.object_file.specs.declared.object.Object.{Object}
-use Rattle.made_symbols.specs.declared.mode.Mode.TheVariants.{Plain}
-use Rattle.made_symbols.specs.Made.{made}
-use Rattle.name_entries.specs.View.{InputsRise}
-use Rattle.name_entries.specs.declared.parts.ObjectParts.{ObjectParts}
+use Rattle.link_program.specs.object_file.declared.object.Object.{Object}
+use Rattle.link_program.specs.made_symbols.declared.mode.Mode.TheVariants.{Plain}
+use Rattle.link_program.specs.made_symbols.Made.{made}
+use Rattle.link_program.specs.name_entries.View.{InputsRise}
+use Rattle.link_program.specs.name_entries.declared.parts.ObjectParts.{ObjectParts}
 use Rattle.program_tables.specs.declared.inits.InitCall.{InitCall}
 use Rattle.program_tables.specs.declared.parts.AllParts.{AllParts}
 use Rattle.program_tables.specs.declared.view.Lookups.{Lookups}

@@ -4,12 +4,12 @@ use Rattle.std.specs.Prelude.{◌==◌, slice_get, map, find, option_map, unwrap
 use Rattle.std.proofs.lemmas.Bool.{eq-eqb}
 use Rattle.std.proofs.lemmas.Bool.Decides.{nat_tests}
 use Rattle.std.proofs.lemmas.Option.{same_Some, slice_get_within, get_or_from_slice_get, slice_get-map, unwrap_or-slice_get}
-use Rattle.wl_base.specs.declared.span.Span.{Span}
-use Rattle.wasm_types.specs.declared.function.FuncType.{FuncType}
-use Rattle.object_file.specs.declared.object.Object.{Object}
-use Rattle.object_file.specs.Spaces.{no_type, written_type}
-use Rattle.lib_rounds.specs.Rounds.{Candidate}
-use Rattle.link_rules.specs.Program.{span_in, span_of}
+use Rattle.link_program.specs.wl_base.declared.span.Span.{Span}
+use Rattle.link_program.specs.wasm_types.declared.function.FuncType.{FuncType}
+use Rattle.link_program.specs.object_file.declared.object.Object.{Object}
+use Rattle.link_program.specs.object_file.Spaces.{no_type, written_type}
+use Rattle.link_program.specs.lib_rounds.Rounds.{Candidate}
+use Rattle.link_program.specs.link_rules.Program.{span_in, span_of}
 use Rattle.link_program.specs.declared.home.Home.{Home}
 use Rattle.link_program.specs.Loaded.{home_of}
 use Rattle.program_tables.specs.Types.{AreTyped}

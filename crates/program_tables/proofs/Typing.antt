@@ -4,13 +4,13 @@ use Rattle.std.specs.Prelude.{slice_get, map, if◌then◌else◌}
 use Rattle.std.specs.List.{list_any}
 use Rattle.std.proofs.lemmas.List.{map-append}
 use Rattle.std.proofs.lemmas.Option.{slice_get-get_or}
-use Rattle.wasm_types.specs.declared.function.FuncType.{FuncType}
-use Rattle.wasm_types.specs.Same.{same_type}
-use Rattle.wasm_types.specs.SameLaws.{same_type_is}
-use Rattle.object_file.specs.declared.object.Object.{Object}
-use Rattle.type_merge.specs.Types.{type_number, with_type}
-use Rattle.name_meanings.proofs.ByNumber.{position_passes}
-use Rattle.object_file.specs.Spaces.{no_type}
+use Rattle.link_program.specs.wasm_types.declared.function.FuncType.{FuncType}
+use Rattle.link_program.specs.wasm_types.Same.{same_type}
+use Rattle.link_program.specs.wasm_types.SameLaws.{same_type_is}
+use Rattle.link_program.specs.object_file.declared.object.Object.{Object}
+use Rattle.link_program.specs.type_merge.Types.{type_number, with_type}
+use Rattle.link_program.proofs.name_meanings_lemmas.ByNumber.{position_passes}
+use Rattle.link_program.specs.object_file.Spaces.{no_type}
 use Rattle.program_tables.specs.Types.{Keep, AreNumbered, AreTyped}
 use Rattle.program_tables.proofs.Lists.{front, at_take}
 

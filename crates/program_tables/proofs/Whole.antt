@@ -5,22 +5,22 @@ use Rattle.std.specs.List.{AllZip}
 use Rattle.std.proofs.lemmas.Grind.{flat_map-append}
 use Rattle.std.proofs.lemmas.List.{length-map, map-append, append-nil, take_all}
 use Rattle.std.proofs.lemmas.Option.{same_Some, slice_get_within, slice_get-map}
-use Rattle.wasm_types.specs.declared.function.FuncType.{FuncType}
-use Rattle.linking_section.specs.declared.symbol.Symbol.{Symbol as SymbolOf}
-use Rattle.linking_section.specs.declared.symbol.SymbolKind.TheVariants.{Function}
-use Rattle.object_file.specs.declared.object.Object.{Object}
-use Rattle.object_file.specs.Spaces.{function_imports}
-use Rattle.made_symbols.specs.declared.mode.Mode.TheVariants.{Plain}
-use Rattle.made_symbols.specs.Made.{MadeSymbol, made}
-use Rattle.name_rules.specs.Entries.{Entry, symbols_of, entries, entries_from}
-use Rattle.name_rules.specs.Meanings.{Meaning, Resolved, resolve}
-use Rattle.name_entries.specs.View.{InputsRise, rows_of}
-use Rattle.name_entries.specs.Parts.{AreParts}
-use Rattle.name_entries.specs.declared.parts.ObjectParts.{ObjectParts}
-use Rattle.name_entries.proofs.Found.{counted}
-use Rattle.lib_rounds.specs.Rounds.{Candidate}
-use Rattle.link_rules.specs.Program as rules
-use Rattle.link_rules.specs.Program.{parts_in, parts_of, init_calls, init_calls_in, insert_call, by_priority, made_part, made_parts_from, made_kind, option_onto, a_symbol, linker_made, no_source}
+use Rattle.link_program.specs.wasm_types.declared.function.FuncType.{FuncType}
+use Rattle.link_program.specs.linking_section.declared.symbol.Symbol.{Symbol as SymbolOf}
+use Rattle.link_program.specs.linking_section.declared.symbol.SymbolKind.TheVariants.{Function}
+use Rattle.link_program.specs.object_file.declared.object.Object.{Object}
+use Rattle.link_program.specs.object_file.Spaces.{function_imports}
+use Rattle.link_program.specs.made_symbols.declared.mode.Mode.TheVariants.{Plain}
+use Rattle.link_program.specs.made_symbols.Made.{MadeSymbol, made}
+use Rattle.link_program.specs.name_rules.Entries.{Entry, symbols_of, entries, entries_from}
+use Rattle.link_program.specs.name_rules.Meanings.{Meaning, Resolved, resolve}
+use Rattle.link_program.specs.name_entries.View.{InputsRise, rows_of}
+use Rattle.link_program.specs.name_entries.Parts.{AreParts}
+use Rattle.link_program.specs.name_entries.declared.parts.ObjectParts.{ObjectParts}
+use Rattle.link_program.proofs.name_entries_lemmas.Found.{counted}
+use Rattle.link_program.specs.lib_rounds.Rounds.{Candidate}
+use Rattle.link_program.specs.link_rules.Program as rules
+use Rattle.link_program.specs.link_rules.Program.{parts_in, parts_of, init_calls, init_calls_in, insert_call, by_priority, made_part, made_parts_from, made_kind, option_onto, a_symbol, linker_made, no_source}
 use Rattle.link_program.specs.declared.named.Named.{Named}
 use Rattle.link_program.specs.declared.part.Content.TheVariants as contents
 use Rattle.link_program.specs.Loaded.{home_of}

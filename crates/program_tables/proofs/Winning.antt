@@ -5,20 +5,20 @@ use Rattle.std.specs.List.{All, list_all}
 use Rattle.std.proofs.lemmas.Bool.{eqb-true, eq-eqb, and_parts, ltb-true}
 use Rattle.std.proofs.lemmas.List.{length-map}
 use Rattle.std.proofs.lemmas.List.Elements.{All-head, All-tail, filter_map-append}
-use Rattle.wl_base.specs.Choice.{given}
-use Rattle.wl_base.specs.Names.{number_of}
-use Rattle.linking_section.specs.declared.symbol.Symbol.{Symbol}
-use Rattle.linking_section.specs.Flags.{is_weak}
-use Rattle.symbol_race.specs.Ranks.{IsParts, rank_of}
-use Rattle.object_file.specs.declared.object.Object.{Object}
-use Rattle.made_symbols.specs.declared.mode.Mode.TheVariants.{Plain}
-use Rattle.made_symbols.specs.Made.{MadeSymbol, made}
-use Rattle.link_names.specs.Numbered.{Numbered, AreNumbers, is_entry_symbol, symbol_name, symbol_number, entry_names, Held, Short}
-use Rattle.name_rules.specs.Entries.{Entry, entries_from, made_from, is_entry, is_named, entries, name_of, symbols_of, named, same_entry}
-use Rattle.name_rules.specs.Meanings.{entry_rank, winner, definitions}
-use Rattle.name_entries.specs.View.{InputsRise, WinnersAre}
-use Rattle.name_entries.proofs.Numbered.{named_by}
-use Rattle.link_rules.specs.Program.{is_that, is_winner, winners_of}
+use Rattle.link_program.specs.wl_base.Choice.{given}
+use Rattle.link_program.specs.wl_base.Names.{number_of}
+use Rattle.link_program.specs.linking_section.declared.symbol.Symbol.{Symbol}
+use Rattle.link_program.specs.linking_section.Flags.{is_weak}
+use Rattle.link_program.specs.symbol_race.Ranks.{IsParts, rank_of}
+use Rattle.link_program.specs.object_file.declared.object.Object.{Object}
+use Rattle.link_program.specs.made_symbols.declared.mode.Mode.TheVariants.{Plain}
+use Rattle.link_program.specs.made_symbols.Made.{MadeSymbol, made}
+use Rattle.link_program.specs.link_names.Numbered.{Numbered, AreNumbers, is_entry_symbol, symbol_name, symbol_number, entry_names, Held, Short}
+use Rattle.link_program.specs.name_rules.Entries.{Entry, entries_from, made_from, is_entry, is_named, entries, name_of, symbols_of, named, same_entry}
+use Rattle.link_program.specs.name_rules.Meanings.{entry_rank, winner, definitions}
+use Rattle.link_program.specs.name_entries.View.{InputsRise, WinnersAre}
+use Rattle.link_program.proofs.name_entries_lemmas.Numbered.{named_by}
+use Rattle.link_program.specs.link_rules.Program.{is_that, is_winner, winners_of}
 use Rattle.link_program.specs.declared.symbol.Winner.{Winner}
 use Rattle.link_program.specs.Told.{told_definition, told_winner}
 use Rattle.program_tables.specs.Winners.{is_rank, winner_by, winner_of, winners_in}

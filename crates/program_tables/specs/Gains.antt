@@ -1,6 +1,6 @@
 -- What parts grow by, and that their chunks differ.
 use Rattle.std.specs.Prelude.{◌≡◌, ℕ, ◌+◌, ◌*◌, ◌^◌, ◌<◌, ◌≤◌, List, ◌++◌, map, All}
-use Rattle.mark_bits.specs.declared.chunk.Chunk.{Chunk}
+use Rattle.link_program.specs.mark_bits.declared.chunk.Chunk.{Chunk}
 use Rattle.program_tables.specs.declared.parts.AllParts.{AllParts}
 use Rattle.program_tables.specs.Rows.{Row}
 

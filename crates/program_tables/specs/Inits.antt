@@ -1,10 +1,10 @@
 -- What `__wasm_call_ctors` calls (Linking.md, "Init Functions").
 use Rattle.std.specs.Prelude.{ℕ, zero, suc, ◌+◌, nat_le, List, [], ◌∷◌, ◌++◌, map, filter_map, length, slice_get, if◌then◌else◌, Option, Some, None, option_and_then, pos}
-use Rattle.wl_base.specs.Choice.{given}
-use Rattle.linking_section.specs.declared.init.InitFunc.{InitFunc}
-use Rattle.object_file.specs.declared.object.Object.{Object}
-use Rattle.name_rules.specs.Entries.{Entry, symbols_of}
-use Rattle.name_rules.specs.Meanings.{is_init_use}
+use Rattle.link_program.specs.wl_base.Choice.{given}
+use Rattle.link_program.specs.linking_section.declared.init.InitFunc.{InitFunc}
+use Rattle.link_program.specs.object_file.declared.object.Object.{Object}
+use Rattle.link_program.specs.name_rules.Entries.{Entry, symbols_of}
+use Rattle.link_program.specs.name_rules.Meanings.{is_init_use}
 use Rattle.link_program.specs.declared.named.Named.{Named}
 use Rattle.link_program.specs.declared.named.Named.TheVariants.{Symbol}
 use Rattle.program_tables.specs.declared.inits.InitCall.{InitCall}

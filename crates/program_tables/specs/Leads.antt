@@ -1,14 +1,14 @@
 -- What the answers of a resolution lead to, by the objects alone.
 use Rattle.std.specs.Prelude.{◌≡◌, ℕ, ◌<◌, List, length, slice_get, Option, Some, None, option_map, unwrap_or, IsSome}
-use Rattle.linking_section.specs.declared.symbol.SymbolKind.TheVariants.{Function}
-use Rattle.object_file.specs.declared.object.Object.{Object}
-use Rattle.made_symbols.specs.declared.mode.Mode.TheVariants.{Plain}
-use Rattle.made_symbols.specs.Made.{made, made_at}
-use Rattle.name_rules.specs.declared.meaning.Meaning.{Meaning}
-use Rattle.name_rules.specs.declared.meaning.Meaning.TheVariants as answers
-use Rattle.name_rules.specs.Entries.{Entry, made_entry}
-use Rattle.name_entries.specs.View.{entry_at}
-use Rattle.name_meanings.specs.Means.{Answers, answer_at}
+use Rattle.link_program.specs.linking_section.declared.symbol.SymbolKind.TheVariants.{Function}
+use Rattle.link_program.specs.object_file.declared.object.Object.{Object}
+use Rattle.link_program.specs.made_symbols.declared.mode.Mode.TheVariants.{Plain}
+use Rattle.link_program.specs.made_symbols.Made.{made, made_at}
+use Rattle.link_program.specs.name_rules.declared.meaning.Meaning.{Meaning}
+use Rattle.link_program.specs.name_rules.declared.meaning.Meaning.TheVariants as answers
+use Rattle.link_program.specs.name_rules.Entries.{Entry, made_entry}
+use Rattle.link_program.specs.name_entries.View.{entry_at}
+use Rattle.link_program.specs.name_meanings.Means.{Answers, answer_at}
 use Rattle.link_program.specs.declared.symbol.Definition.{Definition}
 use Rattle.link_program.specs.declared.symbol.Lead.{Lead}
 use Rattle.link_program.specs.declared.symbol.Lead.TheVariants.{Here, Import, Null, Nothing}

@@ -1,7 +1,7 @@
 -- Where objects and their symbols stand, by input.
 use Rattle.std.specs.Prelude.{◌≡◌, ℕ, ◌==◌, List, find, slice_get, Option, Some, option_and_then}
-use Rattle.object_file.specs.declared.object.Object.{Object}
-use Rattle.name_rules.specs.Entries.{Entry, symbols_of}
+use Rattle.link_program.specs.object_file.declared.object.Object.{Object}
+use Rattle.link_program.specs.name_rules.Entries.{Entry, symbols_of}
 
 -- By input, the place of the object among the objects.
 abbrev pub ArePlaces : List Object → List ℕ → Type 0

@@ -1,18 +1,18 @@
 -- The parts of an object and what they name, by the numbers of symbols and types.
 use Rattle.std.specs.Prelude.{ℕ, zero, suc, ◌+◌, ◌==◌, ◌&&◌, nat_lt, Bool, true, not, List, [], ◌∷◌, ◌++◌, filter, filter_map, length, if◌then◌else◌, Option, Some, None, option_map, ℤ}
-use Rattle.wl_base.specs.Choice.{given}
-use Rattle.linking_section.specs.declared.symbol.SymbolKind.{SymbolKind}
-use Rattle.reloc_section.specs.declared.entry.Reloc.{Reloc}
-use Rattle.body_windows.specs.declared.operand.Operand.{Operand}
-use Rattle.body_windows.specs.declared.operand.Operand.TheVariants as operands
-use Rattle.object_parts.specs.declared.parts.GlobalDef.{GlobalDef}
-use Rattle.object_columns.specs.declared.functions.FunctionDef.{FunctionDef}
-use Rattle.object_columns.specs.declared.segments.SegmentDef.{SegmentDef}
-use Rattle.mark_bits.specs.declared.chunk.Chunk.{Chunk}
-use Rattle.made_symbols.specs.declared.mode.Mode.TheVariants.{Plain}
-use Rattle.made_symbols.specs.Made.{made, MadeSymbol}
-use Rattle.name_entries.specs.Parts.{has_flag}
-use Rattle.link_rules.specs.Program.{indexed, option_onto, made_kind, no_source}
+use Rattle.link_program.specs.wl_base.Choice.{given}
+use Rattle.link_program.specs.linking_section.declared.symbol.SymbolKind.{SymbolKind}
+use Rattle.link_program.specs.reloc_section.declared.entry.Reloc.{Reloc}
+use Rattle.link_program.specs.body_windows.declared.operand.Operand.{Operand}
+use Rattle.link_program.specs.body_windows.declared.operand.Operand.TheVariants as operands
+use Rattle.link_program.specs.object_parts.declared.parts.GlobalDef.{GlobalDef}
+use Rattle.link_program.specs.object_columns.declared.functions.FunctionDef.{FunctionDef}
+use Rattle.link_program.specs.object_columns.declared.segments.SegmentDef.{SegmentDef}
+use Rattle.link_program.specs.mark_bits.declared.chunk.Chunk.{Chunk}
+use Rattle.link_program.specs.made_symbols.declared.mode.Mode.TheVariants.{Plain}
+use Rattle.link_program.specs.made_symbols.Made.{made, MadeSymbol}
+use Rattle.link_program.specs.name_entries.Parts.{has_flag}
+use Rattle.link_program.specs.link_rules.Program.{indexed, option_onto, made_kind, no_source}
 use Rattle.link_program.specs.declared.named.Named.{Named}
 use Rattle.link_program.specs.declared.named.Named.TheVariants as items
 use Rattle.link_program.specs.declared.part.Content.TheVariants.{Function, Segment, Global, Made}

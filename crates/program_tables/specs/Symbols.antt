@@ -1,9 +1,9 @@
 -- The symbols of all objects, by the answers of a resolution.
 use Rattle.std.specs.Prelude.{ℕ, ◌+◌, List, [], ◌∷◌, map, flat_map, length}
-use Rattle.name_rules.specs.Entries.{Entry}
-use Rattle.name_entries.specs.View.{rows_of, entry_number}
-use Rattle.name_entries.specs.Fits.{FitsObjects}
-use Rattle.name_meanings.specs.Means.{answer_at}
+use Rattle.link_program.specs.name_rules.Entries.{Entry}
+use Rattle.link_program.specs.name_entries.View.{rows_of, entry_number}
+use Rattle.link_program.specs.name_entries.Fits.{FitsObjects}
+use Rattle.link_program.specs.name_meanings.Means.{answer_at}
 use Rattle.link_program.specs.declared.symbol.Symbol.{Symbol}
 use Rattle.program_tables.specs.declared.symbols.Sources.{Sources}
 use Rattle.program_tables.specs.Objects.{ArePlaces}

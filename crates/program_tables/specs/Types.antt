@@ -1,8 +1,8 @@
 -- The numbers of function types.
 use Rattle.std.specs.Prelude.{◌≡◌, ℕ, List, map, slice_get, Some}
-use Rattle.wasm_types.specs.declared.function.FuncType.{FuncType}
-use Rattle.object_file.specs.declared.object.Object.{Object}
-use Rattle.object_file.specs.Spaces.{no_type}
+use Rattle.link_program.specs.wasm_types.declared.function.FuncType.{FuncType}
+use Rattle.link_program.specs.object_file.declared.object.Object.{Object}
+use Rattle.link_program.specs.object_file.Spaces.{no_type}
 
 -- Types keep their numbers.
 abbrev pub Keep : List FuncType → List FuncType → Type 0

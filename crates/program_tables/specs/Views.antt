@@ -1,11 +1,11 @@
 -- What is looked up of an object.
 use Rattle.std.specs.Prelude.{ℕ, ◌+◌, ◌-◌, Bool, not, List, [], length, slice_get, slice_index_or, Option, Some, None}
-use Rattle.wl_base.specs.declared.span.Span.{Span}
-use Rattle.wl_base.specs.declared.span.FileSpan.{FileSpan}
-use Rattle.object_file.specs.declared.object.Object.{Object}
-use Rattle.name_entries.specs.declared.parts.ObjectParts.{ObjectParts}
-use Rattle.name_entries.specs.Parts.{has_flag}
-use Rattle.link_rules.specs.Program.{no_source}
+use Rattle.link_program.specs.wl_base.declared.span.Span.{Span}
+use Rattle.link_program.specs.wl_base.declared.span.FileSpan.{FileSpan}
+use Rattle.link_program.specs.object_file.declared.object.Object.{Object}
+use Rattle.link_program.specs.name_entries.declared.parts.ObjectParts.{ObjectParts}
+use Rattle.link_program.specs.name_entries.Parts.{has_flag}
+use Rattle.link_program.specs.link_rules.Program.{no_source}
 use Rattle.link_program.specs.declared.home.Home.{Home}
 use Rattle.program_tables.specs.declared.view.Lookups.{Lookups}
 use Rattle.program_tables.specs.declared.view.ObjectView.{ObjectView}

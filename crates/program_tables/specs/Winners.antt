@@ -1,12 +1,12 @@
 -- The winners of names, by the ranks of the winners.
 use Rattle.std.specs.Prelude.{ℕ, ◌==◌, Bool, false, List, ◌++◌, filter_map, flat_map, slice_index_or, Option, Some, None, option_and_then}
-use Rattle.wl_base.specs.Choice.{given}
-use Rattle.object_file.specs.declared.object.Object.{Object}
-use Rattle.made_symbols.specs.declared.mode.Mode.TheVariants.{Plain}
-use Rattle.made_symbols.specs.Made.{made}
-use Rattle.name_rules.specs.Entries.{Entry, made_from}
-use Rattle.name_rules.specs.Meanings.{entry_rank}
-use Rattle.name_entries.specs.View.{rows_of, entry_number}
+use Rattle.link_program.specs.wl_base.Choice.{given}
+use Rattle.link_program.specs.object_file.declared.object.Object.{Object}
+use Rattle.link_program.specs.made_symbols.declared.mode.Mode.TheVariants.{Plain}
+use Rattle.link_program.specs.made_symbols.Made.{made}
+use Rattle.link_program.specs.name_rules.Entries.{Entry, made_from}
+use Rattle.link_program.specs.name_rules.Meanings.{entry_rank}
+use Rattle.link_program.specs.name_entries.View.{rows_of, entry_number}
 use Rattle.link_program.specs.declared.symbol.Winner.{Winner}
 use Rattle.link_program.specs.Told.{told_definition}
 

@@ -1,22 +1,22 @@
 //! Definitions, by where they stand.
 ghost use Rattle.std.specs.Prelude.{◌≡◌, ◌<◌, ◌-◌, length, slice_get, Some, IsSome};
-ghost use Rattle.made_symbols.specs.declared.mode.Mode.TheVariants as modes;
-ghost use Rattle.made_symbols.specs.Made.{made};
-ghost use Rattle.object_columns.specs.Seen.{symbol_seen};
-ghost use Rattle.object_rules.specs.Spaces.{ArePlaces};
-ghost use Rattle.name_rules.specs.Entries.{Entry, index_in};
-ghost use Rattle.name_entries.specs.View.{entry_at};
-ghost use Rattle.name_entries.specs.Fits.{FitsObjects};
+ghost use Rattle.link_program.specs.made_symbols.declared.mode.Mode.TheVariants as modes;
+ghost use Rattle.link_program.specs.made_symbols.Made.{made};
+ghost use Rattle.link_program.specs.object_columns.Seen.{symbol_seen};
+ghost use Rattle.link_program.specs.object_rules.Spaces.{ArePlaces};
+ghost use Rattle.link_program.specs.name_rules.Entries.{Entry, index_in};
+ghost use Rattle.link_program.specs.name_entries.View.{entry_at};
+ghost use Rattle.link_program.specs.name_entries.Fits.{FitsObjects};
 ghost use Rattle.link_program.specs.Told.{told_definition};
 ghost use Rattle.program_tables.specs.Leads.{made_definition};
 
 use link_program::Definition;
-use linking_section::SymbolKind;
-use made_symbols::{Mode, kind};
-use name_entries::Entries;
-use object_columns::SymbolRef;
-use object_file::Object;
-use object_rules::ImportPlaces;
+use link_program::linking_section::SymbolKind;
+use link_program::made_symbols::{Mode, kind};
+use link_program::name_entries::Entries;
+use link_program::object_columns::SymbolRef;
+use link_program::object_file::Object;
+use link_program::object_rules::ImportPlaces;
 
 /// An index without so many imports, which come first.
 fn without(index: u32, imports: usize) -> u32

@@ -1,18 +1,18 @@
 //! What `__wasm_call_ctors` calls (Linking.md, "Init Functions Subsection").
 ghost use Rattle.std.specs.Prelude.{◌≡◌, ◌||◌, ◌+◌, ◌<◌, ◌^◌, ◌++◌, [], Some, IsSome, length, map, filter_map, slice_get, OnOk, IfOk};
-ghost use Rattle.linking_section.specs.Flags.{is_undefined};
-ghost use Rattle.object_columns.specs.Seen.{symbol_seen};
-ghost use Rattle.name_entries.specs.Fits.{FitsObjects};
+ghost use Rattle.link_program.specs.linking_section.Flags.{is_undefined};
+ghost use Rattle.link_program.specs.object_columns.Seen.{symbol_seen};
+ghost use Rattle.link_program.specs.name_entries.Fits.{FitsObjects};
 ghost use Rattle.program_tables.specs.Inits.{call_of, calls_of, calls_upto, by_key, priority_of, call_names};
 ghost use Rattle.program_tables.specs.Views.{view_seen, view_at};
 
 use crate::pushing::push_some;
 use crate::view::{Lookups, ObjectView};
 use link_program::Named;
-use linking_section::InitFunc;
-use name_entries::{Entries, EntryRef};
+use link_program::linking_section::InitFunc;
+use link_program::name_entries::{Entries, EntryRef};
+use link_program::wl_base::{OutOfMemory, Seq};
 use std::alloc::Global;
-use wl_base::{OutOfMemory, Seq};
 
 /// A call of an init function. Those of lesser priority come first.
 #[derive(Clone, Copy)]

@@ -1,26 +1,26 @@
 //! The kept parts and what they name.
 ghost use Rattle.std.specs.Prelude.{◌≡◌, ◌-◌, ◌+◌, ◌∷◌, ◌<◌, ◌^◌, [], length, filter, OnOk, IfOk};
-ghost use Rattle.made_symbols.specs.declared.mode.Mode.TheVariants as modes;
-ghost use Rattle.made_symbols.specs.Made.{made, made_at};
-ghost use Rattle.mark_bits.specs.Chunks.{Differ, Lacks};
-ghost use Rattle.object_columns.specs.Seen.{function_seen, segment_seen};
-ghost use Rattle.link_rules.specs.Program.{indexed, option_onto, made_kind};
-ghost use Rattle.name_entries.specs.Fits.{FitsObjects};
+ghost use Rattle.link_program.specs.made_symbols.declared.mode.Mode.TheVariants as modes;
+ghost use Rattle.link_program.specs.made_symbols.Made.{made, made_at};
+ghost use Rattle.link_program.specs.mark_bits.Chunks.{Differ, Lacks};
+ghost use Rattle.link_program.specs.object_columns.Seen.{function_seen, segment_seen};
+ghost use Rattle.link_program.specs.link_rules.Program.{indexed, option_onto, made_kind};
+ghost use Rattle.link_program.specs.name_entries.Fits.{FitsObjects};
 ghost use Rattle.program_tables.specs.Views.{view_seen};
 ghost use Rattle.program_tables.specs.Rows.{function_row, segment_row, global_row, keeps_row, rows_in, made_row, made_rows, all_rows};
 ghost use Rattle.program_tables.specs.Gains.{Gains, AreGained, rank_of, AllBelow, AllMade};
 
 use crate::inits::init_calls;
 use crate::view::{Lookups, NO_SOURCE, ObjectView};
+use link_program::linking_section::SymbolKind;
+use link_program::made_symbols::{Mode, count, kind};
+use link_program::mark_bits::{Chunk, ChunkTable};
+use link_program::object_columns::{FunctionRef, SegmentRef};
+use link_program::object_file::GlobalDef;
+use link_program::wl_base::{OutOfMemory, Seq};
+use link_program::wl_lists::{Lists, shrunk};
 use link_program::{Content, Named, Part};
-use linking_section::SymbolKind;
-use made_symbols::{Mode, count, kind};
-use mark_bits::{Chunk, ChunkTable};
-use object_columns::{FunctionRef, SegmentRef};
-use object_file::GlobalDef;
 use std::alloc::Global;
-use wl_base::{OutOfMemory, Seq};
-use wl_lists::{Lists, shrunk};
 
 /// Parts, and by part what it names and its chunk.
 #[derive(Drop)]

@@ -1,19 +1,19 @@
 //! The symbols of all objects.
 ghost use Rattle.std.specs.Prelude.{◌≡◌, ◌++◌, ◌<◌, ◌^◌, [], Some, IsSome, length, map, flat_map, slice_index_or, OnOk, IfOk};
-ghost use Rattle.name_rules.specs.Entries.{Entry};
-ghost use Rattle.name_entries.specs.View.{rows_of, entry_at};
-ghost use Rattle.name_entries.specs.Fits.{FitsObjects};
+ghost use Rattle.link_program.specs.name_rules.Entries.{Entry};
+ghost use Rattle.link_program.specs.name_entries.View.{rows_of, entry_at};
+ghost use Rattle.link_program.specs.name_entries.Fits.{FitsObjects};
 ghost use Rattle.program_tables.specs.Leads.{lead_from, IsThere};
 ghost use Rattle.program_tables.specs.Objects.{ArePlaces};
 ghost use Rattle.program_tables.specs.Symbols.{AreSources, symbol_of, symbols_of, starts};
 
 use crate::definitions::{definition_at, made_definition};
+use link_program::name_entries::Entries;
+use link_program::name_meanings::Resolution;
+use link_program::name_rules::Meaning;
+use link_program::wl_base::{OutOfMemory, Seq};
 use link_program::{Lead, Symbol};
-use name_entries::Entries;
-use name_meanings::Resolution;
-use name_rules::Meaning;
 use std::alloc::Global;
-use wl_base::{OutOfMemory, Seq};
 
 /// What symbols are looked up in.
 #[derive(Clone, Copy)]

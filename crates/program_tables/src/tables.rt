@@ -1,12 +1,12 @@
 //! The tables of a program.
 ghost use Rattle.std.specs.Prelude.{◌≡◌, IfOk};
-ghost use Rattle.made_symbols.specs.declared.mode.Mode.TheVariants as modes;
-ghost use Rattle.name_rules.specs.Entries.{entries as all_entries};
-ghost use Rattle.name_rules.specs.Meanings.{resolve};
-ghost use Rattle.name_entries.specs.View.{WinnersAre};
-ghost use Rattle.name_entries.specs.Fits.{Fits};
-ghost use Rattle.name_meanings.specs.Means.{IsResolution};
-ghost use Rattle.link_rules.specs.Program.{program_of};
+ghost use Rattle.link_program.specs.made_symbols.declared.mode.Mode.TheVariants as modes;
+ghost use Rattle.link_program.specs.name_rules.Entries.{entries as all_entries};
+ghost use Rattle.link_program.specs.name_rules.Meanings.{resolve};
+ghost use Rattle.link_program.specs.name_entries.View.{WinnersAre};
+ghost use Rattle.link_program.specs.name_entries.Fits.{Fits};
+ghost use Rattle.link_program.specs.name_meanings.Means.{IsResolution};
+ghost use Rattle.link_program.specs.link_rules.Program.{program_of};
 ghost use Rattle.link_program.specs.Loaded.{Origin, IsLoaded};
 ghost use Rattle.link_program.specs.Program.{AreTables};
 
@@ -16,12 +16,12 @@ use crate::symbols::{AllSymbols, Sources, all_symbols};
 use crate::types::{AllTypes, all_types};
 use crate::view::Lookups;
 use crate::winners::all_winners;
+use link_program::name_entries::Entries;
+use link_program::name_meanings::Resolution;
+use link_program::symbol_race::Winners;
+use link_program::wl_base::OutOfMemory;
 use link_program::{Home, Tables};
-use name_entries::Entries;
-use name_meanings::Resolution;
 use std::alloc::Global;
-use symbol_race::Winners;
-use wl_base::OutOfMemory;
 
 /// The tables of the program of these loaded objects, by the numbers of names and imports. `ranks` has the winner of each name,
 /// `resolution` what each symbol means, `homes` where the bytes of each candidate begin.

@@ -1,17 +1,17 @@
 //! The function types of all objects, each once.
 ghost use Rattle.std.specs.Prelude.{◌≡◌, ◌∷◌, ◌++◌, [], map, slice_get, Some, OnOk, IfOk};
-ghost use Rattle.object_columns.specs.Seen.{func_type_seen};
-ghost use Rattle.object_file.specs.Spaces.{no_type};
-ghost use Rattle.type_merge.specs.Types.{with_type};
+ghost use Rattle.link_program.specs.object_columns.Seen.{func_type_seen};
+ghost use Rattle.link_program.specs.object_file.Spaces.{no_type};
+ghost use Rattle.link_program.specs.type_merge.Types.{with_type};
 ghost use Rattle.program_tables.specs.Types.{Keep, AreNumbered, AreTyped};
 
-use object_columns::FuncTypeRef;
-use object_file::Object;
+use link_program::object_columns::FuncTypeRef;
+use link_program::object_file::Object;
+use link_program::type_merge::TypeTable;
+use link_program::wasm_types::FuncType;
+use link_program::wl_base::{OutOfMemory, Seq};
+use link_program::wl_lists::Lists;
 use std::alloc::Global;
-use type_merge::TypeTable;
-use wasm_types::FuncType;
-use wl_base::{OutOfMemory, Seq};
-use wl_lists::Lists;
 
 /// The function types, each once, and by object the numbers of its types.
 #[derive(Drop)]

@@ -1,14 +1,14 @@
 //! What is looked up of an object when its parts are made.
 ghost use Rattle.std.specs.Prelude.{◌≡◌, ◌-◌, ◌+◌, ◌<◌, ◌^◌, [], length, slice_get, slice_index_or, option_map, Some, None, not, IfOk};
-ghost use Rattle.name_entries.specs.Fits.{FitsObjects};
-ghost use Rattle.name_entries.specs.Parts.{has_flag};
+ghost use Rattle.link_program.specs.name_entries.Fits.{FitsObjects};
+ghost use Rattle.link_program.specs.name_entries.Parts.{has_flag};
 ghost use Rattle.program_tables.specs.Views.{view_seen, view_at, keeps_function, type_from, source_from};
 
 use link_program::Home;
-use name_entries::{Entries, ObjectParts};
-use object_file::Object;
-use wl_base::{FileSpan, InputId, OutOfMemory, Seq, Span};
-use wl_lists::Lists;
+use link_program::name_entries::{Entries, ObjectParts};
+use link_program::object_file::Object;
+use link_program::wl_base::{FileSpan, InputId, OutOfMemory, Seq, Span};
+use link_program::wl_lists::Lists;
 
 /// The objects, and the numbers of their symbols and types.
 #[derive(Clone, Copy)]

@@ -1,15 +1,15 @@
 //! What the windows of bodies and segments name.
 ghost use Rattle.std.specs.Prelude.{◌≡◌, ◌+◌, ◌<◌, ◌^◌, length, filter_map, OnOk};
-ghost use Rattle.body_windows.specs.Operands.{operands_seen};
+ghost use Rattle.link_program.specs.body_windows.Operands.{operands_seen};
 ghost use Rattle.program_tables.specs.Views.{view_seen};
 ghost use Rattle.program_tables.specs.Rows.{symbol_named, operand_named, window_named};
 
 use crate::pushing::push_some;
 use crate::view::ObjectView;
-use body_windows::{Operand, OperandsRef};
 use link_program::Named;
-use reloc_section::Reloc;
-use wl_base::{OutOfMemory, Seq};
+use link_program::body_windows::{Operand, OperandsRef};
+use link_program::reloc_section::Reloc;
+use link_program::wl_base::{OutOfMemory, Seq};
 
 impl ObjectView<'_> {
     /// A window that names a symbol of the object; `None` exactly where there is no such symbol.

@@ -1,20 +1,20 @@
 //! The winners of all names.
 ghost use Rattle.std.specs.Prelude.{◌≡◌, ◌++◌, ◌<◌, ◌==◌, [], Some, IsSome, length, map, filter_map, flat_map, slice_index_or, OnOk, IfOk};
-ghost use Rattle.made_symbols.specs.declared.mode.Mode.TheVariants as modes;
-ghost use Rattle.made_symbols.specs.Made.{made, made_at};
-ghost use Rattle.name_rules.specs.Entries.{Entry, made_entry, made_from};
-ghost use Rattle.name_entries.specs.View.{rows_of, entry_at};
-ghost use Rattle.name_entries.specs.Fits.{Fits, FitsObjects};
+ghost use Rattle.link_program.specs.made_symbols.declared.mode.Mode.TheVariants as modes;
+ghost use Rattle.link_program.specs.made_symbols.Made.{made, made_at};
+ghost use Rattle.link_program.specs.name_rules.Entries.{Entry, made_entry, made_from};
+ghost use Rattle.link_program.specs.name_entries.View.{rows_of, entry_at};
+ghost use Rattle.link_program.specs.name_entries.Fits.{Fits, FitsObjects};
 ghost use Rattle.program_tables.specs.Winners.{is_rank, winner_of, winners_in};
 
 use crate::definitions::{definition_at, made_definition};
 use crate::pushing::push_some;
 use link_program::Winner;
-use made_symbols::{Mode, class, count};
-use name_entries::Entries;
+use link_program::made_symbols::{Mode, class, count};
+use link_program::name_entries::Entries;
+use link_program::symbol_race::{Winners, rank};
+use link_program::wl_base::{OutOfMemory, Seq};
 use std::alloc::Global;
-use symbol_race::{Winners, rank};
-use wl_base::{OutOfMemory, Seq};
 
 /// The flags of a linker-made symbol: HIDDEN.
 const MADE_FLAGS: u32 = 0x04;

@@ -1,11 +1,11 @@
 -- The foreign items that reading comes to: types of relocations alone.
 use Rattle.std.proofs.Common.{◌≡◌, ℕ, zero, suc, Bool, true, false, cond, List, [], ◌∷◌, Result, Ok, Err, refl, sym, subst}
-use Rattle.leb_codec.specs.Spelling.{magnitude, signed_value}
-use Rattle.leb_codec.specs.Reading.{number_at}
-use Rattle.leb_codec.specs.declared.fault.LebFault.{LebFault}
-use Rattle.leb_codec.specs.declared.form.Form.TheVariants.{U32, S32}
-use Rattle.wl_base.specs.declared.item.Item.{Item}
-use Rattle.wl_base.specs.declared.item.Item.TheVariants as items
+use Rattle.wasm_grammar.specs.leb_codec.Spelling.{magnitude, signed_value}
+use Rattle.wasm_grammar.specs.leb_codec.Reading.{number_at}
+use Rattle.wasm_grammar.specs.leb_codec.declared.fault.LebFault.{LebFault}
+use Rattle.wasm_grammar.specs.leb_codec.declared.form.Form.TheVariants.{U32, S32}
+use Rattle.wasm_grammar.specs.wl_base.declared.item.Item.{Item}
+use Rattle.wasm_grammar.specs.wl_base.declared.item.Item.TheVariants as items
 use Rattle.wasm_grammar.specs.declared.fault.Stop.{Stop}
 use Rattle.wasm_grammar.specs.declared.fault.Stop.TheVariants.{Broken, Foreign}
 use Rattle.wasm_grammar.specs.declared.fault.ReadFault.{ReadFault}

@@ -1,7 +1,7 @@
 -- Faults of the call that reads a payload alone: they name no place.
 use Rattle.std.specs.Prelude.{◌≡◌, ℕ, Result, Ok, Err}
-use Rattle.wl_base.specs.declared.item.Item.{Item}
-use Rattle.wl_base.specs.declared.item.Item.TheVariants as items
+use Rattle.wasm_grammar.specs.wl_base.declared.item.Item.{Item}
+use Rattle.wasm_grammar.specs.wl_base.declared.item.Item.TheVariants as items
 use Rattle.wasm_grammar.specs.declared.fault.Stop.{Stop}
 use Rattle.wasm_grammar.specs.declared.fault.Stop.TheVariants as stops
 use Rattle.wasm_grammar.specs.declared.fault.ReadFault.{ReadFault}

@@ -1,7 +1,7 @@
 -- A section `reloc.`: which bytes spell it, and how it is read (tool conventions, Linking.md,
 -- 'Relocation Sections').
 use Rattle.std.specs.Prelude.{◌≡◌, ℕ, ℤ, pos, Bool, true, false, IsTrue, List, Result, Ok, Err, if◌then◌else◌}
-use Rattle.wl_base.specs.declared.item.Item.TheVariants as items
+use Rattle.wasm_grammar.specs.wl_base.declared.item.Item.TheVariants as items
 use Rattle.wasm_grammar.specs.declared.fault.Stop.{Stop}
 use Rattle.wasm_grammar.specs.declared.fault.Stop.TheVariants.{Foreign}
 use Rattle.wasm_grammar.specs.Grammar.{SpellsNothing, SpellsByte, SpellsU32, SpellsS32, SpellsVector, Then}

@@ -1,6 +1,6 @@
 -- A foreign type stays the answer, whatever bytes follow it.
 use Rattle.std.proofs.Common.{ℕ, pos, ◌++◌, Ok, Err, refl}
-use Rattle.wl_base.specs.declared.item.Item.TheVariants as items
+use Rattle.wasm_grammar.specs.wl_base.declared.item.Item.TheVariants as items
 use Rattle.wasm_grammar.specs.declared.fault.Stop.TheVariants.{Foreign}
 use Rattle.wasm_grammar.specs.Grammar.{SpellsByte, SpellsVector}
 use Rattle.wasm_grammar.specs.Reading.{byte_at, u32_at, s32_at, vector_at}

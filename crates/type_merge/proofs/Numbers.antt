@@ -6,7 +6,7 @@ use Rattle.std.proofs.lemmas.Grind.{common_steps}
 use Rattle.std.proofs.lemmas.List.Folds.{position_or_len_push}
 use Rattle.std.proofs.lemmas.List.Sums.{prefix_len-le-length}
 use Rattle.wasm_types.specs.declared.function.FuncType.{FuncType}
-use Rattle.wl_base.specs.Choice.{distinct_onto}
+use Rattle.wasm_grammar.specs.wl_base.Choice.{distinct_onto}
 use Rattle.wasm_types.specs.Same.{same_type}
 use Rattle.wasm_types.specs.SameLaws.{same_type_is}
 use Rattle.type_merge.specs.Types.{type_number, with_type}

@@ -1,7 +1,7 @@
 -- The function types of the output, each once. Two are the same where their lists are (Core 2.3.6), so each stands once in the
 -- type section, and all else names it by its place there (Core 2.5.1 and 2.5.2).
 use Rattle.std.specs.Prelude.{ℕ, List, [], ◌∷◌, Option, position}
-use Rattle.wl_base.specs.Choice.{distinct, distinct_onto}
+use Rattle.wasm_grammar.specs.wl_base.Choice.{distinct, distinct_onto}
 use Rattle.wasm_types.specs.declared.function.FuncType.{FuncType}
 use Rattle.wasm_types.specs.Same.{same_type}
 

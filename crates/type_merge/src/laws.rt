@@ -1,7 +1,7 @@
 //! What holds of the types that were added, as calls that do nothing: their contracts are the laws.
 ghost use Rattle.std.specs.Prelude.{◌≡◌, ℕ, List, [], Some, fold};
 ghost use Rattle.wasm_types.specs.declared.function.FuncType.{FuncType};
-ghost use Rattle.wl_base.specs.Choice.{distinct_onto};
+ghost use Rattle.wasm_grammar.specs.wl_base.Choice.{distinct_onto};
 ghost use Rattle.wasm_types.specs.Same.{same_type};
 ghost use Rattle.type_merge.specs.Types.{merged, type_number, with_type};
 

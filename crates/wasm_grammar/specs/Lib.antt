@@ -8,3 +8,5 @@ pub mod Bounds
 pub mod Writers
 pub mod WriterLaws
 pub mod Examples
+pub use Rattle.wl_base.specs as wl_base
+pub use Rattle.leb_codec.specs as leb_codec

@@ -3,9 +3,9 @@ use Rattle.std.proofs.Common.{◌≡◌, ℕ, suc, ◌^◌, ◌<◌, ◌≤◌, 
 use Rattle.std.specs.Prelude.{◌-ℤ◌, IsTrue}
 use Rattle.std.proofs.lemmas.Int.{ints}
 use Rattle.std.proofs.lemmas.Bool.{lt-ltb, le-ltb, cases_lt}
-use Rattle.leb_codec.specs.Spelling.{magnitude, signed_value, last_byte, is_allowed, EndsOnce}
-use Rattle.leb_codec.specs.declared.form.Form.TheVariants.{S33}
-use Rattle.leb_codec.proofs.Values.{magnitude_below, magnitude_split}
+use Rattle.wasm_grammar.specs.leb_codec.Spelling.{magnitude, signed_value, last_byte, is_allowed, EndsOnce}
+use Rattle.wasm_grammar.specs.leb_codec.declared.form.Form.TheVariants.{S33}
+use Rattle.wasm_grammar.proofs.leb_codec_lemmas.Values.{magnitude_below, magnitude_split}
 use Rattle.wasm_grammar.specs.Grammar.{SpellsS33, SpellsS64}
 use Rattle.wasm_grammar.specs.Writers.{Appends, Writes}
 

@@ -2,7 +2,7 @@
 use Rattle.std.proofs.Common.{ℕ, zero, suc, ◌+◌, ◌-◌, ◌≤◌, ◌^◌, List, [], ◌∷◌, false, length, take, Ok, Err, eqb, arith, ℤ, pos, negsuc, Option, Some, None}
 use Rattle.std.specs.Prelude.{drop, nat_le, nat_lt}
 use Rattle.std.specs.Int.{from_le_bytes, w32, w64}
-use Rattle.wl_base.specs.declared.item.Item.TheVariants as items
+use Rattle.wasm_grammar.specs.wl_base.declared.item.Item.TheVariants as items
 use Rattle.wasm_grammar.specs.declared.fault.Stop.TheVariants.{Broken, Foreign}
 use Rattle.wasm_grammar.specs.Bounds.{Bounded, bind_bounded, cond_bounded, byte_bounded, tag_bounded, u32_bounded, s32_bounded, s33_bounded, s64_bounded, vector_bounded}
 use Rattle.wasm_grammar.specs.Reading.{byte_at, tag_at, u32_at, s32_at, s33_at, s64_at, vector_at, ended}

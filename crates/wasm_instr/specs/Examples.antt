@@ -1,8 +1,8 @@
 -- Worked examples.
 use Rattle.std.specs.Prelude.{◌≡◌, [], ◌∷◌, true, false, Some, None, Ok, Err}
 use Rattle.std.proofs.Common.{refl}
-use Rattle.leb_codec.specs.Reading.{number_at, end_of, end_within}
-use Rattle.wl_base.specs.declared.item.Item.TheVariants as items
+use Rattle.wasm_grammar.specs.leb_codec.Reading.{number_at, end_of, end_within}
+use Rattle.wasm_grammar.specs.wl_base.declared.item.Item.TheVariants as items
 use Rattle.wasm_grammar.specs.declared.fault.Stop.TheVariants.{Broken, Foreign}
 use Rattle.wasm_grammar.specs.Reading.{u32_at, s33_at, many_at, vector_at}
 use Rattle.wasm_types.specs.declared.value.ValType.TheVariants.{I32}

@@ -4,7 +4,7 @@ use Rattle.std.specs.Prelude.{drop, nat_le}
 use Rattle.std.specs.Int.{from_le_bytes, w32, w64}
 use Rattle.std.proofs.lemmas.Bool.{eqb-true, leb-true, le-leb}
 use Rattle.std.proofs.lemmas.List.{take-append-drop, take_at, drop_at, length-append, length-take-le}
-use Rattle.wl_base.specs.declared.item.Item.TheVariants as items
+use Rattle.wasm_grammar.specs.wl_base.declared.item.Item.TheVariants as items
 use Rattle.wasm_grammar.specs.declared.fault.Stop.{Stop}
 use Rattle.wasm_grammar.specs.declared.fault.Stop.TheVariants.{Broken, Foreign}
 use Rattle.wasm_grammar.specs.Grammar.{SpellsNothing, SpellsByte, SpellsU32, SpellsS32, SpellsS64, SpellsVector, Then}

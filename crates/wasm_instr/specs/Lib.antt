@@ -11,3 +11,7 @@ pub mod SkimLaws
 pub mod Places
 pub mod Placeless
 pub mod Examples
+pub use Rattle.wasm_grammar.specs.wl_base as wl_base
+pub use Rattle.wasm_grammar.specs.leb_codec as leb_codec
+pub use Rattle.wasm_grammar.specs as wasm_grammar
+pub use Rattle.wasm_types.specs as wasm_types

@@ -1,7 +1,7 @@
 -- A module whose bodies are spelled up to their places is the same module with other places.
 use Rattle.std.proofs.Common.{◌≡◌, ℕ, suc, List, [], ◌∷◌, length, refl, sym, ap, subst, ◌∙◌, inl, inr}
 use Rattle.std.specs.Prelude.{map}
-use Rattle.wasm_grammar.specs.Grammar.{SpellsU32, SpellsSized, SpellsMany, SpellsVector, Then}
+use Rattle.wasm_instr.specs.wasm_grammar.Grammar.{SpellsU32, SpellsSized, SpellsMany, SpellsVector, Then}
 use Rattle.wasm_instr.specs.declared.instr.Instr.{Instr}
 use Rattle.wasm_instr.specs.declared.body.LocalRun.{LocalRun}
 use Rattle.wasm_instr.specs.declared.body.Body.{Body}

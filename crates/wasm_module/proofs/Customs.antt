@@ -1,6 +1,6 @@
 -- Skipping custom sections one after the other, as a loop does.
 use Rattle.std.proofs.Common.{◌≡◌, ℕ, suc, ◌-◌, ◌+◌, ◌≤◌, ◌<◌, true, false, List, Result, Ok, Err, refl, sym, ◌∙◌, arith}
-use Rattle.wasm_grammar.specs.declared.fault.Stop.{Stop}
+use Rattle.wasm_instr.specs.wasm_grammar.declared.fault.Stop.{Stop}
 use Rattle.wasm_module.specs.Sections.{begins, custom_at, customs_at}
 
 pub goes_on : (n i end : ℕ) (bytes after : List ℕ) (total : Result (List ℕ) Stop) → i < n → begins 0 bytes ≡ true → custom_at end bytes ≡ Ok after → customs_at (n - i) end bytes ≡ total → customs_at (n - (i + 1)) end after ≡ total

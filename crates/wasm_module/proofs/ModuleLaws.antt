@@ -3,14 +3,14 @@ use Rattle.std.proofs.Common.{◌≡◌, ℕ, Bool, true, false, eqb, List, [], 
 use Rattle.std.specs.Prelude.{Option, Some, None, ◌&&◌}
 use Rattle.std.proofs.lemmas.Bool.{eqb-true, eq-eqb}
 use Rattle.std.proofs.lemmas.List.{append-nil}
-use Rattle.wasm_grammar.specs.declared.fault.Stop.{Stop}
-use Rattle.wasm_grammar.specs.declared.fault.Stop.TheVariants.{Broken}
-use Rattle.wasm_grammar.specs.Grammar.{SpellsNothing, SpellsU32, SpellsSized, SpellsVector, Then}
-use Rattle.wasm_grammar.specs.Readers.{Takes, IsReader}
-use Rattle.wasm_grammar.specs.Reading.{Read, ◌>>=◌, u32_at, part_at, vector_at, none_at}
-use Rattle.wasm_grammar.specs.ReaderLaws.{bind_ok, ok_is, cond_ok, u32_reader, vector_reader, part_found, part_again, regrouped, branch, never}
-use Rattle.wasm_types.specs.Types.{SpellsFuncType, SpellsImport, SpellsTableType, SpellsLimits, func_type_at, import_at, table_type_at, limits_at}
-use Rattle.wasm_types.specs.TypeLaws.{func_type_reader, import_reader, table_type_reader, limits_reader}
+use Rattle.wasm_instr.specs.wasm_grammar.declared.fault.Stop.{Stop}
+use Rattle.wasm_instr.specs.wasm_grammar.declared.fault.Stop.TheVariants.{Broken}
+use Rattle.wasm_instr.specs.wasm_grammar.Grammar.{SpellsNothing, SpellsU32, SpellsSized, SpellsVector, Then}
+use Rattle.wasm_instr.specs.wasm_grammar.Readers.{Takes, IsReader}
+use Rattle.wasm_instr.specs.wasm_grammar.Reading.{Read, ◌>>=◌, u32_at, part_at, vector_at, none_at}
+use Rattle.wasm_instr.specs.wasm_grammar.ReaderLaws.{bind_ok, ok_is, cond_ok, u32_reader, vector_reader, part_found, part_again, regrouped, branch, never}
+use Rattle.wasm_instr.specs.wasm_types.Types.{SpellsFuncType, SpellsImport, SpellsTableType, SpellsLimits, func_type_at, import_at, table_type_at, limits_at}
+use Rattle.wasm_instr.specs.wasm_types.TypeLaws.{func_type_reader, import_reader, table_type_reader, limits_reader}
 use Rattle.wasm_instr.specs.declared.body.Body.{Body}
 use Rattle.wasm_instr.specs.Bodies.{SpellsBody, body_at}
 use Rattle.wasm_instr.specs.BodyLaws.{body_found, body_again}

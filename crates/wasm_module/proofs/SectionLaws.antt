@@ -8,10 +8,10 @@ use Rattle.std.proofs.Common.{◌≡◌, ℕ, zero, suc, ◌-◌, ◌≤◌, Boo
 use Rattle.std.specs.Prelude.{drop, Option, Some, None}
 use Rattle.std.proofs.lemmas.Bool.{eqb-true, eq-eqb}
 use Rattle.std.proofs.lemmas.List.{length-append}
-use Rattle.wasm_grammar.specs.Grammar.{SpellsByte, SpellsSized, Then}
-use Rattle.wasm_grammar.specs.Readers.{Takes, IsReader}
-use Rattle.wasm_grammar.specs.Reading.{Read, ◌>>=◌, tag_at, u32_at, name_at, part_at, sized_at}
-use Rattle.wasm_grammar.specs.ReaderLaws.{bind_ok, ok_is, u32_reader, name_reader, tag_found, tag_again, part_found, part_again, sized_reader, Takes-then, regrouped, branch}
+use Rattle.wasm_instr.specs.wasm_grammar.Grammar.{SpellsByte, SpellsSized, Then}
+use Rattle.wasm_instr.specs.wasm_grammar.Readers.{Takes, IsReader}
+use Rattle.wasm_instr.specs.wasm_grammar.Reading.{Read, ◌>>=◌, tag_at, u32_at, name_at, part_at, sized_at}
+use Rattle.wasm_instr.specs.wasm_grammar.ReaderLaws.{bind_ok, ok_is, u32_reader, name_reader, tag_found, tag_again, part_found, part_again, sized_reader, Takes-then, regrouped, branch}
 use Rattle.wasm_module.specs.Sections.{Repeated, BeginsWithName, IsCustom, AreCustoms, SpellsSection, SpellsGiven, begins, custom_at, customs_at, section_at, next_at, given_at}
 
 -- ---- custom sections

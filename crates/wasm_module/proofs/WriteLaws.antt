@@ -3,14 +3,14 @@ use Rattle.std.proofs.Common.{◌≡◌, ℕ, zero, suc, ◌/◌, ◌<◌, ◌�
 use Rattle.std.specs.Prelude.{None}
 use Rattle.std.proofs.lemmas.Bool.{cases_lt, lt-ltb, le-ltb}
 use Rattle.std.proofs.lemmas.List.{length-append, append-nil}
-use Rattle.leb_codec.specs.Spelling.{magnitude}
-use Rattle.leb_codec.specs.Shortest.{shortest, u32}
-use Rattle.leb_codec.proofs.Values.{u32_fits}
-use Rattle.leb_codec.proofs.Computed.{u32_spells, u32_least}
-use Rattle.wasm_grammar.specs.Grammar.{SpellsByte, SpellsU32, SpellsBytes, SpellsSized, SpellsVector, Then}
-use Rattle.wasm_grammar.specs.Writers.{Appends, Writes}
-use Rattle.wasm_grammar.specs.WriterLaws.{Writes-from, Writes-then}
-use Rattle.wasm_types.specs.Types.{SpellsFuncType, SpellsImport, SpellsTableType, SpellsLimits}
+use Rattle.wasm_instr.specs.leb_codec.Spelling.{magnitude}
+use Rattle.wasm_instr.specs.leb_codec.Shortest.{shortest, u32}
+use Rattle.wasm_instr.proofs.leb_codec_lemmas.Values.{u32_fits}
+use Rattle.wasm_instr.proofs.leb_codec_lemmas.Computed.{u32_spells, u32_least}
+use Rattle.wasm_instr.specs.wasm_grammar.Grammar.{SpellsByte, SpellsU32, SpellsBytes, SpellsSized, SpellsVector, Then}
+use Rattle.wasm_instr.specs.wasm_grammar.Writers.{Appends, Writes}
+use Rattle.wasm_instr.specs.wasm_grammar.WriterLaws.{Writes-from, Writes-then}
+use Rattle.wasm_instr.specs.wasm_types.Types.{SpellsFuncType, SpellsImport, SpellsTableType, SpellsLimits}
 use Rattle.wasm_instr.specs.Placeless.{SpellsPlaceless}
 use Rattle.wasm_module.specs.declared.structure.Module.{Module}
 use Rattle.wasm_module.specs.Parts.{SpellsGlobal, SpellsExport, SpellsElement, SpellsDataSegment}

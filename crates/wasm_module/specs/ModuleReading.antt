@@ -1,11 +1,11 @@
 -- Reading a module from left to right, up to the first fault.
 use Rattle.std.specs.Prelude.{◌≡◌, ℕ, true, List, [], ◌∷◌, length, Option, Some, None, Result, Ok, Err, Bool, ◌==◌, ◌&&◌, if◌then◌else◌}
-use Rattle.wasm_grammar.specs.declared.fault.Stop.{Stop}
-use Rattle.wasm_grammar.specs.declared.fault.Stop.TheVariants.{Broken}
-use Rattle.wasm_grammar.specs.declared.fault.ReadFault.{ReadFault}
-use Rattle.wasm_grammar.specs.declared.fault.ReadFault.TheVariants as faults
-use Rattle.wasm_grammar.specs.Reading.{Read, ◌>>=◌, u32_at, part_at, vector_at, none_at}
-use Rattle.wasm_types.specs.Types.{func_type_at, import_at, table_type_at, limits_at}
+use Rattle.wasm_instr.specs.wasm_grammar.declared.fault.Stop.{Stop}
+use Rattle.wasm_instr.specs.wasm_grammar.declared.fault.Stop.TheVariants.{Broken}
+use Rattle.wasm_instr.specs.wasm_grammar.declared.fault.ReadFault.{ReadFault}
+use Rattle.wasm_instr.specs.wasm_grammar.declared.fault.ReadFault.TheVariants as faults
+use Rattle.wasm_instr.specs.wasm_grammar.Reading.{Read, ◌>>=◌, u32_at, part_at, vector_at, none_at}
+use Rattle.wasm_instr.specs.wasm_types.Types.{func_type_at, import_at, table_type_at, limits_at}
 use Rattle.wasm_instr.specs.declared.body.Body.{Body}
 use Rattle.wasm_instr.specs.Bodies.{body_at}
 use Rattle.wasm_sections.specs.Sections.{header}

@@ -1,7 +1,7 @@
 -- Modules: which bytes are one (WebAssembly Core Specification 2.0, sections 5.5.2 to 5.5.16).
 use Rattle.std.specs.Prelude.{◌≡◌, ℕ, true, List, [], length, map, Option, Some, None}
-use Rattle.wasm_grammar.specs.Grammar.{SpellsU32, SpellsItself, SpellsSized, SpellsVector, Then}
-use Rattle.wasm_types.specs.Types.{SpellsFuncType, SpellsImport, SpellsTableType, SpellsLimits}
+use Rattle.wasm_instr.specs.wasm_grammar.Grammar.{SpellsU32, SpellsItself, SpellsSized, SpellsVector, Then}
+use Rattle.wasm_instr.specs.wasm_types.Types.{SpellsFuncType, SpellsImport, SpellsTableType, SpellsLimits}
 use Rattle.wasm_instr.specs.declared.instr.Instr.{Instr}
 use Rattle.wasm_instr.specs.declared.body.LocalRun.{LocalRun}
 use Rattle.wasm_instr.specs.declared.body.Body.{Body}

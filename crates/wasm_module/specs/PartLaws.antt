@@ -2,16 +2,16 @@
 use Rattle.std.proofs.Common.{◌≡◌, ℕ, ◌-◌, Bool, true, false, eqb, List, [], ◌∷◌, ◌++◌, length, Ok, Err, Option, Some, None, refl, sym, subst, ◌∙◌}
 use Rattle.std.specs.Prelude.{nat_le}
 use Rattle.std.proofs.lemmas.Bool.{eqb-true, leb-true, le-leb}
-use Rattle.wl_base.specs.declared.item.Item.TheVariants as items
-use Rattle.wasm_grammar.specs.declared.fault.Stop.TheVariants.{Broken, Foreign}
-use Rattle.wasm_grammar.specs.Grammar.{SpellsByte, SpellsU32, SpellsVector}
-use Rattle.wasm_grammar.specs.Readers.{Takes, IsReader}
-use Rattle.wasm_grammar.specs.Reading.{byte_at, tag_at, u32_at, name_at, bytes_at, vector_at}
-use Rattle.wasm_grammar.specs.ReaderLaws.{bind_ok, ok_is, cond_ok, byte_reader, u32_reader, name_reader, bytes_reader, vector_reader, tag_found, tag_again, Takes-then, regrouped, branch, never}
-use Rattle.wasm_types.specs.declared.const_expr.ConstExpr.{ConstExpr}
-use Rattle.wasm_types.specs.declared.const_expr.ConstExpr.TheVariants as exprs
-use Rattle.wasm_types.specs.Types.{SpellsExpr, SpellsConstExpr, closed_at, const_expr_at, global_type_at}
-use Rattle.wasm_types.specs.TypeLaws.{const_expr_reader, global_type_reader}
+use Rattle.wasm_instr.specs.wl_base.declared.item.Item.TheVariants as items
+use Rattle.wasm_instr.specs.wasm_grammar.declared.fault.Stop.TheVariants.{Broken, Foreign}
+use Rattle.wasm_instr.specs.wasm_grammar.Grammar.{SpellsByte, SpellsU32, SpellsVector}
+use Rattle.wasm_instr.specs.wasm_grammar.Readers.{Takes, IsReader}
+use Rattle.wasm_instr.specs.wasm_grammar.Reading.{byte_at, tag_at, u32_at, name_at, bytes_at, vector_at}
+use Rattle.wasm_instr.specs.wasm_grammar.ReaderLaws.{bind_ok, ok_is, cond_ok, byte_reader, u32_reader, name_reader, bytes_reader, vector_reader, tag_found, tag_again, Takes-then, regrouped, branch, never}
+use Rattle.wasm_instr.specs.wasm_types.declared.const_expr.ConstExpr.{ConstExpr}
+use Rattle.wasm_instr.specs.wasm_types.declared.const_expr.ConstExpr.TheVariants as exprs
+use Rattle.wasm_instr.specs.wasm_types.Types.{SpellsExpr, SpellsConstExpr, closed_at, const_expr_at, global_type_at}
+use Rattle.wasm_instr.specs.wasm_types.TypeLaws.{const_expr_reader, global_type_reader}
 use Rattle.wasm_module.specs.declared.parts.ModuleGlobal.{ModuleGlobal}
 use Rattle.wasm_module.specs.declared.parts.Export.{Export}
 use Rattle.wasm_module.specs.declared.parts.Element.{Element}

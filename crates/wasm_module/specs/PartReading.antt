@@ -4,13 +4,13 @@
 -- An item that isn't linked is foreign as soon as the bytes tell it, and what follows isn't read.
 -- Any other byte that is outside the grammar is broken, at its own place.
 use Rattle.std.specs.Prelude.{ℕ, ◌-◌, Bool, [], ◌∷◌, length, nat_le, Some, None, Result, Ok, Err, ◌==◌, ◌&&◌, if◌then◌else◌}
-use Rattle.wl_base.specs.declared.item.Item.TheVariants as items
-use Rattle.wasm_grammar.specs.declared.fault.Stop.{Stop}
-use Rattle.wasm_grammar.specs.declared.fault.Stop.TheVariants.{Broken, Foreign}
-use Rattle.wasm_grammar.specs.Reading.{Read, ◌>>=◌, byte_at, tag_at, u32_at, name_at, bytes_at, vector_at}
-use Rattle.wasm_types.specs.declared.const_expr.ConstExpr.{ConstExpr}
-use Rattle.wasm_types.specs.declared.const_expr.ConstExpr.TheVariants as exprs
-use Rattle.wasm_types.specs.Types.{closed_at, const_expr_at, global_type_at}
+use Rattle.wasm_instr.specs.wl_base.declared.item.Item.TheVariants as items
+use Rattle.wasm_instr.specs.wasm_grammar.declared.fault.Stop.{Stop}
+use Rattle.wasm_instr.specs.wasm_grammar.declared.fault.Stop.TheVariants.{Broken, Foreign}
+use Rattle.wasm_instr.specs.wasm_grammar.Reading.{Read, ◌>>=◌, byte_at, tag_at, u32_at, name_at, bytes_at, vector_at}
+use Rattle.wasm_instr.specs.wasm_types.declared.const_expr.ConstExpr.{ConstExpr}
+use Rattle.wasm_instr.specs.wasm_types.declared.const_expr.ConstExpr.TheVariants as exprs
+use Rattle.wasm_instr.specs.wasm_types.Types.{closed_at, const_expr_at, global_type_at}
 use Rattle.wasm_module.specs.declared.parts.ModuleGlobal.{ModuleGlobal}
 use Rattle.wasm_module.specs.declared.parts.Export.{Export}
 use Rattle.wasm_module.specs.declared.parts.Element.{Element}

@@ -1,16 +1,16 @@
 -- A foreign item in a part of a module stays the answer, whatever bytes follow.
 use Rattle.std.proofs.Common.{◌≡◌, ℕ, ◌-◌, Bool, true, false, cond, eqb, List, [], ◌∷◌, ◌++◌, length, Result, Ok, Err, refl}
 use Rattle.std.specs.Prelude.{nat_le}
-use Rattle.wl_base.specs.declared.item.Item.TheVariants as items
-use Rattle.wasm_grammar.specs.declared.fault.Stop.{Stop}
-use Rattle.wasm_grammar.specs.declared.fault.Stop.TheVariants.{Broken, Foreign}
-use Rattle.wasm_grammar.specs.Grammar.{SpellsByte, SpellsU32, SpellsName, SpellsBytes, SpellsVector}
-use Rattle.wasm_grammar.specs.Reading.{◌>>=◌, byte_at, u32_at, name_at, bytes_at, vector_at}
-use Rattle.wasm_grammar.specs.ReaderLaws.{byte_reader, u32_reader, name_reader, bytes_reader, vector_reader}
-use Rattle.wasm_grammar.specs.Stays.{Stays, IsSteady, bind_stays, step_stays, cond_stays, tag_stays, never_stays, byte_stays, u32_stays, bytes_stay, name_stays, vector_stays}
-use Rattle.wasm_types.specs.Types.{SpellsGlobalType, closed_at, const_expr_at, global_type_at}
-use Rattle.wasm_types.specs.TypeLaws.{global_type_reader}
-use Rattle.wasm_types.specs.Stays.{const_expr_stays, global_type_stays}
+use Rattle.wasm_instr.specs.wl_base.declared.item.Item.TheVariants as items
+use Rattle.wasm_instr.specs.wasm_grammar.declared.fault.Stop.{Stop}
+use Rattle.wasm_instr.specs.wasm_grammar.declared.fault.Stop.TheVariants.{Broken, Foreign}
+use Rattle.wasm_instr.specs.wasm_grammar.Grammar.{SpellsByte, SpellsU32, SpellsName, SpellsBytes, SpellsVector}
+use Rattle.wasm_instr.specs.wasm_grammar.Reading.{◌>>=◌, byte_at, u32_at, name_at, bytes_at, vector_at}
+use Rattle.wasm_instr.specs.wasm_grammar.ReaderLaws.{byte_reader, u32_reader, name_reader, bytes_reader, vector_reader}
+use Rattle.wasm_instr.specs.wasm_grammar.Stays.{Stays, IsSteady, bind_stays, step_stays, cond_stays, tag_stays, never_stays, byte_stays, u32_stays, bytes_stay, name_stays, vector_stays}
+use Rattle.wasm_instr.specs.wasm_types.Types.{SpellsGlobalType, closed_at, const_expr_at, global_type_at}
+use Rattle.wasm_instr.specs.wasm_types.TypeLaws.{global_type_reader}
+use Rattle.wasm_instr.specs.wasm_types.Stays.{const_expr_stays, global_type_stays}
 use Rattle.wasm_module.specs.Parts.{SpellsInit}
 use Rattle.wasm_module.specs.PartReading.{get_expr_at, init_at, global_at, export_kind, export_at, first_table_at, named_table_at, element_at, first_memory_at, named_memory_at, data_segment_at}
 use Rattle.wasm_module.specs.PartLaws.{no_get, init_reader}

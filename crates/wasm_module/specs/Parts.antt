@@ -4,9 +4,9 @@
 -- An object has them too, but for one thing: there a constant expression is no global.get. So the
 -- first argument says whether it may be one.
 use Rattle.std.specs.Prelude.{ℕ, ◌≤◌, Bool, true, false, List, Option, Some, None}
-use Rattle.wasm_grammar.specs.Grammar.{SpellsByte, SpellsU32, SpellsName, SpellsBytes, SpellsVector, Then}
-use Rattle.wasm_types.specs.declared.const_expr.ConstExpr.{ConstExpr}
-use Rattle.wasm_types.specs.Types.{SpellsGlobalType, SpellsExpr, SpellsConstExpr}
+use Rattle.wasm_instr.specs.wasm_grammar.Grammar.{SpellsByte, SpellsU32, SpellsName, SpellsBytes, SpellsVector, Then}
+use Rattle.wasm_instr.specs.wasm_types.declared.const_expr.ConstExpr.{ConstExpr}
+use Rattle.wasm_instr.specs.wasm_types.Types.{SpellsGlobalType, SpellsExpr, SpellsConstExpr}
 use Rattle.wasm_module.specs.declared.parts.ModuleGlobal.{ModuleGlobal}
 use Rattle.wasm_module.specs.declared.parts.Export.{Export}
 use Rattle.wasm_module.specs.declared.parts.Element.{Element}

@@ -1,12 +1,12 @@
 -- Worked examples.
 use Rattle.std.specs.Prelude.{◌≡◌, [], ◌∷◌, ◌++◌, Some, None, Ok, Err}
 use Rattle.std.proofs.Common.{refl}
-use Rattle.leb_codec.specs.Reading.{number_at, end_of, end_within}
-use Rattle.wasm_grammar.specs.declared.fault.Stop.TheVariants.{Broken, Foreign}
-use Rattle.wl_base.specs.declared.item.Item.TheVariants as items
-use Rattle.wasm_grammar.specs.Reading.{u32_at, s32_at, many_at, vector_at, bytes_at, front_at, part_at, sized_at, whole}
-use Rattle.wasm_types.specs.declared.const_expr.ConstExpr.TheVariants.{I32}
-use Rattle.wasm_types.specs.Types.{limits_at, const_expr_at}
+use Rattle.wasm_instr.specs.leb_codec.Reading.{number_at, end_of, end_within}
+use Rattle.wasm_instr.specs.wasm_grammar.declared.fault.Stop.TheVariants.{Broken, Foreign}
+use Rattle.wasm_instr.specs.wl_base.declared.item.Item.TheVariants as items
+use Rattle.wasm_instr.specs.wasm_grammar.Reading.{u32_at, s32_at, many_at, vector_at, bytes_at, front_at, part_at, sized_at, whole}
+use Rattle.wasm_instr.specs.wasm_types.declared.const_expr.ConstExpr.TheVariants.{I32}
+use Rattle.wasm_instr.specs.wasm_types.Types.{limits_at, const_expr_at}
 use Rattle.wasm_sections.specs.Sections.{header}
 use Rattle.wasm_module.specs.PartReading.{init_at, element_at, data_segment_at}
 use Rattle.wasm_module.specs.Sections.{customs_at, section_at, next_at, given_at}

@@ -1,9 +1,9 @@
 -- The sections of a module: which bytes spell them, and how they are read (WebAssembly Core
 -- Specification 2.0, sections 5.5.2 and 5.5.3).
 use Rattle.std.specs.Prelude.{◌≡◌, ℕ, zero, suc, ◌-◌, Bool, false, drop, List, [], ◌∷◌, ◌++◌, length, Option, Some, None, ◌⊎◌, Result, Ok, ◌==◌, if◌then◌else◌}
-use Rattle.wasm_grammar.specs.declared.fault.Stop.{Stop}
-use Rattle.wasm_grammar.specs.Grammar.{SpellsByte, SpellsU32, SpellsName, SpellsSized, Then}
-use Rattle.wasm_grammar.specs.Reading.{Read, ◌>>=◌, tag_at, u32_at, name_at, part_at, sized_at}
+use Rattle.wasm_instr.specs.wasm_grammar.declared.fault.Stop.{Stop}
+use Rattle.wasm_instr.specs.wasm_grammar.Grammar.{SpellsByte, SpellsU32, SpellsName, SpellsSized, Then}
+use Rattle.wasm_instr.specs.wasm_grammar.Reading.{Read, ◌>>=◌, tag_at, u32_at, name_at, part_at, sized_at}
 
 -- ---- the grammar
 

@@ -1,15 +1,15 @@
 //! Reading the code of functions.
 ghost use Rattle.std.specs.Prelude.{[]};
-ghost use Rattle.wasm_grammar.specs.Fault.{Gives};
-ghost use Rattle.wasm_grammar.specs.Reading.{many_at, vector_at, sized_at, whole};
+ghost use Rattle.wasm_instr.specs.wasm_grammar.Fault.{Gives};
+ghost use Rattle.wasm_instr.specs.wasm_grammar.Reading.{many_at, vector_at, sized_at, whole};
 ghost use Rattle.wasm_module.specs.Sections.{section_at, next_at};
 ghost use Rattle.wasm_module.specs.ModuleReading.{code_at};
 
 use crate::sections::{begins, customs_at};
 use std::alloc::Global;
-use wasm_grammar::{ReadFault, none_at, part_at, place, u32_at};
+use wasm_instr::wasm_grammar::{ReadFault, none_at, part_at, place, u32_at};
+use wasm_instr::wl_base::Seq;
 use wasm_instr::{Body, body_at};
-use wl_base::Seq;
 
 /// A function's code at the front, and the bytes after it (Core 5.5.13). The places in the body are
 /// counted from its first byte.
@@ -42,7 +42,7 @@ fn codes_at(
 }
 
 /// The contents of a code section: as many functions as are counted at the front.
-#[tactic(auto, unfolding(wasm_grammar::specs::Reading::whole, wasm_grammar::specs::Reading::vector_at))]
+#[tactic(auto, unfolding(wasm_instr::specs::wasm_grammar::Reading::whole, wasm_instr::specs::wasm_grammar::Reading::vector_at))]
 fn whole_codes(alloc: Global, end: usize, part: &[u8]) -> Result<Seq<Body>, ReadFault>
     ensures { Gives (λ x. x) result (whole (vector_at code_at) end part.now) }
 {
@@ -53,7 +53,7 @@ fn whole_codes(alloc: Global, end: usize, part: &[u8]) -> Result<Seq<Body>, Read
 }
 
 /// The size of a code section, its contents, and the bytes after them.
-#[tactic(auto, unfolding(wasm_grammar::specs::Reading::sized_at))]
+#[tactic(auto, unfolding(wasm_instr::specs::wasm_grammar::Reading::sized_at))]
 fn sized_codes_at(alloc: Global, end: usize, bytes: &[u8]) -> Result<(Seq<Body>, &[u8]), ReadFault>
     ensures { Gives (λ x. (x.0, x.1.now)) result (sized_at (vector_at code_at) end bytes.now) }
 {

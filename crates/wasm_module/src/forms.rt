@@ -1,7 +1,7 @@
 //! What stands in the vectors of a module's sections. There a constant expression may be a
 //! global.get.
 ghost use Rattle.std.specs.Prelude.{true, OnOk};
-ghost use Rattle.wasm_grammar.specs.Writers.{Appends, Writes, Keeps};
+ghost use Rattle.wasm_instr.specs.wasm_grammar.Writers.{Appends, Writes, Keeps};
 ghost use Rattle.wasm_module.specs.Parts.{SpellsGlobal, SpellsExport, SpellsElement, SpellsDataSegment};
 ghost use Rattle.wasm_module.specs.PartReading.{global_at, export_at, element_at, data_segment_at};
 ghost use Rattle.wasm_module.specs.PartLaws.{global_reader, export_reader, element_reader, data_segment_reader};
@@ -10,9 +10,9 @@ use crate::entries::{export_at, global_at};
 use crate::parts::{DataSegment, Element, Export, ModuleGlobal};
 use crate::segments::{data_segment_at, element_at};
 use std::alloc::Global;
-use wasm_grammar::{Form, ReadFault, Spell, put_byte, put_bytes, put_u32, put_vector};
-use wasm_types::{put_const_expr, put_global_type};
-use wl_base::{OutOfMemory, Seq};
+use wasm_instr::wasm_grammar::{Form, ReadFault, Spell, put_byte, put_bytes, put_u32, put_vector};
+use wasm_instr::wasm_types::{put_const_expr, put_global_type};
+use wasm_instr::wl_base::{OutOfMemory, Seq};
 
 impl Form for ModuleGlobal {
     ghost spells = { SpellsGlobal true };
@@ -70,7 +70,7 @@ impl Form for Element {
 }
 
 /// Appends the shortest spelling (Core 5.5.12).
-#[tactic(auto, using(wasm_grammar::specs::WriterLaws::keeps_then))]
+#[tactic(auto, using(wasm_instr::specs::wasm_grammar::WriterLaws::keeps_then))]
 fn put_element(to: &mut Seq<u8>, e: &Element) -> Result<(), OutOfMemory>
     ensures ok { OnOk result (Writes (SpellsElement true e.now) to.old to.new) }
     ensures keeps { Keeps to.old to.new }
@@ -110,7 +110,7 @@ impl Form for DataSegment {
 }
 
 /// Appends the shortest spelling (Core 5.5.14).
-#[tactic(auto, using(wasm_grammar::specs::WriterLaws::keeps_then))]
+#[tactic(auto, using(wasm_instr::specs::wasm_grammar::WriterLaws::keeps_then))]
 fn put_data_segment(to: &mut Seq<u8>, s: &DataSegment) -> Result<(), OutOfMemory>
     ensures ok { OnOk result (Appends (SpellsDataSegment true s.now) to.old to.new) }
     ensures keeps { Keeps to.old to.new }

@@ -1,8 +1,8 @@
 //! What holds of the grammars and of reading, as calls that do nothing: their contracts are the
 //! laws.
 ghost use Rattle.std.specs.Prelude.{◌≡◌, ℕ, Bool, List, Ok};
-ghost use Rattle.wasm_grammar.specs.Readers.{IsUnambiguous};
-ghost use Rattle.wasm_grammar.specs.Stays.{IsSteady};
+ghost use Rattle.wasm_instr.specs.wasm_grammar.Readers.{IsUnambiguous};
+ghost use Rattle.wasm_instr.specs.wasm_grammar.Stays.{IsSteady};
 ghost use Rattle.wasm_module.specs.declared.structure.Module.{Module};
 ghost use Rattle.wasm_module.specs.Parts.{SpellsInit, SpellsGlobal, SpellsExport, SpellsElement, SpellsDataSegment};
 ghost use Rattle.wasm_module.specs.PartReading.{init_at, global_at, export_at, element_at, data_segment_at};

@@ -1,6 +1,6 @@
 //! Reading a module.
 ghost use Rattle.std.specs.Prelude.{◌≡◌, IfOk, Ok};
-ghost use Rattle.wasm_grammar.specs.Fault.{Reads, Gives};
+ghost use Rattle.wasm_instr.specs.wasm_grammar.Fault.{Reads, Gives};
 ghost use Rattle.wasm_sections.specs.Sections.{header};
 ghost use Rattle.wasm_module.specs.declared.structure.Module.{Module};
 ghost use Rattle.wasm_module.specs.Modules.{IsModule};
@@ -11,7 +11,7 @@ use crate::fault::ModuleFault;
 use crate::sections::{customs_at, next_at, next_count_at};
 use crate::structure::Module;
 use std::alloc::Global;
-use wasm_grammar::{ReadFault, Stop, none_at};
+use wasm_instr::wasm_grammar::{ReadFault, Stop, none_at};
 
 /// The bytes after the header (Core 5.5.16).
 fn header_at(end: usize, bytes: &[u8]) -> Result<&[u8], Stop>

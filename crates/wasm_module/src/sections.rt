@@ -1,15 +1,15 @@
 //! Reading sections.
 ghost use Rattle.std.specs.Prelude.{◌≡◌, [], None, length};
 ghost use Rattle.std.specs.Str.{is_utf8};
-ghost use Rattle.wasm_grammar.specs.Fault.{Reads, Gives};
-ghost use Rattle.wasm_grammar.specs.Reading.{name_at, vector_at, sized_at};
+ghost use Rattle.wasm_instr.specs.wasm_grammar.Fault.{Reads, Gives};
+ghost use Rattle.wasm_instr.specs.wasm_grammar.Reading.{name_at, vector_at, sized_at};
 ghost use Rattle.wasm_module.specs.Sections.{begins, custom_at, customs_at, section_at, next_at, given_at};
 
 use std::alloc::Global;
-use wasm_grammar::{
+use wasm_instr::wasm_grammar::{
     Form, ReadFault, Stop, bytes_at, none_at, part_at, place, sized_at, tag_at, u32_at,
 };
-use wl_base::Seq;
+use wasm_instr::wl_base::Seq;
 
 /// Whether the bytes are UTF-8.
 fn is_utf8(text: &[u8]) -> bool
@@ -22,7 +22,7 @@ fn is_utf8(text: &[u8]) -> bool
 }
 
 /// The name at the front, which is lent, and the bytes after it (Core 5.2.4). It takes no memory.
-#[tactic(auto, unfolding(wasm_grammar::specs::Reading::name_at))]
+#[tactic(auto, unfolding(wasm_instr::specs::wasm_grammar::Reading::name_at))]
 pub fn lent_name_at(end: usize, bytes: &[u8]) -> Result<(&[u8], &[u8]), Stop>
     ensures { Reads (λ x. (x.0.now, x.1.now)) result (name_at end bytes.now) }
 {
@@ -104,7 +104,7 @@ pub fn next_at<T: Form>(
 }
 
 /// A size and a number that is just so many bytes long, and the bytes after it.
-#[tactic(auto, unfolding(wasm_grammar::specs::Reading::sized_at, wasm_grammar::specs::Reading::whole, crate::specs::Sections::given_at))]
+#[tactic(auto, unfolding(wasm_instr::specs::wasm_grammar::Reading::sized_at, wasm_instr::specs::wasm_grammar::Reading::whole, crate::specs::Sections::given_at))]
 fn sized_count_at(end: usize, bytes: &[u8]) -> Result<(Option<u32>, &[u8]), Stop>
     ensures { Reads (λ x. (x.0, x.1.now)) result (sized_at given_at end bytes.now) }
 {

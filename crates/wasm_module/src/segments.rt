@@ -1,13 +1,13 @@
 //! Reading element and data segments.
-ghost use Rattle.wasm_grammar.specs.Fault.{Reads, Gives};
+ghost use Rattle.wasm_instr.specs.wasm_grammar.Fault.{Reads, Gives};
 ghost use Rattle.wasm_module.specs.PartReading.{first_table_at, named_table_at, flagged_element, element_at, first_memory_at, named_memory_at, flagged_data, data_segment_at};
 
 use crate::entries::init_at;
 use crate::parts::{DataSegment, Element};
 use std::alloc::Global;
-use wasm_grammar::{ReadFault, Stop, bytes_at, tag_at, u32_at, vector_at};
-use wasm_types::ConstExpr;
-use wl_base::{Item, Seq};
+use wasm_instr::wasm_grammar::{ReadFault, Stop, bytes_at, tag_at, u32_at, vector_at};
+use wasm_instr::wasm_types::ConstExpr;
+use wasm_instr::wl_base::{Item, Seq};
 
 /// The functions of table 0 behind the flag, and the bytes after them.
 fn first_table_at(

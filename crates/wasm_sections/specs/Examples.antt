@@ -1,7 +1,7 @@
 -- Worked examples.
 use Rattle.std.specs.Prelude.{◌≡◌, [], ◌∷◌, ◌++◌, Ok, Err}
 use Rattle.std.proofs.Common.{refl}
-use Rattle.leb_codec.specs.Reading.{number_at, end_of, end_within}
+use Rattle.wasm_grammar.specs.leb_codec.Reading.{number_at, end_of, end_within}
 use Rattle.wasm_grammar.specs.Reading.{u32_at}
 use Rattle.wasm_sections.specs.declared.fault.FrameFault.TheVariants.{BadHeader, BadSize, BadId, BadOrder}
 use Rattle.wasm_sections.specs.Sections.{header, span_at}

@@ -1,7 +1,7 @@
 -- A foreign item in a type, an import or a constant expression stays the answer, whatever bytes
 -- follow.
 use Rattle.std.proofs.Common.{◌≡◌, ℕ, ◌-◌, Bool, true, false, cond, eqb, ◌||◌, List, [], ◌∷◌, ◌++◌, length, Result, Ok, Err, refl}
-use Rattle.wl_base.specs.declared.item.Item.TheVariants as items
+use Rattle.wasm_grammar.specs.wl_base.declared.item.Item.TheVariants as items
 use Rattle.wasm_grammar.specs.declared.fault.Stop.{Stop}
 use Rattle.wasm_grammar.specs.declared.fault.Stop.TheVariants.{Broken, Foreign}
 use Rattle.wasm_grammar.specs.Grammar.{SpellsByte, SpellsName, SpellsVector}

@@ -1,6 +1,6 @@
 -- What is broken stands at the end at most.
 use Rattle.std.proofs.Common.{ℕ, ◌-◌, ◌≤◌, ◌||◌, true, false, List, [], ◌∷◌, length, Ok, Err, eqb, arith}
-use Rattle.wl_base.specs.declared.item.Item.TheVariants as items
+use Rattle.wasm_grammar.specs.wl_base.declared.item.Item.TheVariants as items
 use Rattle.wasm_grammar.specs.declared.fault.Stop.TheVariants.{Broken, Foreign}
 use Rattle.wasm_grammar.specs.Bounds.{Bounded, bind_bounded, cond_bounded, byte_bounded, tag_bounded, u32_bounded, s32_bounded, s64_bounded, name_bounded, vector_bounded}
 use Rattle.wasm_grammar.specs.Reading.{byte_at, tag_at, u32_at, s32_at, s64_at, name_at, vector_at}

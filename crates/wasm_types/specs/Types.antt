@@ -4,7 +4,7 @@
 -- An item that isn't linked is foreign as soon as the bytes tell it, and what follows isn't read.
 -- Any other byte that is outside the grammar is broken, at its own place.
 use Rattle.std.specs.Prelude.{ℕ, ◌-◌, Bool, true, false, List, [], ◌∷◌, length, Option, Some, None, Result, Ok, Err, ◌==◌, ◌||◌, if◌then◌else◌}
-use Rattle.wl_base.specs.declared.item.Item.TheVariants as items
+use Rattle.wasm_grammar.specs.wl_base.declared.item.Item.TheVariants as items
 use Rattle.wasm_types.specs.declared.value.ValType.{ValType}
 use Rattle.wasm_types.specs.declared.value.ValType.TheVariants.{I32, I64, F32, F64}
 use Rattle.wasm_types.specs.declared.function.FuncType.{FuncType}

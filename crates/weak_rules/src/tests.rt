@@ -1,15 +1,15 @@
 //! The races over objects that were read, by workers at once, and what the names of small objects answer.
 ghost use Rattle.std.specs.Prelude.{IfSome};
-ghost use Rattle.made_symbols.specs.declared.mode.Mode.TheVariants.{Plain};
-ghost use Rattle.link_names.specs.Numbered.{AreNumbers};
+ghost use Rattle.name_entries.specs.made_symbols.declared.mode.Mode.TheVariants.{Plain};
+ghost use Rattle.name_entries.specs.link_names.Numbered.{AreNumbers};
 ghost use Rattle.name_entries.specs.View.{InputsRise};
 ghost use Rattle.name_entries.specs.Fits.{Fits, FitsObjects};
 
 use super::*;
 use crate::counted::{Asked, Counted};
 use comdat_pick::pick;
-use made_symbols::Mode;
-use object_file::{Object, read_object};
+use name_entries::made_symbols::Mode;
+use name_entries::object_file::{Object, read_object};
 use std::alloc::Global;
 use std::thread::Threads;
 use symbol_race::{race, rank};
@@ -153,7 +153,7 @@ fn raced_over<R: Threads + Sync>(
 #[test]
 fn each_offer_is_asked_for_once_by_workers_at_once(rt: HostRuntime) {
     let files = [weak(), grouped(), grouped(), strong(), grouped(), strong()];
-    let made = u64::from(made_symbols::count(Mode::Plain));
+    let made = u64::from(name_entries::made_symbols::count(Mode::Plain));
     for workers in [2u32, 64] {
         let wanted = BothRaces {
             group: Some(2),

@@ -3,7 +3,7 @@ use Rattle.std.specs.Prelude.{slice_index_or}
 use Rattle.std.proofs.lemmas.List.{get_or_read, drop_all}
 use Rattle.std.proofs.lemmas.Option.{slice_get-get_or, get_or_from_slice_get}
 use Rattle.std.proofs.lemmas.Result.{err_from_is_err_and}
-use Rattle.wl_base.specs.Choice.{first_some}
+use Rattle.object_file.specs.wl_base.Choice.{first_some}
 use Rattle.lib_index.specs.Table.{shown}
 use Rattle.lib_rounds.specs.declared.given.LibraryFile.{LibraryFile}
 use Rattle.lib_rounds.specs.Rounds.{Candidate, object_fault}

@@ -2,8 +2,8 @@ use Rattle.std.proofs.Common.{◌∙◌, ap, sym, subst, arith, take, ◌+◌, �
 use Rattle.std.specs.Prelude.{option_copied}
 use Rattle.std.specs.BTreeMap.{BTreeMap}
 use Rattle.std.proofs.Common.{ℕ, List}
-use Rattle.linking_section.specs.declared.symbol.Symbol.{Symbol}
-use Rattle.linking_section.specs.Flags.{is_strong_reference}
+use Rattle.object_file.specs.linking_section.declared.symbol.Symbol.{Symbol}
+use Rattle.object_file.specs.linking_section.Flags.{is_strong_reference}
 use Rattle.lib_rounds.specs.declared.adds.Wanted.{Wanted}
 use Rattle.lib_rounds.specs.State.{Looks}
 use Rattle.lib_rounds.proofs.Gathering.{looks_more, looks_same, names_taken, names_untaken, strong_part, taken}

@@ -1,7 +1,7 @@
 use Rattle.std.proofs.Common.{◌≡◌, ◌∙◌, ◌-◌, Bool, true, false, Result, Ok, ap, sym}
 use Rattle.std.specs.Prelude.{slice_set, MatchBool}
 use Rattle.std.proofs.lemmas.Option.{get_or_from_slice_get}
-use Rattle.wl_base.specs.declared.fault.Fault.{Fault}
+use Rattle.object_file.specs.wl_base.declared.fault.Fault.{Fault}
 use Rattle.object_file.specs.declared.object.Object.{Object}
 use Rattle.lib_rounds.specs.Held.{Held, held_as, is_waiting_slot}
 use Rattle.lib_rounds.specs.State.{IsMember}

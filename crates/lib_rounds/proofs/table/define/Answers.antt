@@ -3,7 +3,7 @@ use Rattle.std.specs.Prelude.{option_copied}
 use Rattle.std.specs.Map.{lookup}
 use Rattle.std.specs.Str.{bytes_eq}
 use Rattle.lib_index.specs.Table.{shown}
-use Rattle.linking_section.specs.Flags.{is_definition}
+use Rattle.object_file.specs.linking_section.Flags.{is_definition}
 use Rattle.lib_rounds.proofs.Names.{enters, passes, ends_after}
 use Rattle.lib_rounds.proofs.table.define.Goals.{in-Some+in_ok-put, in_default}
 use Rattle.lib_rounds.proofs.table.define.Goals as goal

@@ -2,7 +2,7 @@ use Rattle.std.proofs.Common.{◌≡◌, ℕ, List, drop}
 use Rattle.std.specs.Map.{lookup}
 use Rattle.std.specs.Str.{bytes_eq}
 use Rattle.lib_index.specs.Table.{shown}
-use Rattle.linking_section.specs.Flags.{is_definition}
+use Rattle.object_file.specs.linking_section.Flags.{is_definition}
 use Rattle.lib_rounds.proofs.Names.{names_in, after_names}
 use Rattle.lib_rounds.proofs.table.define.Given as goal
 

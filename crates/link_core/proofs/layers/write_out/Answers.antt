@@ -1,6 +1,6 @@
 use Rattle.std.proofs.Common.{rules, ap, subst, sym, ◌∙◌, All}
 use Rattle.std.proofs.lemmas.Result.{err_from_is_err_and}
-use Rattle.reloc_apply.specs.Windows.{IsSum}
+use Rattle.link_program.specs.reloc_apply.Windows.{IsSum}
 use Rattle.link_program.specs.Moved.{moved_windows}
 use Rattle.link_core.proofs.Answering.{the_image, the_windows, lie_there, stand_there, measure_failed, write_failed, wrote}
 use Rattle.link_core.proofs.layers.write_out.Goals as goal

@@ -1,5 +1,5 @@
-use Rattle.made_symbols.specs.declared.mode.Mode.TheVariants.{Plain}
-use Rattle.link_rules.specs.Output.{layout, source_windows}
+use Rattle.link_program.specs.made_symbols.declared.mode.Mode.TheVariants.{Plain}
+use Rattle.link_program.specs.link_rules.Output.{layout, source_windows}
 use Rattle.link_core.proofs.layers.write_out.Given as goal
 
 abbrev pub ghost-image : goal.ghost-image

@@ -1,5 +1,5 @@
-use Rattle.made_symbols.specs.declared.mode.Mode.TheVariants.{Plain}
-use Rattle.link_rules.specs.Marks.{exported}
+use Rattle.link_program.specs.made_symbols.declared.mode.Mode.TheVariants.{Plain}
+use Rattle.link_program.specs.link_rules.Marks.{exported}
 use Rattle.link_core.proofs.linking.link_found.Given as goal
 
 abbrev pub ghost-exports : goal.ghost-exports

@@ -1,5 +1,5 @@
 use Rattle.std.proofs.Common.{rules, ◌≡◌, sym, subst, None}
-use Rattle.link_rules.specs.Marks as marks
+use Rattle.link_program.specs.link_rules.Marks as marks
 use Rattle.link_program.specs.Live.{AreLive}
 use Rattle.link_core.specs.Linking.{IsLinking}
 use Rattle.link_core.proofs.Answering.{left_open, goes_on_closed}

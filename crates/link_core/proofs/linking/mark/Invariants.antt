@@ -1,4 +1,4 @@
-use Rattle.link_rules.specs.Marks.{live}
+use Rattle.link_program.specs.link_rules.Marks.{live}
 use Rattle.link_core.proofs.linking.mark.Given as goal
 
 abbrev pub ghost-live_parts : goal.ghost-live_parts

@@ -1,11 +1,11 @@
 use Rattle.std.proofs.Common.{rules, ◌≡◌, Err, List, ap, sym, subst, ◌∙◌}
 use Rattle.std.proofs.lemmas.Result.{err_from_is_err_and}
-use Rattle.made_symbols.specs.declared.mode.Mode.TheVariants.{Plain}
-use Rattle.object_file.specs.declared.object.Object.{Object}
-use Rattle.link_plan.specs.Plan.{IsPlan}
-use Rattle.link_rules.specs.Program.{program_of}
-use Rattle.link_rules.specs.Marks.{exported}
-use Rattle.link_rules.specs.LinkOf.{exporting, link_program}
+use Rattle.link_program.specs.made_symbols.declared.mode.Mode.TheVariants.{Plain}
+use Rattle.link_program.specs.object_file.declared.object.Object.{Object}
+use Rattle.link_program.specs.link_plan.Plan.{IsPlan}
+use Rattle.link_program.specs.link_rules.Program.{program_of}
+use Rattle.link_program.specs.link_rules.Marks.{exported}
+use Rattle.link_program.specs.link_rules.LinkOf.{exporting, link_program}
 use Rattle.link_program.specs.Loaded.{IsLoaded}
 use Rattle.link_core.specs.Answers.{Answers}
 use Rattle.link_core.specs.Linking.{IsLinking}

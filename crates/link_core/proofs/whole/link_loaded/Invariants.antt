@@ -1,5 +1,5 @@
-use Rattle.made_symbols.specs.declared.mode.Mode.TheVariants.{Plain}
-use Rattle.link_rules.specs.Program.{program_of}
+use Rattle.link_program.specs.made_symbols.declared.mode.Mode.TheVariants.{Plain}
+use Rattle.link_program.specs.link_rules.Program.{program_of}
 use Rattle.link_core.proofs.whole.link_loaded.Given as goal
 
 abbrev pub ghost-find : goal.ghost-find

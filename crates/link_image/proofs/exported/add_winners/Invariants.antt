@@ -1,5 +1,5 @@
 use Rattle.std.proofs.Common.{◌≡◌, ◌++◌, map, drop}
-use Rattle.link_rules.specs.Marks as marks
+use Rattle.link_program.specs.link_rules.Marks as marks
 use Rattle.link_program.specs.Told.{told_definition}
 use Rattle.link_image.specs.Sections.{export_seen}
 use Rattle.link_image.proofs.exported.add_winners.Given as goal

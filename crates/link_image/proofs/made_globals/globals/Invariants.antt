@@ -1,6 +1,6 @@
 use Rattle.std.proofs.Common.{◌≡◌, ◌++◌, filter_map, drop}
-use Rattle.made_symbols.specs.declared.mode.Mode.TheVariants.{Plain}
-use Rattle.link_rules.specs.Output.{layout}
+use Rattle.link_program.specs.made_symbols.declared.mode.Mode.TheVariants.{Plain}
+use Rattle.link_program.specs.link_rules.Output.{layout}
 use Rattle.link_layout.specs.Layout.{looked}
 use Rattle.link_image.specs.Sections.{global_made}
 use Rattle.link_image.proofs.made_globals.globals.Given as goal

@@ -1,7 +1,7 @@
 use Rattle.std.proofs.Common.{◌∙◌, ap, sym, subst, List, length}
 use Rattle.std.proofs.lemmas.Result.{err_from_is_err_and}
-use Rattle.made_symbols.specs.declared.mode.Mode.TheVariants.{Plain}
-use Rattle.link_plan.specs.declared.plan.InputWord.{InputWord}
+use Rattle.link_program.specs.made_symbols.declared.mode.Mode.TheVariants.{Plain}
+use Rattle.link_program.specs.link_plan.declared.plan.InputWord.{InputWord}
 use Rattle.link_inputs.specs.Sources.{AreSources}
 use Rattle.link_inputs.proofs.Files.{opened_are, opened_long}
 use Rattle.link_inputs.proofs.Sourced.{words_long, few_files, opened_ok, sourced, refused_early, exact, found}

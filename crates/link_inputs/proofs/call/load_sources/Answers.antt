@@ -1,5 +1,5 @@
-use Rattle.made_symbols.specs.declared.mode.Mode.TheVariants.{Plain}
-use Rattle.link_rules.specs.LinkOf.{asked_names}
+use Rattle.link_program.specs.made_symbols.declared.mode.Mode.TheVariants.{Plain}
+use Rattle.link_program.specs.link_rules.LinkOf.{asked_names}
 use Rattle.link_inputs.proofs.Sourced.{fits, candidates, all_read, all_few, homes_all, refused_by}
 use Rattle.link_inputs.proofs.call.load_sources.Goals as goal
 

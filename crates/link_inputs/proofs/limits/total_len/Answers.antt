@@ -1,6 +1,6 @@
 use Rattle.std.proofs.Common.{◌≡◌, ap, arith, drop}
 use Rattle.std.proofs.lemmas.List.{drop_all}
-use Rattle.link_rules.specs.Candidates.{total_len}
+use Rattle.link_program.specs.link_rules.Candidates.{total_len}
 use Rattle.link_inputs.proofs.limits.total_len.Goals as goal
 
 pub returns : goal.returns

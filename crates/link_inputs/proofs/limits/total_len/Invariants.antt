@@ -1,5 +1,5 @@
 use Rattle.std.proofs.Common.{◌≡◌, ◌+◌, ◌-◌, ◌^◌, ◌≤◌, min, drop}
-use Rattle.link_rules.specs.Candidates.{total_len}
+use Rattle.link_program.specs.link_rules.Candidates.{total_len}
 use Rattle.link_inputs.proofs.limits.total_len.Given as goal
 
 abbrev pub invariant-loop-file : goal.invariant-loop-file

@@ -1,7 +1,7 @@
 use Rattle.std.proofs.Common.{◌∙◌, ◌∷◌, List, length, Result, sym, ap, subst, arith}
 use Rattle.std.specs.Vec.Iter.{into_iter_items}
 use Rattle.std.proofs.lemmas.Result.{err_from_is_err_and}
-use Rattle.lib_rounds.specs.declared.given.Given.{Given}
+use Rattle.link_program.specs.lib_rounds.declared.given.Given.{Given}
 use Rattle.link_inputs.specs.declared.reading.ReadError.{ReadError}
 use Rattle.link_inputs.specs.Reading.{given_from}
 use Rattle.link_inputs.proofs.Taking.{Left, goes_on, fails_at, is_done, nothing_left}

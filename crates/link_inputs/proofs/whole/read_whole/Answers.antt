@@ -1,8 +1,8 @@
 use Rattle.std.proofs.Common.{◌∙◌, subst, sym, ap}
 use Rattle.std.proofs.lemmas.List.Elements.{All-get_or}
 use Rattle.std.proofs.lemmas.Result.{err_from_is_err_and}
-use Rattle.lib_rounds.specs.declared.given.LibraryFile.{LibraryFile}
-use Rattle.lib_rounds.specs.Inputs.{IsRead}
+use Rattle.link_program.specs.lib_rounds.declared.given.LibraryFile.{LibraryFile}
+use Rattle.link_program.specs.lib_rounds.Inputs.{IsRead}
 use Rattle.link_inputs.specs.Reading.{fault_of, early_members, whole_before, FailsBy}
 use Rattle.link_inputs.proofs.Members.{library_goes_on, library_fails}
 use Rattle.link_inputs.proofs.whole.read_whole.Goals as goal

@@ -1,6 +1,6 @@
 use Rattle.std.proofs.Common.{◌≡◌, ℕ, ◌+◌, ◌<◌, List, ◌++◌, map, length, get_or, slice_get, Some, refl}
 use Rattle.std.proofs.lemmas.Option.{slice_get-get_or, slice_get_read, slice_get_past}
-use Rattle.reloc_apply.specs.declared.window.Window.{Window}
+use Rattle.link_program.specs.reloc_apply.declared.window.Window.{Window}
 use Rattle.link_program.specs.Moved.{moved_windows}
 use Rattle.link_program.specs.declared.keys.FunctionKey.TheVariants as functions
 use Rattle.link_layout.specs.Seen.{body_windows}

@@ -1,6 +1,6 @@
 use Rattle.std.proofs.Common.{◌≡◌, ◌++◌, map, take}
 use Rattle.std.specs.List.{All}
-use Rattle.reloc_apply.specs.Windows.{IsSum}
+use Rattle.link_program.specs.reloc_apply.Windows.{IsSum}
 use Rattle.link_program.specs.Moved.{moved_window}
 use Rattle.link_layout.specs.Seen.{window_of}
 use Rattle.link_layout.specs.Layout.{looked}

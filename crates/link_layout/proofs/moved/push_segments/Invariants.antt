@@ -1,6 +1,6 @@
 use Rattle.std.proofs.Common.{◌≡◌, ◌++◌, map, drop}
 use Rattle.std.specs.List.{All}
-use Rattle.reloc_apply.specs.Windows.{IsSum}
+use Rattle.link_program.specs.reloc_apply.Windows.{IsSum}
 use Rattle.link_program.specs.Moved.{moved_windows}
 use Rattle.link_layout.specs.Seen.{row_windows}
 use Rattle.link_layout.specs.Layout.{looked}

@@ -1,8 +1,8 @@
 use Rattle.std.proofs.Common.{◌≡◌, List, map, ap, sym, subst, ◌∙◌}
-use Rattle.made_symbols.specs.declared.mode.Mode.TheVariants.{Plain}
-use Rattle.memory_layout.specs.Steps.{AreAligned}
-use Rattle.memory_layout.specs.declared.rules.SegmentShape.{SegmentShape}
-use Rattle.link_rules.specs.Values.{rules_of}
+use Rattle.link_program.specs.made_symbols.declared.mode.Mode.TheVariants.{Plain}
+use Rattle.link_program.specs.memory_layout.Steps.{AreAligned}
+use Rattle.link_program.specs.memory_layout.declared.rules.SegmentShape.{SegmentShape}
+use Rattle.link_program.specs.link_rules.Values.{rules_of}
 use Rattle.link_layout.specs.Segments.{segment_numbers, shape_at}
 use Rattle.link_layout.proofs.Parts.{aligned}
 use Rattle.link_layout.proofs.PlacedTold.{answers_by}

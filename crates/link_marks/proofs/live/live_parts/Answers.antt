@@ -1,8 +1,8 @@
 use Rattle.std.proofs.Common.{rules, map, ◌≡◌, ◌∙◌, sym, subst, ap, List, ℕ, length}
-use Rattle.made_symbols.specs.declared.mode.Mode.TheVariants.{Plain}
+use Rattle.link_program.specs.made_symbols.declared.mode.Mode.TheVariants.{Plain}
 use Rattle.link_program.specs.Told.{told_winner}
 use Rattle.link_program.specs.Program.{IsProgram}
-use Rattle.mark_bits.specs.Reach.{Reached}
+use Rattle.link_program.specs.mark_bits.Reach.{Reached}
 use Rattle.live_mark.specs.Asks.{Below, AllBelow}
 use Rattle.link_marks.proofs.Targets.{targets_are, roots_are, targets_below, roots_below, targets_count}
 use Rattle.link_marks.proofs.Marked.{marked_live}

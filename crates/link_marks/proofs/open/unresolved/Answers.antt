@@ -1,5 +1,5 @@
 use Rattle.std.proofs.Common.{rules, ◌∙◌, sym}
-use Rattle.made_symbols.specs.declared.mode.Mode.TheVariants.{Plain}
+use Rattle.link_program.specs.made_symbols.declared.mode.Mode.TheVariants.{Plain}
 use Rattle.link_program.specs.Program.{IsProgram}
 use Rattle.link_marks.specs.Alive.{IsLive}
 use Rattle.link_marks.proofs.Whole.{missing_first, open_next}

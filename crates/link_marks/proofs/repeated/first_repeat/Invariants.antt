@@ -1,5 +1,5 @@
 use Rattle.std.proofs.Common.{◌≡◌, ◌++◌, [], map, take, drop}
-use Rattle.link_rules.specs.Marks.{first_repeat}
+use Rattle.link_program.specs.link_rules.Marks.{first_repeat}
 use Rattle.link_marks.specs.Names.{given_seen, memory_given, AreGiven}
 use Rattle.link_marks.proofs.repeated.first_repeat.Given as goal
 

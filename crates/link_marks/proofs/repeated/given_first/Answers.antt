@@ -1,5 +1,5 @@
 use Rattle.std.proofs.Common.{◌∙◌, [], ◌∷◌, List, sym, ap, subst}
-use Rattle.link_rules.specs.Marks.{Given}
+use Rattle.link_program.specs.link_rules.Marks.{Given}
 use Rattle.link_marks.specs.Names.{memory_given, AreGiven}
 use Rattle.link_marks.proofs.repeated.given_first.Goals as goal
 

@@ -1,7 +1,7 @@
 use Rattle.std.proofs.Common.{ap, sym, subst, ◌∙◌, ◌+◌, take, arith}
 use Rattle.std.specs.Prelude.{flat_map, option_map}
-use Rattle.wl_base.specs.Names.{Names}
-use Rattle.object_columns.specs.Seen.{symbol_seen}
+use Rattle.object_file.specs.wl_base.Names.{Names}
+use Rattle.object_file.specs.object_columns.Seen.{symbol_seen}
 use Rattle.link_names.specs.Numbered.{number_seen, symbol_number, Short}
 use Rattle.link_names.specs.Interning.{Gains, Tells, TellsAll, entry_name}
 use Rattle.link_names.proofs.Steps.{gains_more, tells_more, at_get, not_none, tells_all, gains_all, short_numbers, taken, refused}

@@ -1,5 +1,5 @@
 use Rattle.std.proofs.Common.{◌≡◌, List, map, take}
-use Rattle.index_layout.specs.Numbers.{number_by}
+use Rattle.link_program.specs.index_layout.Numbers.{number_by}
 use Rattle.link_program.specs.declared.keys.FunctionKey.{FunctionKey}
 use Rattle.link_program.specs.Keys.{same_function_key}
 use Rattle.link_numbers.specs.Codes.{function_code}

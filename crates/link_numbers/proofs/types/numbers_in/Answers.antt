@@ -1,5 +1,5 @@
 use Rattle.std.proofs.Common.{length, take, ap, sym, ◌∙◌}
-use Rattle.type_merge.specs.Types.{with_type, type_number}
+use Rattle.link_program.specs.type_merge.Types.{with_type, type_number}
 use Rattle.link_numbers.proofs.TypesFolded.{numbers_more, front_stays}
 use Rattle.link_numbers.proofs.Steps.{items_more, items_folded, filters_more, folds_more}
 use Rattle.link_numbers.proofs.types.numbers_in.Goals as goal

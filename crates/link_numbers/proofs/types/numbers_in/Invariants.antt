@@ -1,6 +1,6 @@
 use Rattle.std.proofs.Common.{◌≡◌, ◌&&◌, map, fold, take, drop, length, slice_get, slice_index_or, None}
 use Rattle.link_numbers.specs.Types.{with_numbered, kept_type, own_types, first_type, window_type, with_windows, type_number_in}
-use Rattle.type_merge.specs.Types.{with_type}
+use Rattle.link_program.specs.type_merge.Types.{with_type}
 use Rattle.link_numbers.proofs.types.numbers_in.Given as goal
 
 abbrev pub invariant-loop-t : goal.invariant-loop-t

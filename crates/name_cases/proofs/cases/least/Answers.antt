@@ -4,7 +4,7 @@ use Rattle.std.specs.Option.{option_flatten}
 use Rattle.std.proofs.lemmas.Slice.Zip.{AllZip-map}
 use Rattle.rayon.specs.Numbers.{nat_range}
 use Rattle.rayon.proofs.ToStd.{answers-by_ref, filter_by_mask-find}
-use Rattle.name_rules.specs.declared.case.PairCase.{PairCase}
+use Rattle.name_entries.specs.name_rules.declared.case.PairCase.{PairCase}
 use Rattle.name_cases.specs.Rows.{entries_in, names_shown, rows_shown}
 use Rattle.name_cases.specs.Least.{row_case}
 use Rattle.name_cases.specs.Search.{case_in}

@@ -1,5 +1,5 @@
 use Rattle.std.proofs.Common.{◌∙◌}
-use Rattle.object_columns.specs.Seen.{symbol_seen}
+use Rattle.object_file.specs.object_columns.Seen.{symbol_seen}
 use Rattle.name_entries.proofs.Indexed.{stands_on}
 use Rattle.name_entries.proofs.spaces.import_in.Goals as goal
 

@@ -1,7 +1,7 @@
 use Rattle.std.proofs.Common.{arith, take, subst, sym, ◌+◌, ◌<◌, ◌≤◌, length, ◌≡◌}
 use Rattle.std.specs.Prelude.{flat_map}
 use Rattle.std.proofs.lemmas.List.{length-map}
-use Rattle.name_rules.specs.Entries.{symbols_of}
+use Rattle.name_entries.specs.name_rules.Entries.{symbols_of}
 use Rattle.name_entries.specs.View.{rows_of}
 use Rattle.name_meanings.specs.Columns.{AreColumnsOf}
 use Rattle.name_meanings.proofs.columns.columns_of.Goals as goal

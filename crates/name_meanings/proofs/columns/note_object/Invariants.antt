@@ -1,5 +1,5 @@
 use Rattle.std.proofs.Common.{List, [], ◌++◌, take, get_or}
-use Rattle.name_rules.specs.Entries.{Entry}
+use Rattle.name_entries.specs.name_rules.Entries.{Entry}
 use Rattle.name_entries.specs.View.{rows_of}
 use Rattle.name_meanings.specs.Columns.{AreColumnsOf}
 use Rattle.name_meanings.proofs.columns.note_object.Given as goal

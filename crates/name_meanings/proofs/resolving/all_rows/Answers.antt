@@ -1,5 +1,5 @@
 use Rattle.std.proofs.Common.{arith, ◌<◌, [], ◌∷◌, ◌++◌, length, ap, sym, subst, ◌∙◌, ◌+◌}
-use Rattle.object_file.specs.declared.object.Object.{Object}
+use Rattle.name_entries.specs.object_file.declared.object.Object.{Object}
 use Rattle.name_meanings.specs.Known.{Resolves}
 use Rattle.name_meanings.proofs.resolving.all_rows.Goals as goal
 use Rattle.name_meanings.proofs.Whole.{object_done}

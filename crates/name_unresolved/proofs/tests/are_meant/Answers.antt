@@ -1,7 +1,7 @@
 use Rattle.std.proofs.Common.{◌≡◌, ◌∙◌, length, sym, subst, arith}
 use Rattle.std.proofs.lemmas.List.{take_all}
 use Rattle.std.proofs.lemmas.List.Elements.{All-more}
-use Rattle.object_file.specs.declared.object.Object.{Object}
+use Rattle.name_entries.specs.object_file.declared.object.Object.{Object}
 use Rattle.name_meanings.specs.Means.{row_of}
 use Rattle.name_unresolved.specs.Unresolved.{AreMeant}
 use Rattle.name_unresolved.proofs.tests.are_meant.Goals as goal

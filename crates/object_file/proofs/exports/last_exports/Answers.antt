@@ -1,6 +1,6 @@
 use Rattle.std.proofs.Common.{◌≡◌, ◌+◌, length, drop, subst, sym, arith}
 use Rattle.std.proofs.lemmas.List.{take_at}
-use Rattle.wasm_module.specs.declared.parts.Export.{Export}
+use Rattle.object_rules.specs.wasm_module.declared.parts.Export.{Export}
 use Rattle.object_file.specs.Exports.{noted}
 use Rattle.object_file.proofs.Exported.{Last, one_more}
 use Rattle.object_file.proofs.exports.last_exports.Goals as goal

@@ -1,5 +1,5 @@
 use Rattle.std.proofs.Common.{None}
-use Rattle.object_parts.specs.declared.parts.DataPart.{DataPart}
+use Rattle.object_rules.specs.object_parts.declared.parts.DataPart.{DataPart}
 use Rattle.object_file.proofs.Made.{segment_more}
 use Rattle.object_file.proofs.segments.segments_from.Goals as goal
 

@@ -1,7 +1,7 @@
 use Rattle.std.proofs.Common.{false}
 use Rattle.std.proofs.lemmas.Result.{err_from_is_err_and}
-use Rattle.wasm_grammar.specs.Reading.{many_at}
-use Rattle.wasm_grammar.proofs.Loop.{goes_on, ends, is_done}
+use Rattle.wasm_instr.specs.wasm_grammar.Reading.{many_at}
+use Rattle.wasm_instr.proofs.wasm_grammar_lemmas.Loop.{goes_on, ends, is_done}
 use Rattle.wasm_module.specs.PartReading.{element_at}
 use Rattle.object_parts.proofs.elements.many_elements.Goals as goal
 

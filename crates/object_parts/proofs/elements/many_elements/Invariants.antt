@@ -1,6 +1,6 @@
 use Rattle.std.proofs.Common.{◌≡◌, ◌-◌, false}
-use Rattle.wasm_grammar.specs.Reading.{many_at}
-use Rattle.wasm_grammar.proofs.Loop.{with_front}
+use Rattle.wasm_instr.specs.wasm_grammar.Reading.{many_at}
+use Rattle.wasm_instr.proofs.wasm_grammar_lemmas.Loop.{with_front}
 use Rattle.wasm_module.specs.PartReading.{element_at}
 use Rattle.object_parts.proofs.elements.many_elements.Given as goal
 

@@ -1,5 +1,5 @@
 use Rattle.std.proofs.lemmas.Result.{err_from_is_err_and}
-use Rattle.wasm_grammar.specs.declared.fault.ReadFault.TheVariants.{Stopped}
+use Rattle.wasm_instr.specs.wasm_grammar.declared.fault.ReadFault.TheVariants.{Stopped}
 use Rattle.object_parts.specs.Turns.{turns_at}
 use Rattle.object_parts.specs.Placed.{stays, global_def_at}
 use Rattle.object_parts.proofs.Loop.{goes_on, ends, is_done}

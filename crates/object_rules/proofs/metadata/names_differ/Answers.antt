@@ -2,7 +2,7 @@ use Rattle.std.proofs.Common.{ℕ, ◌+◌, ◌∙◌, List, Bor, ap, sym, drop,
 use Rattle.std.specs.Str.{bytes_eq}
 use Rattle.std.specs.Cmp.Lexicographic.{nat_list_eq_equiv}
 use Rattle.std.proofs.lemmas.List.{at_drop_more}
-use Rattle.linking_section.specs.declared.group.Group.{Group}
+use Rattle.object_parts.specs.linking_section.declared.group.Group.{Group}
 use Rattle.object_rules.specs.Differ.{all_differ}
 use Rattle.object_rules.proofs.Seen.{differ_behind, none_seen, goes_on}
 use Rattle.object_rules.proofs.metadata.names_differ.Goals as goal

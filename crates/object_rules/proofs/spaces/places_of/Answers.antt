@@ -1,5 +1,5 @@
 use Rattle.std.proofs.Common.{◌∙◌, ap, sym}
-use Rattle.wasm_types.specs.declared.import.Import.{Import}
+use Rattle.object_parts.specs.wasm_types.declared.import.Import.{Import}
 use Rattle.object_rules.specs.Spaces.{is_of}
 use Rattle.object_rules.proofs.Found.{one_more, none_more}
 use Rattle.object_rules.proofs.spaces.places_of.Goals as goal

@@ -1,5 +1,5 @@
 use Rattle.std.proofs.Common.{rules, subst, sym}
-use Rattle.made_symbols.specs.declared.mode.Mode.TheVariants as modes
+use Rattle.link_program.specs.made_symbols.declared.mode.Mode.TheVariants as modes
 use Rattle.link_program.specs.Loaded.{IsLoaded, Origin}
 use Rattle.program_build.specs.Steps.{Numbered}
 use Rattle.program_build.proofs.Finding.{names_refused, meanings_refused, all_found, seen_meanings}

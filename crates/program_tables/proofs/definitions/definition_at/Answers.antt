@@ -1,9 +1,9 @@
 use Rattle.std.proofs.Common.{arith, length, sym, ap, ◌∙◌, ◌≡◌, ◌<◌}
 use Rattle.std.specs.Option.{option_map}
 use Rattle.std.proofs.lemmas.Option.{slice_get-get_or}
-use Rattle.object_columns.specs.Seen.{symbol_seen}
-use Rattle.name_entries.specs.View.{entry_at}
-use Rattle.name_entries.proofs.Rows.{no_symbol}
+use Rattle.link_program.specs.object_columns.Seen.{symbol_seen}
+use Rattle.link_program.specs.name_entries.View.{entry_at}
+use Rattle.link_program.proofs.name_entries_lemmas.Rows.{no_symbol}
 use Rattle.program_tables.proofs.Defining.{within_objects, not_none, definition_is}
 use Rattle.program_tables.proofs.definitions.definition_at.Goals as goal
 

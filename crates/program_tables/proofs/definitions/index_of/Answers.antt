@@ -1,9 +1,9 @@
 use Rattle.std.proofs.Common.{◌-◌, sym, ap, ◌∙◌}
-use Rattle.linking_section.specs.declared.symbol.SymbolKind.TheVariants.{Function, GlobalVar}
-use Rattle.object_columns.specs.Seen.{symbol_seen}
-use Rattle.object_rules.specs.Spaces.{imports_of}
-use Rattle.name_rules.specs.Entries.{index_in}
-use Rattle.name_entries.proofs.Found.{counted}
+use Rattle.link_program.specs.linking_section.declared.symbol.SymbolKind.TheVariants.{Function, GlobalVar}
+use Rattle.link_program.specs.object_columns.Seen.{symbol_seen}
+use Rattle.link_program.specs.object_rules.Spaces.{imports_of}
+use Rattle.link_program.specs.name_rules.Entries.{index_in}
+use Rattle.link_program.proofs.name_entries_lemmas.Found.{counted}
 use Rattle.program_tables.proofs.definitions.index_of.Goals as goal
 
 pub returns-in-Function : goal.returns-in-Function

@@ -1,6 +1,6 @@
 use Rattle.std.proofs.Common.{arith, length, get_or, ap, ◌∙◌}
 use Rattle.std.proofs.lemmas.Option.{get_or_from_slice_get}
-use Rattle.linking_section.specs.declared.init.InitFunc.{InitFunc}
+use Rattle.link_program.specs.linking_section.declared.init.InitFunc.{InitFunc}
 use Rattle.program_tables.specs.Views.{view_seen}
 use Rattle.program_tables.specs.Inits.{call_of}
 use Rattle.program_tables.proofs.Steps.{kept_more}

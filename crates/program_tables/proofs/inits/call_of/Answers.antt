@@ -1,7 +1,7 @@
 use Rattle.std.proofs.Common.{arith, sym, ap, ◌∙◌, ◌+◌}
 use Rattle.std.specs.Prelude.{pos}
-use Rattle.wl_base.specs.Choice.{given}
-use Rattle.name_entries.specs.View.{entry_at}
+use Rattle.link_program.specs.wl_base.Choice.{given}
+use Rattle.link_program.specs.name_entries.View.{entry_at}
 use Rattle.link_program.specs.declared.named.Named.TheVariants as items
 use Rattle.program_tables.specs.Views.{view_seen}
 use Rattle.program_tables.proofs.Defining.{shown_entry, symbol_within}

@@ -1,7 +1,7 @@
 use Rattle.std.proofs.Common.{◌++◌, drop}
-use Rattle.made_symbols.specs.declared.mode.Mode.TheVariants as modes
-use Rattle.mark_bits.specs.Chunks.{Differ}
-use Rattle.made_symbols.specs.Made.{made}
+use Rattle.link_program.specs.made_symbols.declared.mode.Mode.TheVariants as modes
+use Rattle.link_program.specs.mark_bits.Chunks.{Differ}
+use Rattle.link_program.specs.made_symbols.Made.{made}
 use Rattle.program_tables.specs.Rows.{made_rows, rows_upto}
 use Rattle.program_tables.specs.Inits.{call_names}
 use Rattle.program_tables.specs.Gains.{AreGained}

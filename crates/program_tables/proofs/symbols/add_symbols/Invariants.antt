@@ -1,5 +1,5 @@
 use Rattle.std.proofs.Common.{◌≡◌, [], ◌++◌, take, map, get_or}
-use Rattle.name_entries.specs.View.{rows_of}
+use Rattle.link_program.specs.name_entries.View.{rows_of}
 use Rattle.program_tables.specs.Symbols.{symbol_of}
 use Rattle.program_tables.proofs.symbols.add_symbols.Given as goal
 

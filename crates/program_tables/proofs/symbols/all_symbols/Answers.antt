@@ -1,8 +1,8 @@
 use Rattle.std.proofs.Common.{arith, take, [], length, ap, ◌∙◌, ◌<◌, ◌≡◌, ◌≤◌}
 use Rattle.std.specs.Prelude.{flat_map, map}
 use Rattle.std.proofs.lemmas.List.{length-map, take_all}
-use Rattle.name_rules.specs.Entries.{symbols_of}
-use Rattle.name_entries.specs.View.{rows_of}
+use Rattle.link_program.specs.name_rules.Entries.{symbols_of}
+use Rattle.link_program.specs.name_entries.View.{rows_of}
 use Rattle.program_tables.specs.Symbols.{symbol_of, starts}
 use Rattle.program_tables.proofs.Steps.{item_at, flat_more, starts_step, flat_length, row_of}
 use Rattle.program_tables.proofs.symbols.all_symbols.Goals as goal

@@ -1,6 +1,6 @@
 use Rattle.std.proofs.Common.{◌≡◌, take, map}
 use Rattle.std.specs.Prelude.{flat_map}
-use Rattle.name_entries.specs.View.{rows_of}
+use Rattle.link_program.specs.name_entries.View.{rows_of}
 use Rattle.program_tables.specs.Symbols.{symbol_of, starts}
 use Rattle.program_tables.proofs.symbols.all_symbols.Given as goal
 

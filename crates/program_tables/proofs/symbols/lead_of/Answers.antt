@@ -1,7 +1,7 @@
 use Rattle.std.proofs.Common.{get_or, sym, ap, subst, ◌∙◌, ◌≡◌, ℕ}
 use Rattle.std.specs.Prelude.{slice_get, IsSome}
 use Rattle.std.proofs.lemmas.Option.{slice_get_within, get_or_from_slice_get}
-use Rattle.name_entries.specs.View.{entry_at}
+use Rattle.link_program.specs.name_entries.View.{entry_at}
 use Rattle.link_program.specs.declared.symbol.Lead.TheVariants.{Here}
 use Rattle.program_tables.specs.Leads.{IsThere, lead_from}
 use Rattle.program_tables.proofs.Defining.{lead_is}

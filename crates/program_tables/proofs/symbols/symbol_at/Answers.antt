@@ -1,9 +1,9 @@
 use Rattle.std.proofs.Common.{sym, ap, subst, ◌∙◌}
 use Rattle.std.specs.Prelude.{is_some}
 use Rattle.std.proofs.lemmas.Option.{same_Some}
-use Rattle.linking_section.specs.declared.symbol.Symbol.{Symbol}
-use Rattle.name_entries.specs.View.{entry_at, entry_number}
-use Rattle.name_meanings.specs.Means.{answer_at}
+use Rattle.link_program.specs.linking_section.declared.symbol.Symbol.{Symbol}
+use Rattle.link_program.specs.name_entries.View.{entry_at, entry_number}
+use Rattle.link_program.specs.name_meanings.Means.{answer_at}
 use Rattle.program_tables.specs.Leads.{IsThere, lead_at}
 use Rattle.program_tables.proofs.Defining.{shown_entry, shown_as, placed_at}
 use Rattle.program_tables.proofs.symbols.symbol_at.Goals as goal

@@ -1,7 +1,7 @@
 use Rattle.std.proofs.Common.{arith, List, ℕ, ◌+◌, take, subst, sym, ap, ◌∙◌}
 use Rattle.std.specs.Prelude.{slice_get}
 use Rattle.std.specs.Option.{option_map}
-use Rattle.object_columns.specs.Seen.{func_type_seen}
+use Rattle.link_program.specs.object_columns.Seen.{func_type_seen}
 use Rattle.program_tables.specs.Types.{AreNumbered}
 use Rattle.program_tables.proofs.Steps.{some_at}
 use Rattle.program_tables.proofs.Defining.{not_none}

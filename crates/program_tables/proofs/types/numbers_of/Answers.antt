@@ -1,6 +1,6 @@
 use Rattle.std.proofs.Common.{arith, List, ℕ, ◌≡◌, ◌<◌, ◌+◌, ◌++◌, [], ◌∷◌, map, take, Some, length, ap, sym, subst, ◌∙◌}
 use Rattle.std.specs.Prelude.{slice_get}
-use Rattle.object_file.specs.declared.object.Object.{Object}
+use Rattle.link_program.specs.object_file.declared.object.Object.{Object}
 use Rattle.program_tables.proofs.Steps.{read_at}
 use Rattle.program_tables.proofs.Typing.{keep_on, rows_more}
 use Rattle.program_tables.proofs.types.numbers_of.Goals as goal

@@ -1,6 +1,6 @@
 use Rattle.std.proofs.Common.{◌≡◌, take, map, Some}
 use Rattle.std.specs.Prelude.{slice_get}
-use Rattle.object_file.specs.declared.object.Object.{Object}
+use Rattle.link_program.specs.object_file.declared.object.Object.{Object}
 use Rattle.program_tables.specs.Types.{Keep}
 use Rattle.program_tables.proofs.types.numbers_of.Given as goal
 

@@ -1,6 +1,6 @@
 use Rattle.std.proofs.Common.{false, not, None, sym, ap, ◌∙◌}
 use Rattle.std.specs.Option.{option_copied}
-use Rattle.name_entries.proofs.Found.{or_else}
+use Rattle.link_program.proofs.name_entries_lemmas.Found.{or_else}
 use Rattle.program_tables.proofs.view.is_unset.Goals as goal
 
 pub returns-in-None : goal.returns-in-None

@@ -1,5 +1,5 @@
 use Rattle.std.proofs.Common.{arith, get_or, []}
-use Rattle.name_entries.specs.View.{rows_of}
+use Rattle.link_program.specs.name_entries.View.{rows_of}
 use Rattle.program_tables.specs.Winners.{winner_of}
 use Rattle.program_tables.proofs.Steps.{some_at, kept_more}
 use Rattle.program_tables.proofs.winners.add_winners.Goals as goal

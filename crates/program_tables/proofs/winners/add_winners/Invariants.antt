@@ -1,6 +1,6 @@
 use Rattle.std.proofs.Common.{◌≡◌, [], ◌++◌, take, get_or}
 use Rattle.std.specs.Prelude.{filter_map}
-use Rattle.name_entries.specs.View.{rows_of}
+use Rattle.link_program.specs.name_entries.View.{rows_of}
 use Rattle.program_tables.specs.Winners.{winner_of}
 use Rattle.program_tables.proofs.winners.add_winners.Given as goal
 

@@ -1,10 +1,10 @@
 use Rattle.std.proofs.Common.{arith, length, ap, ◌∙◌, ◌<◌, ◌≡◌, ◌≤◌, ◌++◌}
 use Rattle.std.specs.Prelude.{flat_map, filter_map}
 use Rattle.std.proofs.lemmas.List.{length-map, take_all}
-use Rattle.made_symbols.specs.declared.mode.Mode.TheVariants as modes
-use Rattle.made_symbols.specs.Made.{made}
-use Rattle.name_rules.specs.Entries.{made_from, symbols_of}
-use Rattle.name_entries.specs.View.{rows_of}
+use Rattle.link_program.specs.made_symbols.declared.mode.Mode.TheVariants as modes
+use Rattle.link_program.specs.made_symbols.Made.{made}
+use Rattle.link_program.specs.name_rules.Entries.{made_from, symbols_of}
+use Rattle.link_program.specs.name_entries.View.{rows_of}
 use Rattle.program_tables.specs.Winners.{winner_of}
 use Rattle.program_tables.proofs.Steps.{item_at, flat_more, row_of}
 use Rattle.program_tables.proofs.winners.all_winners.Goals as goal

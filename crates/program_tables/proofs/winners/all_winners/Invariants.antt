@@ -1,9 +1,9 @@
 use Rattle.std.proofs.Common.{◌≡◌, ◌++◌, take}
 use Rattle.std.specs.Prelude.{filter_map, flat_map}
-use Rattle.made_symbols.specs.declared.mode.Mode.TheVariants as modes
-use Rattle.made_symbols.specs.Made.{made}
-use Rattle.name_rules.specs.Entries.{made_from}
-use Rattle.name_entries.specs.View.{rows_of}
+use Rattle.link_program.specs.made_symbols.declared.mode.Mode.TheVariants as modes
+use Rattle.link_program.specs.made_symbols.Made.{made}
+use Rattle.link_program.specs.name_rules.Entries.{made_from}
+use Rattle.link_program.specs.name_entries.View.{rows_of}
 use Rattle.program_tables.specs.Winners.{winner_of}
 use Rattle.program_tables.proofs.winners.all_winners.Given as goal
 

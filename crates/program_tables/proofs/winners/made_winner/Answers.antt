@@ -1,11 +1,11 @@
 use Rattle.std.proofs.Common.{Some, sym, ap, ◌∙◌}
-use Rattle.wl_base.specs.Choice.{given}
-use Rattle.made_symbols.specs.declared.mode.Mode.TheVariants as modes
-use Rattle.made_symbols.specs.Made.{made_at}
-use Rattle.name_rules.specs.Entries.{made_entry}
+use Rattle.link_program.specs.wl_base.Choice.{given}
+use Rattle.link_program.specs.made_symbols.declared.mode.Mode.TheVariants as modes
+use Rattle.link_program.specs.made_symbols.Made.{made_at}
+use Rattle.link_program.specs.name_rules.Entries.{made_entry}
 use Rattle.link_program.specs.declared.symbol.Definition.{Definition}
 use Rattle.link_program.specs.Told.{told_definition}
-use Rattle.symbol_race.specs.Ranks.{rank_of}
+use Rattle.link_program.specs.symbol_race.Ranks.{rank_of}
 use Rattle.program_tables.proofs.Defining.{made_number, wins_is}
 use Rattle.program_tables.proofs.winners.made_winner.Goals as goal
 

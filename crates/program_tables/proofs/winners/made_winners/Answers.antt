@@ -1,7 +1,7 @@
 use Rattle.std.proofs.Common.{arith, [], ap, sym, ◌∙◌}
-use Rattle.made_symbols.specs.declared.mode.Mode.TheVariants as modes
-use Rattle.made_symbols.specs.Made.{made}
-use Rattle.name_rules.specs.Entries.{made_from}
+use Rattle.link_program.specs.made_symbols.declared.mode.Mode.TheVariants as modes
+use Rattle.link_program.specs.made_symbols.Made.{made}
+use Rattle.link_program.specs.name_rules.Entries.{made_from}
 use Rattle.program_tables.specs.Winners.{winner_of}
 use Rattle.program_tables.proofs.Steps.{kept_more}
 use Rattle.program_tables.proofs.MadeOnes.{made_row_at, made_count}

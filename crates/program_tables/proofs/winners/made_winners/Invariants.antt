@@ -1,8 +1,8 @@
 use Rattle.std.proofs.Common.{◌≡◌, take}
 use Rattle.std.specs.Prelude.{filter_map}
-use Rattle.made_symbols.specs.declared.mode.Mode.TheVariants as modes
-use Rattle.made_symbols.specs.Made.{made}
-use Rattle.name_rules.specs.Entries.{made_from}
+use Rattle.link_program.specs.made_symbols.declared.mode.Mode.TheVariants as modes
+use Rattle.link_program.specs.made_symbols.Made.{made}
+use Rattle.link_program.specs.name_rules.Entries.{made_from}
 use Rattle.program_tables.specs.Winners.{winner_of}
 use Rattle.program_tables.proofs.winners.made_winners.Given as goal
 

@@ -1,7 +1,7 @@
 use Rattle.std.proofs.Common.{Some, sym, ap, subst, ◌∙◌, ◌<◌, ◌^◌, ℕ}
-use Rattle.wl_base.specs.Choice.{given}
-use Rattle.linking_section.specs.declared.symbol.Symbol.{Symbol}
-use Rattle.name_entries.specs.View.{entry_at}
+use Rattle.link_program.specs.wl_base.Choice.{given}
+use Rattle.link_program.specs.linking_section.declared.symbol.Symbol.{Symbol}
+use Rattle.link_program.specs.name_entries.View.{entry_at}
 use Rattle.link_program.specs.declared.symbol.Definition.{Definition}
 use Rattle.link_program.specs.Told.{told_definition}
 use Rattle.program_tables.proofs.Defining.{shown_entry, shown_as, small_class, small_input, lent_wins}

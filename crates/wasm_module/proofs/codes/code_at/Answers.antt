@@ -1,7 +1,7 @@
 use Rattle.std.proofs.Common.{◌<◌, ◌^◌, arith}
-use Rattle.leb_codec.specs.Spelling.{magnitude}
-use Rattle.leb_codec.proofs.Values.{u32_fits}
-use Rattle.wasm_grammar.specs.ReaderLaws.{part_found}
+use Rattle.wasm_instr.specs.leb_codec.Spelling.{magnitude}
+use Rattle.wasm_instr.proofs.leb_codec_lemmas.Values.{u32_fits}
+use Rattle.wasm_instr.specs.wasm_grammar.ReaderLaws.{part_found}
 use Rattle.wasm_module.proofs.codes.code_at.Goals as goal
 
 -- the size of a part is a u32

@@ -1,6 +1,6 @@
 use Rattle.std.proofs.Common.{◌≡◌, ◌-◌}
-use Rattle.wasm_grammar.specs.Reading.{many_at}
-use Rattle.wasm_grammar.proofs.Loop.{with_front}
+use Rattle.wasm_instr.specs.wasm_grammar.Reading.{many_at}
+use Rattle.wasm_instr.proofs.wasm_grammar_lemmas.Loop.{with_front}
 use Rattle.wasm_module.specs.ModuleReading.{code_at}
 use Rattle.wasm_module.proofs.codes.codes_at.Given as goal
 

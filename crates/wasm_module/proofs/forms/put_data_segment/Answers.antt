@@ -1,5 +1,5 @@
 use Rattle.std.proofs.Common.{sym}
-use Rattle.wasm_grammar.specs.WriterLaws.{Appends-then, on-ok}
+use Rattle.wasm_instr.specs.wasm_grammar.WriterLaws.{Appends-then, on-ok}
 use Rattle.wasm_module.proofs.forms.put_data_segment.Goals as goal
 
 pub returns-in_ok-put_const_expr-in-None-clause-ok : goal.returns-in_ok-put_const_expr-in-None-clause-ok

@@ -1,5 +1,5 @@
 use Rattle.std.proofs.Common.{sym, ◌∙◌}
-use Rattle.wasm_grammar.specs.ReaderLaws.{ok_is}
+use Rattle.wasm_instr.specs.wasm_grammar.ReaderLaws.{ok_is}
 use Rattle.wasm_module.proofs.ModuleLaws.{module_again}
 use Rattle.wasm_module.proofs.laws.module_is_unambiguous.Goals as goal
 

@@ -1,4 +1,4 @@
-use Rattle.wasm_grammar.specs.ReaderLaws.{one_value}
+use Rattle.wasm_instr.specs.wasm_grammar.ReaderLaws.{one_value}
 use Rattle.wasm_module.specs.Parts.{SpellsInit, SpellsGlobal, SpellsExport, SpellsElement, SpellsDataSegment}
 use Rattle.wasm_module.specs.PartReading.{init_at, global_at, export_at, element_at, data_segment_at}
 use Rattle.wasm_module.specs.PartLaws.{init_reader, global_reader, export_reader, element_reader, data_segment_reader}

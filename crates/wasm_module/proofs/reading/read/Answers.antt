@@ -1,9 +1,9 @@
 use Rattle.std.proofs.Common.{◌≡◌, length, Result, Ok, Err, sym, ◌∙◌}
 use Rattle.std.proofs.lemmas.Result.{err_from_is_err_and}
-use Rattle.wasm_grammar.specs.declared.fault.Stop.{Stop}
-use Rattle.wasm_grammar.specs.declared.fault.ReadFault.{ReadFault}
-use Rattle.wasm_grammar.specs.declared.fault.ReadFault.TheVariants.{Stopped, OutOfMemory}
-use Rattle.wasm_grammar.specs.Fault.{Fails}
+use Rattle.wasm_instr.specs.wasm_grammar.declared.fault.Stop.{Stop}
+use Rattle.wasm_instr.specs.wasm_grammar.declared.fault.ReadFault.{ReadFault}
+use Rattle.wasm_instr.specs.wasm_grammar.declared.fault.ReadFault.TheVariants.{Stopped, OutOfMemory}
+use Rattle.wasm_instr.specs.wasm_grammar.Fault.{Fails}
 use Rattle.wasm_module.specs.declared.structure.Module.{Module}
 use Rattle.wasm_module.specs.ModuleReading.{module_at, module_fault, Tells}
 use Rattle.wasm_module.proofs.ModuleLaws.{module_found, module_again}

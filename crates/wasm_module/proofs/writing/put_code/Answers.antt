@@ -1,7 +1,7 @@
 use Rattle.std.proofs.Common.{ℕ, List, [], take, sym, subst, refl, ◌≡◌, ◌∙◌}
-use Rattle.wasm_grammar.specs.Grammar.{SpellsBytes}
-use Rattle.wasm_grammar.specs.Writers.{Appends, Writes}
-use Rattle.wasm_grammar.specs.WriterLaws.{on-ok}
+use Rattle.wasm_instr.specs.wasm_grammar.Grammar.{SpellsBytes}
+use Rattle.wasm_instr.specs.wasm_grammar.Writers.{Appends, Writes}
+use Rattle.wasm_instr.specs.wasm_grammar.WriterLaws.{on-ok}
 use Rattle.wasm_instr.specs.Placeless.{SpellsPlaceless}
 use Rattle.wasm_module.proofs.WriteLaws.{sized_written}
 use Rattle.wasm_module.proofs.writing.put_code.Goals as goal

@@ -1,7 +1,7 @@
 use Rattle.std.proofs.Common.{ℕ, List, [], sym, subst, ◌∙◌}
-use Rattle.wasm_grammar.specs.Grammar.{SpellsByte, SpellsBytes, SpellsSized, SpellsVector, Then}
-use Rattle.wasm_grammar.specs.Writers.{Appends, Writes}
-use Rattle.wasm_grammar.specs.WriterLaws.{on-ok}
+use Rattle.wasm_instr.specs.wasm_grammar.Grammar.{SpellsByte, SpellsBytes, SpellsSized, SpellsVector, Then}
+use Rattle.wasm_instr.specs.wasm_grammar.Writers.{Appends, Writes}
+use Rattle.wasm_instr.specs.wasm_grammar.WriterLaws.{on-ok}
 use Rattle.wasm_instr.specs.declared.body.Body.{Body}
 use Rattle.wasm_instr.specs.Placeless.{SpellsPlaceless}
 use Rattle.wasm_module.proofs.WriteLaws.{section_written, has_items}

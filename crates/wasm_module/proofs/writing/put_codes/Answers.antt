@@ -1,8 +1,8 @@
 use Rattle.std.proofs.Common.{◌≡◌, List, take, arith, sym, subst}
 use Rattle.std.proofs.lemmas.List.{take_more, take_all}
-use Rattle.wasm_grammar.specs.Grammar.{SpellsSized, SpellsMany}
-use Rattle.wasm_grammar.specs.Writers.{Writes}
-use Rattle.wasm_grammar.specs.WriterLaws.{Writes-from, Writes-then, Writes-more}
+use Rattle.wasm_instr.specs.wasm_grammar.Grammar.{SpellsSized, SpellsMany}
+use Rattle.wasm_instr.specs.wasm_grammar.Writers.{Writes}
+use Rattle.wasm_instr.specs.wasm_grammar.WriterLaws.{Writes-from, Writes-then, Writes-more}
 use Rattle.wasm_instr.specs.declared.body.Body.{Body}
 use Rattle.wasm_instr.specs.Placeless.{SpellsPlaceless}
 use Rattle.wasm_module.proofs.writing.put_codes.Goals as goal

@@ -1,6 +1,6 @@
 use Rattle.std.proofs.Common.{take}
-use Rattle.wasm_grammar.specs.Grammar.{SpellsSized, SpellsMany}
-use Rattle.wasm_grammar.specs.Writers.{Writes}
+use Rattle.wasm_instr.specs.wasm_grammar.Grammar.{SpellsSized, SpellsMany}
+use Rattle.wasm_instr.specs.wasm_grammar.Writers.{Writes}
 use Rattle.wasm_instr.specs.Placeless.{SpellsPlaceless}
 use Rattle.wasm_module.proofs.writing.put_codes.Given as goal
 

@@ -1,4 +1,4 @@
-use Rattle.wasm_grammar.specs.WriterLaws.{Appends-then, on-ok}
+use Rattle.wasm_instr.specs.wasm_grammar.WriterLaws.{Appends-then, on-ok}
 use Rattle.wasm_module.proofs.writing.put_contents.Goals as goal
 
 pub returns : goal.returns

@@ -1,7 +1,7 @@
 use Rattle.std.proofs.Common.{ℕ, List, [], sym, subst, Some, None}
-use Rattle.wasm_grammar.specs.Grammar.{SpellsByte, SpellsU32, SpellsBytes, Then}
-use Rattle.wasm_grammar.specs.Writers.{Appends, Writes}
-use Rattle.wasm_grammar.specs.WriterLaws.{Writes-from, on-ok}
+use Rattle.wasm_instr.specs.wasm_grammar.Grammar.{SpellsByte, SpellsU32, SpellsBytes, Then}
+use Rattle.wasm_instr.specs.wasm_grammar.Writers.{Appends, Writes}
+use Rattle.wasm_instr.specs.wasm_grammar.WriterLaws.{Writes-from, on-ok}
 use Rattle.wasm_module.specs.Sections.{SpellsGiven}
 use Rattle.wasm_module.proofs.WriteLaws.{section_written}
 use Rattle.wasm_module.proofs.writing.put_data_count.Goals as goal

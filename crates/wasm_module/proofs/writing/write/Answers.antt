@@ -1,8 +1,8 @@
 use Rattle.std.proofs.Common.{ℕ, List, [], true, subst}
-use Rattle.wasm_grammar.specs.Grammar.{SpellsItself, SpellsU32, SpellsSized, SpellsVector}
-use Rattle.wasm_grammar.specs.Writers.{Appends, Writes}
-use Rattle.wasm_grammar.specs.WriterLaws.{Writes-from, Writes-then, Writes-same}
-use Rattle.wasm_types.specs.Types.{SpellsFuncType, SpellsImport, SpellsTableType, SpellsLimits}
+use Rattle.wasm_instr.specs.wasm_grammar.Grammar.{SpellsItself, SpellsU32, SpellsSized, SpellsVector}
+use Rattle.wasm_instr.specs.wasm_grammar.Writers.{Appends, Writes}
+use Rattle.wasm_instr.specs.wasm_grammar.WriterLaws.{Writes-from, Writes-then, Writes-same}
+use Rattle.wasm_instr.specs.wasm_types.Types.{SpellsFuncType, SpellsImport, SpellsTableType, SpellsLimits}
 use Rattle.wasm_instr.specs.Placeless.{SpellsPlaceless}
 use Rattle.wasm_sections.specs.Sections.{header}
 use Rattle.wasm_module.specs.Parts.{SpellsGlobal, SpellsExport, SpellsElement, SpellsDataSegment}

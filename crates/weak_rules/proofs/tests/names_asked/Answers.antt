@@ -1,5 +1,5 @@
 use Rattle.std.proofs.Common.{◌∙◌}
-use Rattle.made_symbols.specs.declared.mode.Mode.TheVariants.{Plain}
+use Rattle.name_entries.specs.made_symbols.declared.mode.Mode.TheVariants.{Plain}
 use Rattle.name_jobs.proofs.Made.{name_words_at, name_ranks_at, few_names_at}
 use Rattle.weak_rules.proofs.tests.names_asked.Goals as goal
 

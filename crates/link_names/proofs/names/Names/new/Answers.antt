@@ -1,6 +1,6 @@
 use Rattle.std.proofs.Common.{◌≡◌, [], ap, sym, subst, ◌∙◌, Some, map, arith}
 use Rattle.std.specs.Prelude.{flat_map}
-use Rattle.wl_base.specs.Names.{Names}
+use Rattle.object_file.specs.wl_base.Names.{Names}
 use Rattle.made_symbols.specs.Made.{made}
 use Rattle.link_names.specs.Numbered.{Numbered, AreNumbers, numbers_seen, AllShort}
 use Rattle.link_names.specs.Interning.{TellsAll, one, names_in, groups_in, made_name, made_number, symbols_numbered, groups_numbered}

@@ -1,6 +1,6 @@
 use Rattle.std.proofs.Common.{◌≡◌, [], map, drop}
 use Rattle.std.specs.Prelude.{slice_index_or}
-use Rattle.wl_base.specs.Choice.{first_some}
+use Rattle.name_entries.specs.wl_base.Choice.{first_some}
 use Rattle.name_cases.specs.Rows.{entries_in, names_shown, rows_shown}
 use Rattle.name_cases.specs.Search.{case_at, case_in}
 use Rattle.name_cases.proofs.cases.Comparison.case_in.Given as goal

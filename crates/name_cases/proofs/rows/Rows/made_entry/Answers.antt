@@ -1,5 +1,5 @@
 use Rattle.std.proofs.Common.{◌∙◌, arith}
-use Rattle.made_symbols.specs.Made.{made_at}
+use Rattle.name_entries.specs.made_symbols.Made.{made_at}
 use Rattle.name_cases.specs.Rows.{names_shown}
 use Rattle.name_cases.proofs.Made.{made_is, made_number, shows_made}
 use Rattle.name_cases.proofs.rows.Rows.made_entry.Goals as goal

@@ -1,6 +1,6 @@
 use Rattle.std.proofs.Common.{◌≡◌, [], length, take, filter}
 use Rattle.std.specs.Prelude.{slice_index_or}
-use Rattle.name_rules.specs.Entries.{is_entry}
+use Rattle.name_entries.specs.name_rules.Entries.{is_entry}
 use Rattle.name_cases.specs.Firsts.{Adds}
 use Rattle.name_cases.specs.Rows.{names_shown, rows_shown}
 use Rattle.name_cases.proofs.rows.Rows.note_row.Given as goal

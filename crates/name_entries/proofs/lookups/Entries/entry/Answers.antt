@@ -1,6 +1,6 @@
 use Rattle.std.proofs.Common.{refl, sym, ap, ◌∙◌}
 use Rattle.std.specs.Option.{option_map}
-use Rattle.object_columns.specs.Seen.{symbol_seen}
+use Rattle.object_file.specs.object_columns.Seen.{symbol_seen}
 use Rattle.name_entries.proofs.Rows.{no_entry, no_symbol, shown}
 use Rattle.name_entries.proofs.lookups.Entries.entry.Goals as goal
 

@@ -1,6 +1,6 @@
 use Rattle.std.proofs.Common.{Some, sym, ap, ◌∙◌}
 use Rattle.std.specs.Option.{option_map}
-use Rattle.object_columns.specs.Seen.{symbol_seen}
+use Rattle.object_file.specs.object_columns.Seen.{symbol_seen}
 use Rattle.name_rules.specs.Entries.{Entry, SymbolType}
 use Rattle.name_entries.specs.Shown.{type_seen}
 use Rattle.name_entries.proofs.Rows.{no_entry, no_symbol, the_entry}

@@ -1,6 +1,6 @@
 use Rattle.std.proofs.Common.{◌<◌, List, length, map, Some, None, sym, ap, ◌∙◌, arith}
 use Rattle.std.proofs.lemmas.List.{length-map}
-use Rattle.object_file.specs.declared.object.Object.{Object}
+use Rattle.name_entries.specs.object_file.declared.object.Object.{Object}
 use Rattle.least_race.specs.Jobs.{Job}
 use Rattle.name_jobs.specs.Offers.{group_offer}
 use Rattle.name_jobs.proofs.Asked.{group_answer}

@@ -1,7 +1,7 @@
 use Rattle.std.proofs.Common.{take}
 use Rattle.std.specs.Prelude.{filter}
-use Rattle.mark_bits.specs.Chunks.{Differ}
-use Rattle.link_rules.specs.Program.{indexed}
+use Rattle.link_program.specs.mark_bits.Chunks.{Differ}
+use Rattle.link_program.specs.link_rules.Program.{indexed}
 use Rattle.program_tables.specs.Views.{view_seen}
 use Rattle.program_tables.specs.Rows.{global_row, keeps_row}
 use Rattle.program_tables.specs.Gains.{Gains, rank_of, AllBelow}

@@ -1,6 +1,6 @@
 use Rattle.std.proofs.Common.{ap, sym, subst, ◌∙◌}
 use Rattle.std.specs.Option.{option_map}
-use Rattle.object_columns.specs.Seen.{segment_seen}
+use Rattle.link_program.specs.object_columns.Seen.{segment_seen}
 use Rattle.program_tables.specs.Views.{view_seen}
 use Rattle.program_tables.specs.Rows.{segment_row, keeps_row}
 use Rattle.program_tables.specs.Gains.{Gains}

@@ -1,7 +1,7 @@
 use Rattle.std.proofs.Common.{arith, [], ◌<◌, take, length, sym, subst}
-use Rattle.made_symbols.specs.declared.mode.Mode.TheVariants as modes
-use Rattle.made_symbols.specs.Made.{made, made_at}
-use Rattle.link_rules.specs.Program.{option_onto}
+use Rattle.link_program.specs.made_symbols.declared.mode.Mode.TheVariants as modes
+use Rattle.link_program.specs.made_symbols.Made.{made, made_at}
+use Rattle.link_program.specs.link_rules.Program.{option_onto}
 use Rattle.program_tables.specs.Rows.{made_row, made_rows}
 use Rattle.program_tables.specs.Gains.{AreGained}
 use Rattle.program_tables.proofs.Growing.{gained_more, made_step}

@@ -1,7 +1,7 @@
 use Rattle.std.proofs.Common.{arith, [], length, map, ap, sym, ◌∙◌, ◌≡◌, ◌≤◌, ◌<◌}
 use Rattle.std.specs.Prelude.{filter_map}
 use Rattle.std.proofs.lemmas.List.{length-map, take_all}
-use Rattle.body_windows.specs.Operands.{operand_of}
+use Rattle.link_program.specs.body_windows.Operands.{operand_of}
 use Rattle.program_tables.specs.Views.{view_seen}
 use Rattle.program_tables.specs.Rows.{operand_named}
 use Rattle.program_tables.proofs.Steps.{kept_more, mapped_item}

@@ -1,6 +1,6 @@
 use Rattle.std.proofs.Common.{◌≡◌, take, map}
 use Rattle.std.specs.Prelude.{filter_map}
-use Rattle.body_windows.specs.Operands.{operand_of}
+use Rattle.link_program.specs.body_windows.Operands.{operand_of}
 use Rattle.program_tables.specs.Views.{view_seen}
 use Rattle.program_tables.specs.Rows.{operand_named}
 use Rattle.program_tables.proofs.view.ObjectView.name_operands.Given as goal

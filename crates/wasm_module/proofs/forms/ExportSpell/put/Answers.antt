@@ -1,7 +1,7 @@
 use Rattle.std.proofs.Common.{ℕ, List, sym}
-use Rattle.wasm_grammar.specs.Grammar.{SpellsByte, SpellsBytes}
-use Rattle.wasm_grammar.specs.Writers.{Appends, Writes}
-use Rattle.wasm_grammar.specs.WriterLaws.{Writes-from, Writes-then, name_written, on-ok}
+use Rattle.wasm_instr.specs.wasm_grammar.Grammar.{SpellsByte, SpellsBytes}
+use Rattle.wasm_instr.specs.wasm_grammar.Writers.{Appends, Writes}
+use Rattle.wasm_instr.specs.wasm_grammar.WriterLaws.{Writes-from, Writes-then, name_written, on-ok}
 use Rattle.wasm_module.specs.Parts.{SpellsExportKind}
 use Rattle.wasm_module.proofs.forms.ExportSpell.put.Goals as goal
 

@@ -1,4 +1,4 @@
-use Rattle.wasm_grammar.specs.WriterLaws.{Writes-from, Appends-then, on-ok}
+use Rattle.wasm_instr.specs.wasm_grammar.WriterLaws.{Writes-from, Appends-then, on-ok}
 use Rattle.wasm_module.proofs.forms.ModuleGlobalSpell.put.Goals as goal
 
 pub returns-clause-ok : goal.returns-clause-ok
