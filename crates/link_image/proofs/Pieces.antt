@@ -62,7 +62,7 @@ module _ (names : List (List ℕ)) (imports : List ImportKey) (l : values.Layout
   seen_call (seen_type place t) = None
 
   call_is_seen : (symbols : List Symbol) (types : List FuncType) (n : Named) → call_seen (map (told_function names imports) l.numbers.functions) symbols n ≡ seen_call (seen_named symbols types n)
-  call_is_seen symbols types (names_of.Symbol place kind addend symbol) = refl
+  call_is_seen symbols types (names_of.Symbol kind place addend symbol) = refl
   call_is_seen symbols types (names_of.Type place number) = refl
 
   -- What a reference names is known, and means something.

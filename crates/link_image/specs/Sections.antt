@@ -69,7 +69,7 @@ types_seen (t ∷ ts) (f ∷ fs) = cons_option (type_seen f t) (types_seen ts fs
 -- ---- bodies
 
 abbrev pub call_seen : List FunctionKey → List Symbol → Named → Option ℕ
-call_seen fs symbols (names.Symbol place kind addend symbol) =
+call_seen fs symbols (names.Symbol kind place addend symbol) =
     Some (number_by same_function_key fs (function_meant (slice_index_or symbols symbol no_symbol).name (slice_index_or symbols symbol no_symbol).lead))
 call_seen fs symbols (names.Type place number) = None
 

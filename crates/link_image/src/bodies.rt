@@ -24,8 +24,8 @@ fn call(numbering: &Numbering, symbols: &[Symbol], named: &Named) -> Option<u32>
 {
     match *named {
         Named::Symbol {
-            place: _,
             kind: _,
+            place: _,
             addend: _,
             symbol,
         } => {

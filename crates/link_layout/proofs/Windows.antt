@@ -269,11 +269,11 @@ module _ (p : rules.Program) (parts : List rules.Part) (es : List Entry) (d : La
   pub window_told : (named : Named) (n : rules.Named) → seen_named d.program.tables.now.symbols d.program.tables.now.types named ≡ told_named d.program.names.now.names d.program.resolution.now.imports n
       → NamesOne d.program.tables.now.symbols d.program.tables.now.types named → IsKnown d.program.names.now.names d.program.resolution.now.imports n
       → window_of (looked d) named ≡ values.named_window Plain (layout Plain p parts es) n
-  window_told (items.Symbol place kind addend symbol) (a_symbol ref) e one known =
+  window_told (items.Symbol kind place addend symbol) (a_symbol ref) e one known =
       let seen : SeenRef = record { place = place; kind = kind; addend = addend; symbol = slice_index_or d.program.tables.now.symbols symbol no_symbol } in
       let same : seen ≡ told_ref d.program.names.now.names d.program.resolution.now.imports ref = cc in
       ap (λ (r : SeenRef). symbol_window (looked d) r.place r.kind r.addend r.symbol) same ∙ ref_told ref known
-  window_told (items.Symbol place kind addend symbol) (a_type w) e one known = absurd cc
+  window_told (items.Symbol kind place addend symbol) (a_type w) e one known = absurd cc
   window_told (items.Type place number) (a_symbol ref) e one known = absurd cc
   window_told (items.Type place number) (a_type w) e one known =
       let at : place ≡ w.place = cc in

@@ -142,7 +142,7 @@ abbrev pub type_window : ℕ → ℕ → Window
 type_window place number = record { place = place; form = Unsigned5; target = pos number; addend = pos 0 }
 
 abbrev pub window_of : Looked → Named → Window
-window_of k (names.Symbol place kind addend symbol) = symbol_window k place kind addend (slice_index_or k.tables.symbols symbol no_symbol)
+window_of k (names.Symbol kind place addend symbol) = symbol_window k place kind addend (slice_index_or k.tables.symbols symbol no_symbol)
 window_of k (names.Type place number) = type_window place (slice_index_or k.numbers.type_numbers number 0)
 
 -- ---- sources

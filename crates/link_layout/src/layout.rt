@@ -196,8 +196,8 @@ impl<'a> Layout<'a> {
     {
         match *named {
             Named::Symbol {
-                place,
                 kind,
+                place,
                 addend,
                 symbol,
             } => {

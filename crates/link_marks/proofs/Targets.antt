@@ -61,7 +61,7 @@ module _ (table : List Chunk) where
   seen_number (seen_type place t) = None
 
   number_is_seen : (symbols : List Symbol) (types : List FuncType) (n : Named) → named_number (led_numbers table symbols) n ≡ seen_number (seen_named symbols types n)
-  number_is_seen symbols types (names.Symbol at kind addend symbol) = map_at (λ (s : Symbol). led_number table s.lead) symbols symbol no_symbol None refl
+  number_is_seen symbols types (names.Symbol kind at addend symbol) = map_at (λ (s : Symbol). led_number table s.lead) symbols symbol no_symbol None refl
   number_is_seen symbols types (names.Type at number) = refl
 
   abbrev meant : rules.Named → Option ℕ

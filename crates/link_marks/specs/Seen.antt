@@ -59,7 +59,7 @@ led_numbers table symbols = map (λ s. led_number table s.lead) symbols
 
 -- The number of the chunk to which an item leads, by those of the symbols.
 abbrev pub named_number : List (Option ℕ) → Named → Option ℕ
-named_number led (names.Symbol place kind addend symbol) = slice_index_or led symbol None
+named_number led (names.Symbol kind place addend symbol) = slice_index_or led symbol None
 named_number led (names.Type place number) = None
 
 abbrev pub targets_seen : List (Option ℕ) → List (List Named) → List (List ℕ)

@@ -170,8 +170,8 @@ fn symbols(alloc: Global) -> Result<Seq<Symbol>, OutOfMemory> {
 
 fn names_symbol(symbol: u32) -> Named {
     Named::Symbol {
-        place: 0,
         kind: 0,
+        place: 0,
         addend: 0,
         symbol,
     }

@@ -168,7 +168,7 @@ module _ (imports names : ℕ) where
   row_noted : (symbols : List Symbol) (code : Bool) (row : List Named) (refs : List LiveRef) (numbers : List ℕ) (m : Noted) → NotedAre imports names refs numbers m
       → NotedAre imports names (refs ++ filter_map (named_ref symbols code) row) (numbers ++ filter_map named_number row) (fold (noted symbols code) m row)
   row_noted symbols code [] refs numbers m are = moved refs (refs ++ []) numbers (numbers ++ []) m (sym (append-nil refs)) (sym (append-nil numbers)) are
-  row_noted symbols code (windows.Symbol place kind addend symbol ∷ row) refs numbers m are =
+  row_noted symbols code (windows.Symbol kind place addend symbol ∷ row) refs numbers m are =
       let r : LiveRef = record { code = code; kind = kind; symbol = slice_index_or symbols symbol no_symbol } in
       moved ((refs ++ r ∷ []) ++ filter_map (named_ref symbols code) row) (refs ++ r ∷ filter_map (named_ref symbols code) row) (numbers ++ filter_map named_number row) (numbers ++ filter_map named_number row) _
       (append_assoc refs (r ∷ []) (filter_map (named_ref symbols code) row)) refl

@@ -37,12 +37,12 @@ seen_window (seen_type place t) = Some t
 
 refs_shown : (symbols : List Symbol) (types : List FuncType) (code : Bool) (row : List Named) → filter_map (named_ref symbols code) row ≡ filter_map (seen_ref code) (map (seen_named symbols types) row)
 refs_shown symbols types code [] = refl
-refs_shown symbols types code (windows.Symbol place kind addend symbol ∷ row) = ap (λ rest. cons_option (named_ref symbols code (windows.Symbol place kind addend symbol)) rest) (refs_shown symbols types code row)
+refs_shown symbols types code (windows.Symbol kind place addend symbol ∷ row) = ap (λ rest. cons_option (named_ref symbols code (windows.Symbol place kind addend symbol)) rest) (refs_shown symbols types code row)
 refs_shown symbols types code (windows.Type place number ∷ row) = refs_shown symbols types code row
 
 windows_shown : (symbols : List Symbol) (types : List FuncType) (row : List Named) → map (type_at types) (filter_map named_number row) ≡ filter_map seen_window (map (seen_named symbols types) row)
 windows_shown symbols types [] = refl
-windows_shown symbols types (windows.Symbol place kind addend symbol ∷ row) = windows_shown symbols types row
+windows_shown symbols types (windows.Symbol kind place addend symbol ∷ row) = windows_shown symbols types row
 windows_shown symbols types (windows.Type place number ∷ row) = ap (λ rest. type_at types number ∷ rest) (windows_shown symbols types row)
 
 content_shown : (types : List FuncType) (c : Content) (told : rules.Content) → seen_content types c ≡ told_content told → content_type_at types c ≡ content_type told

@@ -16,11 +16,11 @@ pub record LiveRef : Type 0 where
   pub symbol : Symbol
 
 abbrev pub named_ref : List Symbol → Bool → Named → Option LiveRef
-named_ref symbols code (names.Symbol place kind addend symbol) = Some (record { code = code; kind = kind; symbol = slice_index_or symbols symbol no_symbol })
+named_ref symbols code (names.Symbol kind place addend symbol) = Some (record { code = code; kind = kind; symbol = slice_index_or symbols symbol no_symbol })
 named_ref symbols code (names.Type place number) = None
 
 abbrev pub named_number : Named → Option ℕ
-named_number (names.Symbol place kind addend symbol) = None
+named_number (names.Symbol kind place addend symbol) = None
 named_number (names.Type place number) = Some number
 
 -- where no part is

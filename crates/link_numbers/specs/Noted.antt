@@ -123,7 +123,7 @@ noted_number number m = record m { windows = insert_key nat_eq m.windows number 
 
 -- What a part names is noted, by the symbols.
 abbrev pub noted : List Symbol → Bool → Noted → Named → Noted
-noted symbols code m (names.Symbol place kind addend symbol) = noted_ref code kind (slice_index_or symbols symbol no_symbol) m
+noted symbols code m (names.Symbol kind place addend symbol) = noted_ref code kind (slice_index_or symbols symbol no_symbol) m
 noted symbols code m (names.Type place number) = noted_number number m
 
 -- What a live part names is noted.

@@ -65,8 +65,8 @@ fn note(marks: &mut Marks, symbols: &[Symbol], code: bool, named: Named) -> Resu
 {
     match named {
         Named::Symbol {
-            place: _,
             kind,
+            place: _,
             addend: _,
             symbol,
         } => marks.reference(code, kind, symbol_at(symbols, symbol)),

@@ -38,13 +38,13 @@ no_symbol = record { kind = FunctionKind; name = None; lead = Nothing }
 
 -- What an item of the data shows, by the symbols and the types.
 abbrev pub seen_named : List Symbol → List FuncType → Named → SeenNamed
-seen_named symbols types (names.Symbol place kind addend symbol) =
+seen_named symbols types (names.Symbol kind place addend symbol) =
     seen_symbol (record { place = place; kind = kind; addend = addend; symbol = slice_index_or symbols symbol no_symbol })
 seen_named symbols types (names.Type place number) = seen_type place (slice_index_or types number no_type)
 
 -- The symbol and the type that it names are there.
 abbrev pub NamesOne : List Symbol → List FuncType → Named → Type 0
-NamesOne symbols types (names.Symbol place kind addend symbol) = symbol < length symbols
+NamesOne symbols types (names.Symbol kind place addend symbol) = symbol < length symbols
 NamesOne symbols types (names.Type place number) = number < length types
 
 -- The same of what the definition has.

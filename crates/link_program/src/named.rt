@@ -3,12 +3,12 @@
 /// What a window of a part names, or what an init entry calls (Linking.md, "Relocation Sections").
 #[derive(Clone, Copy, Debug, PartialEq, Eq)]
 pub enum Named {
-    /// A symbol, by its place among the symbols of all objects.
+    /// A symbol, by its place among the symbols of all objects. The kind stands first, so that an item takes 16 bytes.
     Symbol {
-        /// Where the window stands in the part.
-        place: u32,
         /// The type of the relocation; 0 of an init entry.
         kind: u8,
+        /// Where the window stands in the part.
+        place: u32,
         addend: i32,
         symbol: u32,
     },

@@ -95,7 +95,7 @@ pub record ShowsCall (symbols : List Symbol) (types : List FuncType) (names : Li
 module _ (names : List (List ℕ)) (imports : List ImportKey) (symbols : List Symbol) (types : List FuncType) (all : List Candidate) (objects : List Object) (r : Resolved) (v : View)
     (is : IsView names imports symbols types all objects r v) where
   there_named : (place kind : ℕ) (addend : ℤ) (s : ℕ) (e : Entry) (m : Meaning) → slice_get r.symbols s ≡ Some e → slice_get r.meanings s ≡ Some m
-      → ShowsNamed symbols types names imports (items.Symbol place kind addend (v.first + s)) (a_symbol (record { place = place; kind = kind; addend = addend; entry = e; meaning = m }))
+      → ShowsNamed symbols types names imports (items.Symbol kind place addend (v.first + s)) (a_symbol (record { place = place; kind = kind; addend = addend; entry = e; meaning = m }))
   there_named place kind addend s e m at_e at_m =
       let at = is.told s e m at_e at_m in
       record {
@@ -105,7 +105,7 @@ module _ (names : List (List ℕ)) (imports : List ImportKey) (symbols : List Sy
 
   symbol_shown : (place kind : ℕ) (addend : ℤ) (s : ℕ) (inside : Bool) (e : Option Entry) (m : Option Meaning) → nat_lt s (length v.object.symbols) ≡ inside
       → slice_get r.symbols s ≡ e → slice_get r.meanings s ≡ m
-      → BothNamed symbols types names imports (given inside (items.Symbol place kind addend (v.first + s))) (option_map a_symbol (ref_to place kind addend e m))
+      → BothNamed symbols types names imports (given inside (items.Symbol kind place addend (v.first + s))) (option_map a_symbol (ref_to place kind addend e m))
   symbol_shown place kind addend s true (Some e) (Some m) lt at_e at_m = there_named place kind addend s e m at_e at_m
   symbol_shown place kind addend s true (Some e) None lt at_e at_m =
       let inside : s < length r.meanings = subst (λ n. s < n) (sym is.meanings) (below s (length v.object.symbols) lt) in

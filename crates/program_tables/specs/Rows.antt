@@ -29,7 +29,7 @@ pub record Row : Type 0 where
 -- ---- what windows name
 
 abbrev pub symbol_named : View → ℕ → ℕ → ℤ → ℕ → Option Named
-symbol_named v place kind addend symbol = given (nat_lt symbol (length v.object.symbols)) (items.Symbol place kind addend (v.first + symbol))
+symbol_named v place kind addend symbol = given (nat_lt symbol (length v.object.symbols)) (items.Symbol kind place addend (v.first + symbol))
 
 abbrev pub operand_named : View → Operand → Option Named
 operand_named v operands.Number = None

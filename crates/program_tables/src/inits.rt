@@ -47,8 +47,8 @@ fn call_of(
     Some(InitCall {
         priority: init.priority,
         named: Named::Symbol {
-            place: 0,
             kind: 0,
+            place: 0,
             addend: 0,
             symbol: view.first + init.symbol,
         },

@@ -21,8 +21,8 @@ impl ObjectView<'_> {
             return None;
         }
         Some(Named::Symbol {
-            place,
             kind,
+            place,
             addend,
             symbol: self.first + symbol,
         })
