@@ -27,23 +27,23 @@ BINARY, PLAIN = 0, 1
 TYPES = [bytes([0x60, 2, I32, I32, 1, I32]), bytes([0x60, 0, 0])]
 
 
-def leb(number):
+def groups(number, last):
+    """A number in groups of seven bits, up to the first that leaves less than `last`."""
     out = bytearray()
-    while number >= 128:
+    while number >= last:
         out.append(number & 127 | 128)
         number >>= 7
     out.append(number)
     return bytes(out)
+
+
+def leb(number):
+    return groups(number, 128)
 
 
 def signed(number):
     """A number that isn't negative."""
-    out = bytearray()
-    while number >= 64:
-        out.append(number & 127 | 128)
-        number >>= 7
-    out.append(number)
-    return bytes(out)
+    return groups(number, 64)
 
 
 def padded(number):

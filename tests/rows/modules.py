@@ -14,23 +14,22 @@ class Reader:
         self.at += count
         return self.data[self.at - count : self.at]
 
-    def u32(self):
+    def groups(self):
+        """The number in groups of seven bits, how many bits they are, and the last byte."""
         number, shift = 0, 0
         while True:
             one = self.byte()
             number |= (one & 0x7F) << shift
             shift += 7
             if one < 0x80:
-                return number
+                return number, shift, one
+
+    def u32(self):
+        return self.groups()[0]
 
     def signed(self):
-        number, shift = 0, 0
-        while True:
-            one = self.byte()
-            number |= (one & 0x7F) << shift
-            shift += 7
-            if one < 0x80:
-                return number - (1 << shift) if one & 0x40 else number
+        number, bits, last = self.groups()
+        return number - (1 << bits) if last & 0x40 else number
 
     def name(self):
         return self.take(self.u32()).decode()
