@@ -6,7 +6,7 @@ use Rattle.std.proofs.lemmas.Bool.{ne_eqb, le-leb, lt-ltb, le-ltb, cases_lt, lt-
 use Rattle.std.proofs.lemmas.Int.{ints}
 use Rattle.wasm_grammar.specs.leb_codec.Spelling.{EndsOnce, signed_value, magnitude, last_byte, is_allowed}
 use Rattle.wasm_grammar.specs.leb_codec.declared.form.Form.TheVariants.{U32, S33}
-use Rattle.wasm_grammar.proofs.leb_codec_lemmas.Values.{u32_fits, magnitude_below}
+use Rattle.leb_codec.proofs.Values.{u32_fits, magnitude_below}
 use Rattle.wasm_grammar.specs.declared.fault.Stop.TheVariants.{Broken}
 use Rattle.wasm_grammar.specs.Grammar.{SpellsByte, SpellsS33}
 use Rattle.wasm_grammar.specs.Readers.{Takes, IsReader}
