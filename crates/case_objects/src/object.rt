@@ -214,7 +214,7 @@ impl CaseObject {
 }
 
 /// The magic and the version, and the type section: type 0 is () to i32.
-#[tactic(auto, unfolding(wasm_instr::specs::leb_codec::Shortest::u32))]
+#[tactic(auto, unfolding(leb_codec::specs::Shortest::u32))]
 fn head() -> &'static [u8]
     ensures { result.now ≡ head_of }
 {
@@ -222,7 +222,7 @@ fn head() -> &'static [u8]
 }
 
 /// The function section: two functions of type 0.
-#[tactic(auto, unfolding(wasm_instr::specs::leb_codec::Shortest::u32))]
+#[tactic(auto, unfolding(leb_codec::specs::Shortest::u32))]
 fn functions() -> &'static [u8]
     ensures { result.now ≡ functions_of }
 {

@@ -17,7 +17,7 @@ fn add_names(alloc: Global, names: &mut Seq<Name>, more: &[Name]) -> Result<(), 
 }
 
 /// The entry, then the names of `--export`, then those of `-u`.
-#[tactic(auto, unfolding(link_program::specs::link_rules::LinkOf::asked_names))]
+#[tactic(auto, unfolding(link_rules::specs::LinkOf::asked_names))]
 pub fn asked_names(alloc: Global, plan: &Plan) -> Result<Seq<Name>, OutOfMemory>
     ensures { IfOk result (λ names. names ≡ asked_names plan.now) }
 {

@@ -29,7 +29,7 @@ fn many_elements(
 }
 
 /// The element segments that are all the bytes (Core 5.5.12).
-#[tactic(auto, unfolding(wasm_instr::specs::wasm_grammar::Reading::vector_at, wasm_instr::specs::wasm_grammar::Reading::whole))]
+#[tactic(auto, unfolding(wasm_grammar::specs::Reading::vector_at, wasm_grammar::specs::Reading::whole))]
 pub fn elements_at(alloc: Global, end: usize, payload: &[u8]) -> Result<Seq<Element>, ReadFault>
     ensures { Gives (λ x. x) result (whole (vector_at (element_at false)) end payload.now) }
 {

@@ -24,7 +24,7 @@ fn add_names(alloc: Global, names: &mut Seq<Name>, more: &[Name]) -> Result<(), 
 }
 
 /// The names that the words give: the entry, and those of `--export`, `-u` and `--export-if-defined`.
-#[tactic(auto, unfolding(link_program::specs::link_rules::LinkOf::asked_names))]
+#[tactic(auto, unfolding(link_rules::specs::LinkOf::asked_names))]
 pub(crate) fn words_of(alloc: Global, plan: &Plan) -> Result<Seq<Name>, OutOfMemory>
     ensures { IfOk result (λ names. names ≡ asked_names plan.now ++ plan.now.exports_if) }
 {

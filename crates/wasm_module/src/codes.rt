@@ -42,7 +42,7 @@ fn codes_at(
 }
 
 /// The contents of a code section: as many functions as are counted at the front.
-#[tactic(auto, unfolding(wasm_instr::specs::wasm_grammar::Reading::whole, wasm_instr::specs::wasm_grammar::Reading::vector_at))]
+#[tactic(auto, unfolding(wasm_grammar::specs::Reading::whole, wasm_grammar::specs::Reading::vector_at))]
 fn whole_codes(alloc: Global, end: usize, part: &[u8]) -> Result<Seq<Body>, ReadFault>
     ensures { Gives (λ x. x) result (whole (vector_at code_at) end part.now) }
 {
@@ -53,7 +53,7 @@ fn whole_codes(alloc: Global, end: usize, part: &[u8]) -> Result<Seq<Body>, Read
 }
 
 /// The size of a code section, its contents, and the bytes after them.
-#[tactic(auto, unfolding(wasm_instr::specs::wasm_grammar::Reading::sized_at))]
+#[tactic(auto, unfolding(wasm_grammar::specs::Reading::sized_at))]
 fn sized_codes_at(alloc: Global, end: usize, bytes: &[u8]) -> Result<(Seq<Body>, &[u8]), ReadFault>
     ensures { Gives (λ x. (x.0, x.1.now)) result (sized_at (vector_at code_at) end bytes.now) }
 {

@@ -70,7 +70,7 @@ impl Form for Element {
 }
 
 /// Appends the shortest spelling (Core 5.5.12).
-#[tactic(auto, using(wasm_instr::specs::wasm_grammar::WriterLaws::keeps_then))]
+#[tactic(auto, using(wasm_grammar::specs::WriterLaws::keeps_then))]
 fn put_element(to: &mut Seq<u8>, e: &Element) -> Result<(), OutOfMemory>
     ensures ok { OnOk result (Writes (SpellsElement true e.now) to.old to.new) }
     ensures keeps { Keeps to.old to.new }
@@ -110,7 +110,7 @@ impl Form for DataSegment {
 }
 
 /// Appends the shortest spelling (Core 5.5.14).
-#[tactic(auto, using(wasm_instr::specs::wasm_grammar::WriterLaws::keeps_then))]
+#[tactic(auto, using(wasm_grammar::specs::WriterLaws::keeps_then))]
 fn put_data_segment(to: &mut Seq<u8>, s: &DataSegment) -> Result<(), OutOfMemory>
     ensures ok { OnOk result (Appends (SpellsDataSegment true s.now) to.old to.new) }
     ensures keeps { Keeps to.old to.new }

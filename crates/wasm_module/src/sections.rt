@@ -22,7 +22,7 @@ fn is_utf8(text: &[u8]) -> bool
 }
 
 /// The name at the front, which is lent, and the bytes after it (Core 5.2.4). It takes no memory.
-#[tactic(auto, unfolding(wasm_instr::specs::wasm_grammar::Reading::name_at))]
+#[tactic(auto, unfolding(wasm_grammar::specs::Reading::name_at))]
 pub fn lent_name_at(end: usize, bytes: &[u8]) -> Result<(&[u8], &[u8]), Stop>
     ensures { Reads (λ x. (x.0.now, x.1.now)) result (name_at end bytes.now) }
 {
@@ -104,7 +104,7 @@ pub fn next_at<T: Form>(
 }
 
 /// A size and a number that is just so many bytes long, and the bytes after it.
-#[tactic(auto, unfolding(wasm_instr::specs::wasm_grammar::Reading::sized_at, wasm_instr::specs::wasm_grammar::Reading::whole, crate::specs::Sections::given_at))]
+#[tactic(auto, unfolding(wasm_grammar::specs::Reading::sized_at, wasm_grammar::specs::Reading::whole, crate::specs::Sections::given_at))]
 fn sized_count_at(end: usize, bytes: &[u8]) -> Result<(Option<u32>, &[u8]), Stop>
     ensures { Reads (λ x. (x.0, x.1.now)) result (sized_at given_at end bytes.now) }
 {
