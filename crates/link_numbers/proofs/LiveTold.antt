@@ -37,7 +37,7 @@ seen_window (seen_type place t) = Some t
 
 refs_shown : (symbols : List Symbol) (types : List FuncType) (code : Bool) (row : List Named) → filter_map (named_ref symbols code) row ≡ filter_map (seen_ref code) (map (seen_named symbols types) row)
 refs_shown symbols types code [] = refl
-refs_shown symbols types code (windows.Symbol kind place addend symbol ∷ row) = ap (λ rest. cons_option (named_ref symbols code (windows.Symbol place kind addend symbol)) rest) (refs_shown symbols types code row)
+refs_shown symbols types code (windows.Symbol kind place addend symbol ∷ row) = ap (λ rest. cons_option (named_ref symbols code (windows.Symbol kind place addend symbol)) rest) (refs_shown symbols types code row)
 refs_shown symbols types code (windows.Type place number ∷ row) = refs_shown symbols types code row
 
 windows_shown : (symbols : List Symbol) (types : List FuncType) (row : List Named) → map (type_at types) (filter_map named_number row) ≡ filter_map seen_window (map (seen_named symbols types) row)
