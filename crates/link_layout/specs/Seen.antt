@@ -1,8 +1,9 @@
 -- What stands in windows, as the data show it.
-use Rattle.std.specs.Prelude.{ℕ, ◌+◌, ◌==◌, Bool, true, false, not, List, [], ◌∷◌, ◌++◌, map, filter, drop, length, position, slice_index_or, if◌then◌else◌, Option, Some, None, unwrap_or, ℤ, pos}
+use Rattle.std.specs.Prelude.{◌≡◌, ◌<◌, ◌^◌, ℕ, ◌+◌, ◌==◌, Bool, true, false, not, List, [], ◌∷◌, ◌++◌, map, filter, drop, length, position, slice_index_or, if◌then◌else◌, Option, Some, None, unwrap_or, All, ℤ, pos}
 use Rattle.link_program.specs.wasm_types.declared.function.FuncType.{FuncType}
 use Rattle.link_program.specs.linking_section.declared.symbol.SymbolKind.{SymbolKind}
 use Rattle.link_program.specs.linking_section.declared.symbol.SymbolKind.TheVariants.{Datum, GlobalVar}
+use Rattle.link_program.specs.linking_section.declared.symbol.SymbolKind.TheVariants as kinds
 use Rattle.link_program.specs.linking_section.Flags.{kind_code}
 use Rattle.link_program.specs.mark_bits.declared.chunk.Chunk.{Chunk}
 use Rattle.link_program.specs.index_layout.Numbers.{number_by}
@@ -130,13 +131,17 @@ addend_of lead addend an_address = addend_meant lead addend
 addend_of lead addend a_global = pos 0
 addend_of lead addend a_table = pos 0
 
-abbrev pub symbol_window : Looked → ℕ → ℕ → ℤ → Symbol → Window
-symbol_window k place kind addend s = record {
+-- The window of a reference that stands for this number.
+abbrev pub window_to : ℕ → ℕ → ℤ → Lead → ℕ → Window
+window_to place kind addend lead target = record {
   place = place;
   form = form_of kind;
-  target = pos (target_of k s (asks kind));
-  addend = addend_of s.lead addend (asks kind);
+  target = pos target;
+  addend = addend_of lead addend (asks kind);
 }
+
+abbrev pub symbol_window : Looked → ℕ → ℕ → ℤ → Symbol → Window
+symbol_window k place kind addend s = window_to place kind addend s.lead (target_of k s (asks kind))
 
 abbrev pub type_window : ℕ → ℕ → Window
 type_window place number = record { place = place; form = Unsigned5; target = pos number; addend = pos 0 }
@@ -144,6 +149,25 @@ type_window place number = record { place = place; form = Unsigned5; target = po
 abbrev pub window_of : Looked → Named → Window
 window_of k (names.Symbol kind place addend symbol) = symbol_window k place kind addend (slice_index_or k.tables.symbols symbol no_symbol)
 window_of k (names.Type place number) = type_window place (slice_index_or k.numbers.type_numbers number 0)
+
+-- ---- usual references
+
+-- The usual type of a reference to a symbol of a kind.
+abbrev pub usual : SymbolKind → ℕ
+usual kinds.Function = 0
+usual kinds.Datum = 3
+usual kinds.GlobalVar = 7
+usual kinds.Section = 9
+usual kinds.Table = 20
+
+-- What a reference of the usual type to a symbol stands for.
+abbrev pub usual_target : Looked → Symbol → ℕ
+usual_target k s = target_of k s (asks (usual s.kind))
+
+-- The numbers are those of usual references to each symbol, and small.
+pub record AreTargets (k : Looked) (targets : List ℕ) : Type 0 where
+  pub are : targets ≡ map (usual_target k) k.tables.symbols
+  pub small : All (λ t. t < 2 ^ 33) targets
 
 -- ---- sources
 

@@ -1,5 +1,5 @@
 //! What windows hold.
-ghost use Rattle.std.specs.Prelude.{◌≡◌, ◌<◌, ◌^◌, ℕ, length, slice_index_or, unwrap_or, All, IfOk};
+ghost use Rattle.std.specs.Prelude.{◌≡◌, ◌<◌, ◌^◌, ℕ, length, slice_index_or, unwrap_or, All, IfOk, IsTrue};
 ghost use Rattle.link_program.specs.made_symbols.declared.mode.Mode.TheVariants.{Plain};
 ghost use Rattle.link_program.specs.name_rules.Entries.{Entry};
 ghost use Rattle.link_program.specs.reloc_apply.Windows.{IsSum};
@@ -14,7 +14,7 @@ ghost use Rattle.link_program.specs.Seen.{seen_named, told_named, NamesOne, no_s
 ghost use Rattle.link_program.specs.Moved.{moved_windows};
 ghost use Rattle.link_program.specs.Live.{Stage, AreLive};
 ghost use Rattle.link_numbers.specs.Knows.{KnowsGot};
-ghost use Rattle.link_layout.specs.Seen.{chunk_number, column_at, address_of, slot_meant, address_meant, got_value, target_of, addend_of, symbol_window, window_of};
+ghost use Rattle.link_layout.specs.Seen.{chunk_number, column_at, address_of, slot_meant, address_meant, got_value, target_of, addend_of, window_to, type_window, window_of, usual, AreTargets};
 ghost use Rattle.link_layout.specs.Layout.{looked, IsLayout, IsNamedBy};
 
 use crate::Placed;
@@ -119,6 +119,56 @@ fn symbol_at(symbols: &[Symbol], at: u32) -> Symbol
     }
 }
 
+/// The usual type of a reference to a symbol of a kind.
+fn usual(kind: SymbolKind) -> u8
+    ensures { result ≡ usual kind }
+{
+    match kind {
+        SymbolKind::Function => 0,
+        SymbolKind::Datum => 3,
+        SymbolKind::GlobalVar => 7,
+        SymbolKind::Section => 9,
+        SymbolKind::Table => 20,
+    }
+}
+
+/// Whether a reference of a type is known to stand for the same number as one of the usual type of the kind.
+fn is_usual(kind: u8, of: SymbolKind) -> bool
+    ensures { IsTrue result → asks kind ≡ asks (usual of) }
+{
+    match (of, kind) {
+        (SymbolKind::Function, 0)
+        | (SymbolKind::Datum, 3 | 4 | 5 | 11)
+        | (SymbolKind::GlobalVar, 7) => true,
+        _ => false,
+    }
+}
+
+/// The target at a place.
+#[tactic(auto, using(crate::proofs::ReadAt::read))]
+fn target_at(targets: &[u64], at: u32) -> u64
+    ensures { result ≡ slice_index_or targets.now at 0 }
+{
+    match targets.get(at as usize) {
+        Some(target) => *target,
+        None => 0,
+    }
+}
+
+/// The window of a reference that stands for this number.
+fn window_to(place: u32, kind: u8, addend: i32, lead: Lead, target: u64) -> Window
+    requires { target < 2 ^ 33 }
+    ensures is { result ≡ window_to place kind addend lead target }
+    ensures sum { IsSum result }
+{
+    Window {
+        place: u64::from(place),
+        form: form_of(kind),
+        target: target as i64,
+        addend: i64::from(addend_of(kind, lead, addend)),
+    }
+}
+
 impl<'a> Layout<'a> {
     /// The address of a definition, by the data alone.
     fn address_seen(self, definition: Definition) -> u64
@@ -172,23 +222,22 @@ impl<'a> Layout<'a> {
         }
     }
 
-    /// The window of a reference to a symbol.
-    fn symbol_window(self, place: u32, kind: u8, addend: i32, symbol: Symbol) -> Window
-        ensures is { result ≡ symbol_window (looked self.entry) place kind addend symbol }
+    /// The window of a reference to a type, by the data alone.
+    fn type_window(self, place: u32, number: u32) -> Window
+        requires { number < length self.numbering.now.type_numbers }
+        ensures is { result ≡ type_window place (slice_index_or self.entry.numbering.now.type_numbers number 0) }
         ensures sum { IsSum result }
     {
-        let target = self.target_of(kind, symbol) as i64;
-        let addend = i64::from(addend_of(kind, symbol.lead, addend));
         Window {
             place: u64::from(place),
-            form: form_of(kind),
-            target,
-            addend,
+            form: Form::Unsigned5,
+            target: i64::from(self.numbering.type_number(number)),
+            addend: 0,
         }
     }
 
     /// A window, by the data alone.
-    pub(crate) fn window_seen(self, named: &Named) -> Window
+    fn window_seen(self, named: &Named) -> Window
         requires one { NamesOne self.program.tables.now.symbols self.program.tables.now.types named.now }
         requires types { length self.numbering.now.type_numbers ≡ length self.program.tables.now.types }
         ensures is { result ≡ window_of (looked self.entry) named.now }
@@ -202,14 +251,60 @@ impl<'a> Layout<'a> {
                 symbol,
             } => {
                 let symbol = symbol_at(self.program.tables.symbols.as_slice(), symbol);
-                self.symbol_window(place, kind, addend, symbol)
+                let target = self.target_of(kind, symbol);
+                window_to(place, kind, addend, symbol.lead, target)
             }
-            Named::Type { place, number } => Window {
-                place: u64::from(place),
-                form: Form::Unsigned5,
-                target: i64::from(self.numbering.type_number(number)),
-                addend: 0,
-            },
+            Named::Type { place, number } => self.type_window(place, number),
+        }
+    }
+
+    /// The number that a usual reference stands for, of each symbol.
+    pub(crate) fn targets(self, alloc: Global) -> Result<Vec<u64>, OutOfMemory>
+        ensures { IfOk result (λ targets. AreTargets (looked self.entry) targets.items) }
+    {
+        let symbols = self.program.tables.symbols.as_slice();
+        let mut targets = Vec::with_capacity(alloc, symbols.len())?;
+        for symbol in symbols {
+            targets.push(self.target_of(usual(symbol.kind), *symbol))?;
+        }
+        Ok(targets)
+    }
+
+    /// The number that a reference to the symbol of a place stands for; that of a usual one is there already.
+    fn target_by(self, targets: &[u64], kind: u8, at: u32, symbol: Symbol) -> u64
+        requires targets { AreTargets (looked self) targets.now }
+        requires there { at < length self.program.tables.now.symbols }
+        requires symbol { symbol ≡ slice_index_or self.program.tables.now.symbols at no_symbol }
+        ensures is { result ≡ target_of (looked self.entry) symbol (asks kind) }
+        ensures small { result < 2 ^ 33 }
+    {
+        if is_usual(kind, symbol.kind) {
+            target_at(targets, at)
+        } else {
+            self.target_of(kind, symbol)
+        }
+    }
+
+    /// A window, by the numbers that usual references stand for.
+    pub(crate) fn window_by(self, targets: &[u64], named: &Named) -> Window
+        requires targets { AreTargets (looked self) targets.now }
+        requires one { NamesOne self.program.tables.now.symbols self.program.tables.now.types named.now }
+        requires types { length self.numbering.now.type_numbers ≡ length self.program.tables.now.types }
+        ensures is { result ≡ window_of (looked self.entry) named.now }
+        ensures sum { IsSum result }
+    {
+        match *named {
+            Named::Symbol {
+                kind,
+                place,
+                addend,
+                symbol: at,
+            } => {
+                let symbol = symbol_at(self.program.tables.symbols.as_slice(), at);
+                let target = self.target_by(targets, kind, at, symbol);
+                window_to(place, kind, addend, symbol.lead, target)
+            }
+            Named::Type { place, number } => self.type_window(place, number),
         }
     }
 

@@ -2,7 +2,7 @@
 ghost use Rattle.std.specs.Prelude.{◌≡◌, ◌==◌, ◌++◌, ◌∷◌, [], false, map, filter, drop, length, slice_index_or, All, IfOk, OnOk};
 ghost use Rattle.link_program.specs.reloc_apply.Windows.{IsSum};
 ghost use Rattle.link_program.specs.Moved.{moved_window, moved_windows};
-ghost use Rattle.link_layout.specs.Seen.{body_number, row_windows, body_windows, moved_sources};
+ghost use Rattle.link_layout.specs.Seen.{body_number, AreTargets, row_windows, body_windows, moved_sources};
 ghost use Rattle.link_layout.specs.Layout.{looked, AreThere};
 
 use crate::layout::number_of;
@@ -48,16 +48,18 @@ fn push_window(windows: &mut Vec<Window>, window: Window, by: u64) -> Result<(),
 fn push_part(
     windows: &mut Vec<Window>,
     layout: Layout<'_>,
+    targets: &[u64],
     number: u32,
     place: u64,
 ) -> Result<(), OutOfMemory>
-    requires { AreThere layout }
+    requires there { AreThere layout }
+    requires targets { AreTargets (looked layout) targets.now }
     ensures is { OnOk result (windows.new.items ≡ windows.old.items ++ map (moved_window place) (row_windows (looked layout.entry) number)) }
     ensures sums { OnOk result (All IsSum windows.old.items → All IsSum windows.new.items) }
 {
     let row = row_at(layout.program.tables, number);
     for named in row {
-        let window = layout.window_seen(named);
+        let window = layout.window_by(targets, named);
         push_window(windows, window, place)?;
     }
     Ok(())
@@ -67,15 +69,17 @@ fn push_part(
 fn push_body(
     windows: &mut Vec<Window>,
     layout: Layout<'_>,
+    targets: &[u64],
     key: FunctionKey,
     place: u64,
 ) -> Result<(), OutOfMemory>
-    requires { AreThere layout }
+    requires there { AreThere layout }
+    requires targets { AreTargets (looked layout) targets.now }
     ensures is { OnOk result (windows.new.items ≡ windows.old.items ++ map (moved_window place) (body_windows (looked layout.entry) key)) }
     ensures sums { OnOk result (All IsSum windows.old.items → All IsSum windows.new.items) }
 {
     if let Some(number) = body_number(&layout.program.tables.chunks, key) {
-        push_part(windows, layout, number, place)?;
+        push_part(windows, layout, targets, number, place)?;
     }
     Ok(())
 }
@@ -84,16 +88,18 @@ fn push_body(
 fn push_bodies(
     windows: &mut Vec<Window>,
     layout: Layout<'_>,
+    targets: &[u64],
     keys: &[FunctionKey],
     places: &[u64],
 ) -> Result<(), OutOfMemory>
-    requires { AreThere layout }
+    requires there { AreThere layout }
+    requires targets { AreTargets (looked layout) targets.now }
     ensures is { OnOk result (windows.new.items ≡ windows.old.items ++ moved_windows places.now (map (body_windows (looked layout.entry)) keys.now)) }
     ensures sums { OnOk result (All IsSum windows.old.items → All IsSum windows.new.items) }
 {
     for (i, key) in keys.iter().enumerate() {
         if let Some(place) = places.get(i) {
-            push_body(windows, layout, *key, *place)?;
+            push_body(windows, layout, targets, *key, *place)?;
         }
     }
     Ok(())
@@ -127,16 +133,18 @@ fn solid_numbers(alloc: Global, placed: &Placed, live: &[u32]) -> Result<Vec<u32
 fn push_segments(
     windows: &mut Vec<Window>,
     layout: Layout<'_>,
+    targets: &[u64],
     numbers: &[u32],
     places: &[u64],
 ) -> Result<(), OutOfMemory>
-    requires { AreThere layout }
+    requires there { AreThere layout }
+    requires targets { AreTargets (looked layout) targets.now }
     ensures is { OnOk result (windows.new.items ≡ windows.old.items ++ moved_windows places.now (map (row_windows (looked layout.entry)) numbers.now)) }
     ensures sums { OnOk result (All IsSum windows.old.items → All IsSum windows.new.items) }
 {
     for (i, number) in numbers.iter().enumerate() {
         if let Some(place) = places.get(i) {
-            push_part(windows, layout, *number, *place)?;
+            push_part(windows, layout, targets, *number, *place)?;
         }
     }
     Ok(())
@@ -170,12 +178,14 @@ pub(crate) fn all_windows(
     let numbering = layout.numbering;
     let keys = keys_behind(numbering.functions(), numbering.imported());
     let segments = solid_numbers(alloc, layout.placed, live)?;
+    let targets = layout.targets(alloc)?;
     let count = count_windows(layout.program.tables, keys, &segments);
     let mut windows = Vec::with_capacity(alloc, count)?;
-    push_bodies(&mut windows, layout, keys, places)?;
+    push_bodies(&mut windows, layout, &targets, keys, places)?;
     push_segments(
         &mut windows,
         layout,
+        &targets,
         &segments,
         places_behind(places, keys.len()),
     )?;

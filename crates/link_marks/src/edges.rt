@@ -27,7 +27,7 @@ fn number_named(led: &[Option<u32>], named: Named) -> Option<u32>
 fn targets_of(alloc: Global, led: &[Option<u32>], row: &[Named]) -> Result<Seq<u32>, OutOfMemory>
     ensures { IfOk result (λ targets. targets ≡ filter_map (named_number led.now) row.now) }
 {
-    let mut targets = Seq::new(alloc);
+    let mut targets = Seq::from_vec(Vec::with_capacity(alloc, row.len())?);
     for named in row {
         push_some(&mut targets, number_named(led, *named))?;
     }
@@ -53,7 +53,7 @@ fn all_targets(
 ) -> Result<Seq<Seq<u32>>, OutOfMemory>
     ensures { IfOk result (λ targets. targets ≡ targets_seen led.now rows.now) }
 {
-    let mut targets = Seq::new(alloc);
+    let mut targets = Seq::from_vec(Vec::with_capacity(alloc, rows.len())?);
     for place in 0..rows.len() {
         let row = row_of(rows, place);
         let found = targets_of(alloc, led, row)?;

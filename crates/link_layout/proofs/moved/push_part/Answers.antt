@@ -17,6 +17,6 @@ loop-named-preserved c =
     let within : i < length row = omega arith in
     record {
       is = part_more f c.args.place row i (get_or row i none) c.args.windows.now.items c.loop-named.windows.items c.push_window.new.windows.items (slice_get-get_or row i none within) c.loop-named.invariant.is
-          (c.in_ok-push_window.ensures.is ∙ ap (λ v. c.loop-named.windows.items ++ moved_window c.args.place v ∷ []) c.window_seen-window.ensures.is);
+          (c.in_ok-push_window.ensures.is ∙ ap (λ v. c.loop-named.windows.items ++ moved_window c.args.place v ∷ []) c.window_by-window.ensures.is);
       sums = λ all. c.in_ok-push_window.ensures.sums (c.loop-named.invariant.sums all);
     }
