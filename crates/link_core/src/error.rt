@@ -1,8 +1,8 @@
 //! Why a link gives no module.
 
 use link_inputs::InputError;
-use link_program::wl_base::{Fault, LayoutError, OutOfMemory};
 use program_build::BuildError;
+use wl_base::{Fault, LayoutError, OutOfMemory};
 
 /// The link is refused, or memory is.
 #[derive(Debug, PartialEq, Eq, Drop)]

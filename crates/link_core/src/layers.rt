@@ -20,12 +20,12 @@ use link_numbers::{Numbering, number};
 use link_output::laws::windows_stand_in_sources;
 use link_output::{measured, write};
 use link_program::name_entries::Entries;
-use link_program::wl_base::Seq;
-use link_program::wl_fan::Workers;
-use link_program::wl_outside::Gate;
 use link_program::{Program, Winner};
 use std::alloc::Global;
 use std::thread::Threads;
+use wl_base::Seq;
+use wl_fan::Workers;
+use wl_outside::Gate;
 
 /// Gives all that is live its place and its number, and writes the output.
 pub(crate) fn lay_out<R: Threads + Sync, G: Gate>(
@@ -96,15 +96,6 @@ fn write_out<'a, R: Threads + Sync, G: Gate>(
         placed,
     };
     let windows = again.windows(alloc, live, m.places.as_slice())?;
-    let bytes = write(
-        rt,
-        alloc,
-        files,
-        &image,
-        &m,
-        windows.as_slice(),
-        workers,
-        gate,
-    )?;
+    let bytes = write(rt, alloc, files, &image, &m, windows, workers, gate)?;
     Ok(bytes)
 }

@@ -13,12 +13,12 @@ use crate::LinkError;
 use crate::layers::lay_out;
 use link_marks::{all_are_meant, exports, live_parts, repeated_export, unresolved};
 use link_program::name_entries::Entries;
-use link_program::wl_base::Seq;
-use link_program::wl_fan::Workers;
-use link_program::wl_outside::Gate;
 use link_program::{Program, Winner};
 use std::alloc::Global;
 use std::thread::Threads;
+use wl_base::Seq;
+use wl_fan::Workers;
+use wl_outside::Gate;
 
 /// Links a program: what it exports, and then the rest.
 pub(crate) fn link_found<R: Threads + Sync, G: Gate>(

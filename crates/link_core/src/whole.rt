@@ -10,14 +10,14 @@ ghost use Rattle.link_core.specs.Answers.{Answers, IsShort};
 use crate::LinkError;
 use crate::linking::link_found;
 use link_inputs::{Inputs, load_inputs};
-use link_program::link_plan::Plan;
-use link_program::wl_base::Seq;
-use link_program::wl_fan::Workers;
-use link_program::wl_outside::Gate;
+use link_plan::Plan;
 use program_build::find;
 use program_build::laws::parts_stand;
 use std::alloc::Global;
 use std::thread::Threads;
+use wl_base::Seq;
+use wl_fan::Workers;
+use wl_outside::Gate;
 
 /// Links the files as the plan asks: the bytes of the module, or the first fault that applies. There is one file for each input of the
 /// plan, or as many as objects were generated.

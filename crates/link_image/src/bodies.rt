@@ -10,13 +10,13 @@ ghost use Rattle.link_image.specs.Sections.{call_seen, calls_seen, file_seen, bo
 
 use crate::keys::{function_meant, symbol_at};
 use crate::parts::{number_of, part_at, row_at};
+use image_emit::Source;
 use link_layout::Layout;
 use link_numbers::Numbering;
-use link_program::image_emit::Source;
-use link_program::mark_bits::Chunk;
-use link_program::wl_base::{OutOfMemory, Seq};
 use link_program::{FunctionKey, Named, Symbol, Tables};
+use mark_bits::Chunk;
 use std::alloc::Global;
+use wl_base::{OutOfMemory, Seq};
 
 // The function that an item names.
 fn call(numbering: &Numbering, symbols: &[Symbol], named: &Named) -> Option<u32>

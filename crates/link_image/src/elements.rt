@@ -2,10 +2,10 @@
 ghost use Rattle.std.specs.Prelude.{◌≡◌, [], ◌∷◌, length, IfOk};
 ghost use Rattle.link_image.specs.Sections.{elements_seen, table_seen};
 
-use link_program::wasm_module::Element;
-use link_program::wasm_types::{ConstExpr, Limits, TableType};
-use link_program::wl_base::{OutOfMemory, Seq};
 use std::alloc::Global;
+use wasm_module::Element;
+use wasm_types::{ConstExpr, Limits, TableType};
+use wl_base::{OutOfMemory, Seq};
 
 /// The table of so many functions. Slot 0 stays empty, and the table can't grow.
 pub(crate) fn tables(alloc: Global, slots: usize) -> Result<Seq<TableType>, OutOfMemory>

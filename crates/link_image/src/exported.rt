@@ -14,11 +14,11 @@ use crate::keys::{function_of, index_of};
 use link_layout::Layout;
 use link_marks::export_name;
 use link_numbers::Numbering;
-use link_program::linking_section::SymbolKind;
-use link_program::wasm_module::Export;
-use link_program::wl_base::{Name, OutOfMemory, Seq};
 use link_program::{Definition, GlobalKey, Program, Winner};
+use linking_section::SymbolKind;
 use std::alloc::Global;
+use wasm_module::Export;
+use wl_base::{Name, OutOfMemory, Seq};
 
 // What kind of export a symbol is.
 fn space_of(kind: SymbolKind) -> u8

@@ -4,8 +4,8 @@ ghost use Rattle.std.specs.Option.{option_to_list};
 ghost use Rattle.link_image.specs.Sections.{type_seen, types_seen};
 
 use link_program::FunctionKey;
-use link_program::wl_base::{OutOfMemory, Seq};
 use std::alloc::Global;
+use wl_base::{OutOfMemory, Seq};
 
 // The type of a function, where it is defined.
 fn defined_type(key: FunctionKey, number: u32) -> Option<u32>

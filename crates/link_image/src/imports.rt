@@ -5,10 +5,10 @@ ghost use Rattle.link_program.specs.name_meanings.Kept.{type_kept};
 ghost use Rattle.link_image.specs.Imports.{kind_seen, import_seen, function_seen, global_seen, functions_seen};
 
 use link_program::name_meanings::{ImportType, Resolution};
-use link_program::wasm_types::{GlobalType, Import, ImportKind};
-use link_program::wl_base::{OutOfMemory, Seq};
 use link_program::{FunctionKey, GlobalKey};
 use std::alloc::Global;
+use wasm_types::{GlobalType, Import, ImportKind};
+use wl_base::{OutOfMemory, Seq};
 
 // What is imported, by its type and, of a function, the number of the type.
 fn kind_of(kind: &ImportType, number: u32) -> ImportKind

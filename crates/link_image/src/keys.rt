@@ -3,8 +3,8 @@ ghost use Rattle.std.specs.Prelude.{◌≡◌, slice_index_or};
 ghost use Rattle.link_program.specs.Seen.{no_symbol};
 ghost use Rattle.link_layout.specs.Seen.{index_of, function_of, function_meant};
 
-use link_program::linking_section::SymbolKind;
 use link_program::{Definition, FunctionKey, Lead, Symbol};
+use linking_section::SymbolKind;
 
 /// Which of its kind a definition is; the linker's are told by their numbers.
 pub(crate) fn index_of(definition: Definition) -> u32

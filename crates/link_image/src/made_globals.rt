@@ -14,13 +14,13 @@ ghost use Rattle.link_image.specs.Sections.{constant, entry_of, cell_seen, conte
 use crate::keys::function_of;
 use crate::parts::{number_of, part_at};
 use link_layout::Layout;
-use link_program::linking_section::SymbolKind;
-use link_program::mark_bits::Chunk;
-use link_program::wasm_module::ModuleGlobal;
-use link_program::wasm_types::{ConstExpr, GlobalType, ValType};
-use link_program::wl_base::{OutOfMemory, Seq};
 use link_program::{Content, Definition, FunctionKey, GlobalKey, GotKey, Tables};
+use linking_section::SymbolKind;
+use mark_bits::Chunk;
 use std::alloc::Global;
+use wasm_module::ModuleGlobal;
+use wasm_types::{ConstExpr, GlobalType, ValType};
+use wl_base::{OutOfMemory, Seq};
 
 /// A number below 2^32 as the signed number of the same bits. Another one is answered as want of memory.
 pub(crate) fn signed(n: u64) -> Result<i32, OutOfMemory>

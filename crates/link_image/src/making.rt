@@ -22,13 +22,13 @@ use crate::made_globals::globals;
 use crate::memory::{memories, memory, memory_exports, memory_imports};
 use crate::placed::{blocks, offset};
 use crate::types::copied;
+use image_emit::{Image, PlacedSource, Source};
 use link_layout::Layout;
 use link_program::Winner;
-use link_program::image_emit::{Image, PlacedSource, Source};
-use link_program::wasm_module::{Element, Export, ModuleGlobal};
-use link_program::wasm_types::{ConstExpr, FuncType, Import, Limits, TableType};
-use link_program::wl_base::{OutOfMemory, Seq};
 use std::alloc::Global;
+use wasm_module::{Element, Export, ModuleGlobal};
+use wasm_types::{ConstExpr, FuncType, Import, Limits, TableType};
+use wl_base::{OutOfMemory, Seq};
 
 // The imports: the memory, if it is imported, then functions, then globals.
 fn imports(alloc: Global, layout: Layout<'_>, memory: Limits) -> Result<Seq<Import>, OutOfMemory>

@@ -2,10 +2,10 @@
 ghost use Rattle.std.specs.Prelude.{◌≡◌, [], ◌∷◌, if◌then◌else◌, IfOk};
 ghost use Rattle.link_image.specs.Sections.{memory_seen, memory_import, memory_export};
 
-use link_program::wasm_module::Export;
-use link_program::wasm_types::{Import, ImportKind, Limits};
-use link_program::wl_base::{OutOfMemory, Seq};
 use std::alloc::Global;
+use wasm_module::Export;
+use wasm_types::{Import, ImportKind, Limits};
+use wl_base::{OutOfMemory, Seq};
 
 /// The memory by its pages at first and its greatest size in bytes. 2^32 pages and more are answered as want of memory.
 pub(crate) fn memory(pages: u32, most: Option<u64>) -> Result<Limits, OutOfMemory>

@@ -3,9 +3,9 @@ ghost use Rattle.std.specs.Prelude.{◌≡◌, [], false, slice_index_or};
 ghost use Rattle.link_layout.specs.Segments.{part_at, row_at};
 ghost use Rattle.link_layout.specs.Seen.{chunk_number};
 
-use link_program::mark_bits::{Chunk, ChunkTable};
-use link_program::wl_base::{FileSpan, Span};
 use link_program::{Content, Named, Part, Tables};
+use mark_bits::{Chunk, ChunkTable};
+use wl_base::{FileSpan, Span};
 
 /// The number of a chunk.
 #[tactic(auto, using(crate::proofs::Chunks::stands_at, crate::proofs::Chunks::stands_nowhere))]

@@ -8,11 +8,11 @@ ghost use Rattle.link_image.specs.Sections.{block_at, first_of};
 
 use crate::made_globals::signed;
 use crate::parts::part_at;
+use image_emit::{PlacedSource, Source};
 use link_layout::{Layout, Placed};
-use link_program::image_emit::{PlacedSource, Source};
-use link_program::wasm_types::ConstExpr;
-use link_program::wl_base::{OutOfMemory, Seq};
 use std::alloc::Global;
+use wasm_types::ConstExpr;
+use wl_base::{OutOfMemory, Seq};
 
 // Whether the part of a number is a live segment that isn't zero.
 #[tactic(auto, using(crate::proofs::ReadAt::read))]

@@ -1,9 +1,9 @@
 //! The type section (Core 5.5.4).
 ghost use Rattle.std.specs.Prelude.{◌≡◌, ◌++◌, IfOk, OnOk};
 
-use link_program::wasm_types::FuncType;
-use link_program::wl_base::{OutOfMemory, Seq};
 use std::alloc::Global;
+use wasm_types::FuncType;
+use wl_base::{OutOfMemory, Seq};
 
 // A function type once more.
 fn copy_of(alloc: Global, t: &FuncType) -> Result<FuncType, OutOfMemory>

@@ -2,9 +2,9 @@
 ghost use Rattle.std.specs.Prelude.{◌≡◌, ◌++◌, IfOk, OnOk};
 ghost use Rattle.link_program.specs.link_rules.LinkOf.{asked_names};
 
-use link_program::link_plan::Plan;
-use link_program::wl_base::{Name, OutOfMemory, Seq};
+use link_plan::Plan;
 use std::alloc::Global;
+use wl_base::{Name, OutOfMemory, Seq};
 
 /// Puts names at the end.
 fn add_names(alloc: Global, names: &mut Seq<Name>, more: &[Name]) -> Result<(), OutOfMemory>

@@ -18,13 +18,13 @@ use crate::opening::open_files;
 use crate::reading::read_given;
 use crate::whole::refused;
 use crate::words::words_of;
-use link_program::lib_rounds::{Given, LibraryFile, Loaded, RoundError, load_rounds};
-use link_program::link_plan::Plan;
-use link_program::made_symbols::Mode;
-use link_program::wl_base::Seq;
-use link_program::wl_outside::Gate;
+use lib_rounds::{Given, LibraryFile, Loaded, RoundError, load_rounds};
+use link_plan::Plan;
+use made_symbols::Mode;
 use std::alloc::Global;
 use std::thread::Threads;
+use wl_base::Seq;
+use wl_outside::Gate;
 
 /// Loads what is needed, where all objects of the words are read.
 fn load_given(

@@ -1,6 +1,6 @@
 //! Why inputs aren't loaded.
 
-use link_program::wl_base::{Fault, OutOfMemory};
+use wl_base::{Fault, OutOfMemory};
 
 /// Why the inputs of a link aren't loaded.
 #[derive(Debug, PartialEq, Eq, Drop)]

@@ -1,10 +1,10 @@
 //! What is loaded.
 ghost use Rattle.std.specs.Prelude.{◌≡◌};
 
+use lib_rounds::Loaded;
 use link_program::Home;
-use link_program::lib_rounds::Loaded;
-use link_program::object_file::Object;
-use link_program::wl_base::Seq;
+use object_file::Object;
+use wl_base::Seq;
 
 /// The loaded objects of a link, and where each input's bytes begin.
 #[derive(Debug, Drop)]

@@ -4,7 +4,7 @@ ghost use Rattle.link_program.specs.link_rules.Candidates.{total_len};
 ghost use Rattle.link_inputs.specs.Opened.{count_in, input_count};
 
 use crate::opening::OpenFile;
-use link_program::wl_base::Seq;
+use wl_base::Seq;
 
 /// How many bytes the files have together, or 2^64 - 1 where that is greater.
 pub fn total_len(files: &[Seq<u8>]) -> u64

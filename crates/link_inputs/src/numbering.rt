@@ -6,12 +6,12 @@ ghost use Rattle.link_inputs.specs.Sources.{homes_in, IsAdded, AreSources};
 
 use crate::limits::inputs_in;
 use crate::opening::OpenFile;
+use lib_index::Library;
+use lib_rounds::LibraryFile;
+use link_plan::InputWord;
 use link_program::Home;
-use link_program::lib_index::Library;
-use link_program::lib_rounds::LibraryFile;
-use link_program::link_plan::InputWord;
-use link_program::wl_base::{InputId, OutOfMemory, Seq};
 use std::alloc::Global;
+use wl_base::{InputId, OutOfMemory, Seq};
 
 /// An object of the words.
 #[derive(Clone, Copy, Debug, PartialEq, Eq)]

@@ -6,9 +6,9 @@ ghost use Rattle.link_inputs.specs.Opened.{opened_file, opened_from, opened_file
 
 use crate::fault::InputError;
 use crate::limits::{count_inputs, total_len};
-use link_program::lib_index::{LibError, Library, has_magic, read_index};
-use link_program::wl_base::{Fault, Seq};
+use lib_index::{LibError, Library, has_magic, read_index};
 use std::alloc::Global;
+use wl_base::{Fault, Seq};
 
 /// So many bytes are too many, over all files.
 const TOO_MANY_BYTES: u64 = 1 << 32;

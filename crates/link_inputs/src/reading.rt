@@ -8,13 +8,13 @@ ghost use Rattle.link_inputs.specs.Reading.{Reads, given_by, given_of, given_fro
 use crate::limits::total_len;
 use crate::numbering::ObjectFile;
 use crate::parts::{first_of, parts_of};
-use link_program::lib_rounds::Given;
-use link_program::object_file::{ObjectError, read_object};
-use link_program::wl_base::{Fault, InputId, OutOfMemory, Seq};
-use link_program::wl_fan::{Slices, each_slice};
-use link_program::wl_outside::{Gate, Phase};
+use lib_rounds::Given;
+use object_file::{ObjectError, read_object};
 use std::alloc::Global;
 use std::thread::Threads;
+use wl_base::{Fault, InputId, OutOfMemory, Seq};
+use wl_fan::{Slices, each_slice};
+use wl_outside::{Gate, Phase};
 
 /// Why an object of the words isn't read.
 #[derive(Debug, PartialEq, Eq, Drop)]

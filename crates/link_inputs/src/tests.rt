@@ -3,13 +3,13 @@ ghost use Rattle.std.specs.Prelude.{◌≡◌, ◌<◌, ◌≤◌, ◌^◌, Some
 ghost use Rattle.link_program.specs.link_plan.Plan.{IsPlan};
 
 use super::*;
-use link_program::link_plan::{InputWord, Plan};
-use link_program::wl_base::{Fault, OutOfMemory, Seq};
-use link_program::wl_outside::{Gate, OpenGate, Phase};
+use link_plan::{InputWord, Plan};
 use std::alloc::Global;
 use std::sync::atomic::{AtomicU64, Ordering};
 use std::test::Fail;
 use std::thread::Threads;
+use wl_base::{Fault, OutOfMemory, Seq};
+use wl_outside::{Gate, OpenGate, Phase};
 
 /// An object that refers to `a`.
 fn needs_a() -> &'static [u8] {

@@ -8,10 +8,10 @@ ghost use Rattle.link_inputs.specs.Reading.{FailsBy, Finds, fault_of, least_of, 
 
 use crate::fault::InputError;
 use crate::reading::ReadError;
-use link_program::lib_rounds::LibraryFile;
-use link_program::object_file::{ObjectError, read_object};
-use link_program::wl_base::{Fault, InputId, Seq, Span};
+use lib_rounds::LibraryFile;
+use object_file::{ObjectError, read_object};
 use std::alloc::Global;
+use wl_base::{Fault, InputId, Seq, Span};
 
 /// Reads a member of these bytes, as an input of this number.
 fn read_part(alloc: Global, input: InputId, bytes: &[u8], span: Span) -> Result<(), InputError>

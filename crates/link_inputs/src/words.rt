@@ -3,9 +3,9 @@ ghost use Rattle.std.specs.Prelude.{◌≡◌, IfOk, replicate};
 ghost use Rattle.link_program.specs.link_rules.Candidates.{plain_word};
 ghost use Rattle.link_inputs.specs.Words.{words_of};
 
-use link_program::link_plan::{InputWord, Plan};
-use link_program::wl_base::{OutOfMemory, Seq};
+use link_plan::{InputWord, Plan};
 use std::alloc::Global;
+use wl_base::{OutOfMemory, Seq};
 
 /// A word that is neither lazy nor whole, for each of so many files.
 fn plain_words(alloc: Global, count: usize) -> Result<Seq<InputWord>, OutOfMemory>

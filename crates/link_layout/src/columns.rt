@@ -2,9 +2,9 @@
 ghost use Rattle.std.specs.Prelude.{◌≡◌, false, not, map, replicate, slice_index_or, slice_set, IfOk};
 ghost use Rattle.link_layout.specs.Segments.{set_each};
 
-use link_program::memory_layout::SegmentShape;
-use link_program::wl_base::{OutOfMemory, Seq};
+use memory_layout::SegmentShape;
 use std::alloc::Global;
+use wl_base::{OutOfMemory, Seq};
 
 /// Of so many parts the addresses: those of these numbers have these addresses, and all others the first one.
 pub(crate) fn address_column(

@@ -3,8 +3,8 @@ ghost use Rattle.std.specs.Prelude.{◌≡◌};
 ghost use Rattle.link_program.specs.linking_section.Flags.{kind_code};
 ghost use Rattle.link_layout.specs.Seen.{index_of, function_of, function_meant, cell_meant, global_meant, global_named};
 
-use link_program::linking_section::SymbolKind;
 use link_program::{Definition, FunctionKey, GlobalKey, GotKey, Lead, Symbol};
+use linking_section::SymbolKind;
 
 /// The number of a kind (Linking.md, "Symbol Table Subsection").
 pub(crate) fn kind_code(kind: SymbolKind) -> u8

@@ -21,13 +21,13 @@ use crate::Placed;
 use crate::keys::{function_meant, function_of, global_named};
 use crate::moved::all_windows;
 use link_numbers::{Numbering, keys_are_told};
-use link_program::linking_section::SymbolKind;
-use link_program::mark_bits::{Chunk, ChunkTable};
-use link_program::memory_layout::Places;
-use link_program::reloc_apply::{Form, Window};
-use link_program::wl_base::{OutOfMemory, Seq};
 use link_program::{Definition, FunctionKey, GotKey, Lead, Named, Program, Symbol};
+use linking_section::SymbolKind;
+use mark_bits::{Chunk, ChunkTable};
+use memory_layout::Places;
+use reloc_apply::{Form, Window};
 use std::alloc::Global;
+use wl_base::{OutOfMemory, Seq};
 
 /// A program with all numbers of its output and the places of its segments, by reference.
 #[derive(Clone, Copy)]

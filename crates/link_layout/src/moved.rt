@@ -8,11 +8,11 @@ ghost use Rattle.link_layout.specs.Layout.{looked, AreThere};
 use crate::layout::number_of;
 use crate::segments::row_at;
 use crate::{Layout, Placed};
-use link_program::mark_bits::{Chunk, ChunkTable};
-use link_program::reloc_apply::Window;
-use link_program::wl_base::{OutOfMemory, Seq};
 use link_program::{FunctionKey, Tables};
+use mark_bits::{Chunk, ChunkTable};
+use reloc_apply::Window;
 use std::alloc::Global;
+use wl_base::{OutOfMemory, Seq};
 
 /// The number of the part that has the body of a function. What the linker makes has its numbers already.
 fn body_number(chunks: &ChunkTable, key: FunctionKey) -> Option<u32>

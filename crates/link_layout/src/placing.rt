@@ -11,11 +11,11 @@ ghost use Rattle.link_layout.specs.Placed.{AnswersColumns, AnswersPlaced};
 
 use crate::columns::{address_column, solid_column};
 use crate::segments::{segment_numbers, shapes_of};
+use link_plan::Plan;
 use link_program::Program;
-use link_program::link_plan::Plan;
-use link_program::memory_layout::{MemoryRules, Places, SegmentShape, place};
-use link_program::wl_base::{LayoutError, Seq};
+use memory_layout::{MemoryRules, Places, SegmentShape, place};
 use std::alloc::Global;
+use wl_base::{LayoutError, Seq};
 
 /// Where the data segments stand.
 #[derive(Debug, Drop)]

@@ -4,11 +4,11 @@ ghost use Rattle.std.specs.List.{list_all};
 ghost use Rattle.link_program.specs.image_emit.Bytes.{file_part};
 ghost use Rattle.link_layout.specs.Segments.{part_at, row_at, segment_numbers, align_of, shape_at, shape_by};
 
-use link_program::mark_bits::Chunk;
-use link_program::memory_layout::SegmentShape;
-use link_program::wl_base::{FileSpan, OutOfMemory, Seq, Span};
 use link_program::{Content, Named, Part, Tables};
+use mark_bits::Chunk;
+use memory_layout::SegmentShape;
 use std::alloc::Global;
+use wl_base::{FileSpan, OutOfMemory, Seq, Span};
 
 /// The part of a number.
 #[tactic(auto, using(crate::proofs::ReadAt::read))]

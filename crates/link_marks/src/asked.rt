@@ -3,10 +3,10 @@ ghost use Rattle.std.specs.Prelude.{◌≡◌, ◌++◌, ◌∷◌, [], List, �
 ghost use Rattle.link_program.specs.link_rules.Marks.{demanded};
 ghost use Rattle.link_marks.specs.Asked.{IsAsked};
 
+use link_plan::Plan;
 use link_program::link_names::Names;
-use link_program::link_plan::Plan;
-use link_program::wl_base::{Name, OutOfMemory};
 use std::alloc::Global;
+use wl_base::{Name, OutOfMemory};
 
 /// Notes that a name is asked for.
 #[tactic(auto, using(crate::proofs::Columns::one_more, crate::proofs::Columns::no_more, crate::proofs::Columns::number_within))]

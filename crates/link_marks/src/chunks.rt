@@ -2,11 +2,11 @@
 ghost use Rattle.std.specs.Prelude.{◌≡◌, Some, IfOk};
 ghost use Rattle.link_marks.specs.Seen.{defined_chunk, number_in, led_number, led_numbers};
 
-use link_program::linking_section::SymbolKind;
-use link_program::mark_bits::{Chunk, ChunkTable};
-use link_program::wl_base::OutOfMemory;
 use link_program::{Definition, Lead, Symbol};
+use linking_section::SymbolKind;
+use mark_bits::{Chunk, ChunkTable};
 use std::alloc::Global;
+use wl_base::OutOfMemory;
 
 /// The chunk of a definition. The linker's data and its table are no chunks.
 fn chunk_of(definition: Definition) -> Option<Chunk>

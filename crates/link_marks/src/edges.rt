@@ -4,11 +4,11 @@ ghost use Rattle.link_marks.specs.Seen.{named_number, led_numbers, targets_seen}
 
 use crate::chunks::numbers_led;
 use crate::numbers::push_some;
-use link_program::wl_base::{OutOfMemory, Seq};
-use link_program::wl_lists::Lists;
 use link_program::{Named, Tables};
 use live_mark::Edges;
 use std::alloc::Global;
+use wl_base::{OutOfMemory, Seq};
+use wl_lists::Lists;
 
 /// The number of the chunk to which an item leads.
 fn number_named(led: &[Option<u32>], named: Named) -> Option<u32>

@@ -10,14 +10,14 @@ ghost use Rattle.link_marks.specs.About.{Exporting};
 use crate::edges::edges_of;
 use crate::numbers::push_if;
 use crate::roots::roots_of;
-use link_program::mark_bits::MarkSet;
-use link_program::wl_base::{OutOfMemory, Seq};
-use link_program::wl_fan::Workers;
-use link_program::wl_outside::Gate;
 use link_program::{Program, Winner};
 use live_mark::{live, reached_exactly};
+use mark_bits::MarkSet;
 use std::alloc::Global;
 use std::thread::Threads;
+use wl_base::{OutOfMemory, Seq};
+use wl_fan::Workers;
+use wl_outside::Gate;
 
 /// The live parts.
 #[derive(Drop)]

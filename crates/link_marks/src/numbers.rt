@@ -1,7 +1,7 @@
 //! Lists of numbers that grow.
 ghost use Rattle.std.specs.Prelude.{◌≡◌, ◌++◌, ◌∷◌, [], if◌then◌else◌, option_to_list, OnOk};
 
-use link_program::wl_base::{OutOfMemory, Seq};
+use wl_base::{OutOfMemory, Seq};
 
 /// Adds a number, if there is one.
 pub(crate) fn push_some(numbers: &mut Seq<u32>, number: Option<u32>) -> Result<(), OutOfMemory>

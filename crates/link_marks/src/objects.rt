@@ -4,7 +4,7 @@ ghost use Rattle.std.specs.List.{find};
 ghost use Rattle.link_program.specs.name_entries.View.{InputsRise};
 
 use link_program::object_file::Object;
-use link_program::wl_base::InputId;
+use wl_base::InputId;
 
 /// The object at a place.
 fn object_at(objects: &[Object], place: usize) -> Option<&Object>

@@ -14,16 +14,16 @@ ghost use Rattle.link_marks.specs.Open.{missing_seen, first_missing, symbol_name
 
 use crate::live::Live;
 use crate::objects::object_of;
+use link_plan::Plan;
 use link_program::Program;
 use link_program::link_names::Names;
-use link_program::link_plan::Plan;
 use link_program::object_file::Object;
-use link_program::symbol_race::Winners;
-use link_program::wl_base::{Fault, InputId, Name, OutOfMemory, Seq};
 use name_unresolved::first_unresolved;
 use name_unresolved::laws::resolved_is_meant;
 use std::alloc::Global;
 use std::thread::Threads;
+use symbol_race::Winners;
+use wl_base::{Fault, InputId, Name, OutOfMemory, Seq};
 
 /// A name that has no winner.
 fn missing(

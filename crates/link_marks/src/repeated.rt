@@ -12,9 +12,9 @@ ghost use Rattle.link_marks.specs.Names.{memory_given, given_seen, AreGiven};
 use crate::exported::name_seen;
 use link_program::link_names::Names;
 use link_program::object_file::Object;
-use link_program::wl_base::{Fault, InputId, NameTable, OutOfMemory, Seq};
 use link_program::{Program, Winner};
 use std::alloc::Global;
+use wl_base::{Fault, InputId, NameTable, OutOfMemory, Seq};
 
 /// The names that were given, and the input of what each names.
 #[derive(Drop)]

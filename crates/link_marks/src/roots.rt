@@ -4,11 +4,11 @@ ghost use Rattle.link_marks.specs.Seen.{winner_numbers, is_not_stripped, number_
 
 use crate::chunks::number_defined;
 use crate::numbers::push_some;
-use link_program::linking_section::{NO_STRIP, RETAIN};
-use link_program::mark_bits::ChunkTable;
-use link_program::wl_base::{OutOfMemory, Seq};
 use link_program::{Content, Part, Tables, Winner};
+use linking_section::{NO_STRIP, RETAIN};
+use mark_bits::ChunkTable;
 use std::alloc::Global;
+use wl_base::{OutOfMemory, Seq};
 
 /// Adds the chunks of winners.
 fn add_winners(

@@ -7,17 +7,17 @@ use crate::edges::edges_of;
 use crate::exported::chosen;
 use crate::repeated::first_repeat;
 use crate::roots::roots_of;
+use link_plan::Plan;
 use link_program::link_names::Names;
-use link_program::link_plan::Plan;
-use link_program::linking_section::{EXPORTED, HIDDEN, NO_STRIP, RETAIN, SymbolKind};
-use link_program::made_symbols::Mode;
-use link_program::mark_bits::{Chunk, ChunkTable};
 use link_program::object_file::Object;
-use link_program::wl_base::{Fault, FileSpan, Name, OutOfMemory, Seq, Span};
-use link_program::wl_lists::Lists;
 use link_program::{Content, Definition, Lead, Named, Part, Symbol, Tables, Winner};
+use linking_section::{EXPORTED, HIDDEN, NO_STRIP, RETAIN, SymbolKind};
+use made_symbols::Mode;
+use mark_bits::{Chunk, ChunkTable};
 use std::alloc::Global;
 use std::test::Fail;
+use wl_base::{Fault, FileSpan, Name, OutOfMemory, Seq, Span};
+use wl_lists::Lists;
 
 const NOWHERE: FileSpan = FileSpan {
     file: 0,

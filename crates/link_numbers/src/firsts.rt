@@ -3,8 +3,8 @@ ghost use Rattle.std.specs.Prelude.{◌≡◌, [], replicate, slice_index_or, le
 ghost use Rattle.link_numbers.specs.Firsts.{first_at, firsts_row, firsts_rows};
 
 use link_program::link_names::Names;
-use link_program::wl_base::OutOfMemory;
 use std::alloc::Global;
+use wl_base::OutOfMemory;
 
 /// A symbol, by the place of its object among the objects and its place there.
 #[derive(Clone, Copy, Debug)]

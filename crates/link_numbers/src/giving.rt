@@ -26,10 +26,10 @@ use crate::numbering::Numbering;
 use crate::places::Places;
 use crate::types::{TypeNumbers, numbers_in, types_of};
 use link_program::name_entries::Entries;
-use link_program::wasm_types::FuncType;
-use link_program::wl_base::{LayoutError, OutOfMemory, Seq, What};
 use link_program::{FunctionKey, GlobalKey, Program, Winner};
 use std::alloc::Global;
+use wasm_types::FuncType;
+use wl_base::{LayoutError, OutOfMemory, Seq, What};
 
 /// The number of the first slot; slot 0 stays empty.
 const FIRST_SLOT: u32 = 1;

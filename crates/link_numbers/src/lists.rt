@@ -10,12 +10,12 @@ use crate::marking::part_at;
 use crate::marks::Marks;
 use crate::{Code, function_code, global_code};
 use indexmap::IndexSet;
-use link_program::linking_section::SymbolKind;
-use link_program::mark_bits::Chunk;
 use link_program::name_meanings::{ImportType, Resolution};
-use link_program::wl_base::OutOfMemory;
 use link_program::{FunctionKey, GlobalKey, GotKey, Program, Tables, Winner};
+use linking_section::SymbolKind;
+use mark_bits::Chunk;
 use std::alloc::Global;
+use wl_base::OutOfMemory;
 
 /// The flag at a place.
 #[tactic(auto, using(crate::proofs::ReadAt::read))]

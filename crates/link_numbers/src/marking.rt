@@ -5,11 +5,11 @@ ghost use Rattle.link_numbers.specs.LiveRefs.{part_at, row_at, is_code};
 ghost use Rattle.link_numbers.specs.Noted.{noted, noted_part, noted_parts, nothing_noted};
 
 use crate::marks::Marks;
-use link_program::linking_section::SymbolKind;
-use link_program::mark_bits::Chunk;
-use link_program::wl_base::{FileSpan, OutOfMemory, Span};
 use link_program::{Content, Lead, Named, Part, Symbol, Tables};
+use linking_section::SymbolKind;
+use mark_bits::Chunk;
 use std::alloc::Global;
+use wl_base::{FileSpan, OutOfMemory, Span};
 
 /// The symbol at a place.
 #[tactic(auto, using(crate::proofs::ReadAt::read))]

@@ -5,11 +5,11 @@ ghost use Rattle.link_numbers.specs.Noted.{import_named, is_null_lead, stub_call
 
 use crate::{Code, function_code, got_code};
 use indexmap::IndexSet;
-use link_program::linking_section::SymbolKind;
-use link_program::wl_base::OutOfMemory;
 use link_program::{Definition, FunctionKey, GotKey, Lead, Symbol};
+use linking_section::SymbolKind;
 use std::alloc::Global;
 use std::marker::Model;
+use wl_base::OutOfMemory;
 
 /// What was noted.
 #[derive(Drop)]

@@ -6,11 +6,11 @@ ghost use Rattle.link_numbers.specs.Numbered.{is_import, is_import_global};
 
 use crate::places::Places;
 use crate::{function_code, global_code};
-use link_program::type_merge::TypeTable;
-use link_program::wasm_types::FuncType;
-use link_program::wl_base::Seq;
 use link_program::{FunctionKey, GlobalKey};
 use std::marker::Model;
+use type_merge::TypeTable;
+use wasm_types::FuncType;
+use wl_base::Seq;
 
 /// The numbers of all things of the output (Core 2.5.1): of functions, slots of the table, globals and types. A number is a place in a
 /// list; imports come first.

@@ -7,8 +7,8 @@ ghost use Rattle.link_numbers.specs.Places.{place_of, noted_place, ArePlaces};
 
 use crate::Code;
 use indexmap::IndexMap;
-use link_program::wl_base::OutOfMemory;
 use std::alloc::Global;
+use wl_base::OutOfMemory;
 
 /// Codes, each with its place in a list: the first one, where it stands there twice.
 #[derive(Drop)]

@@ -14,12 +14,12 @@ use crate::marks::Marks;
 use link_program::name_entries::{Entries, TypeRef};
 use link_program::name_meanings::{ImportType, Resolution};
 use link_program::object_columns::FuncTypeRef;
-use link_program::type_merge::TypeTable;
-use link_program::wasm_types::FuncType;
-use link_program::wl_base::OutOfMemory;
 use link_program::{Content, Part, Program, Tables};
 use std::alloc::Global;
 use std::marker::Model;
+use type_merge::TypeTable;
+use wasm_types::FuncType;
+use wl_base::OutOfMemory;
 
 /// The different types, and the numbers of those that were added, in their order.
 #[derive(Drop)]

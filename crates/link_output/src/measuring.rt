@@ -3,9 +3,9 @@ ghost use Rattle.std.specs.Prelude.{◌≡◌};
 ghost use Rattle.link_output.specs.Written.{Measures, is_exact};
 ghost use Rattle.link_program.specs.image_emit.Measures.{LieIn};
 
-use link_program::image_emit::{Image, Measured, measure};
-use link_program::wl_base::{LayoutError, Seq};
+use image_emit::{Image, Measured, measure};
 use std::alloc::Global;
+use wl_base::{LayoutError, Seq};
 
 /// The length of the output, and where its sources stand: the bodies, then the blocks.
 ///

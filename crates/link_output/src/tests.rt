@@ -1,9 +1,9 @@
 use crate::measured;
-use link_program::image_emit::{Image, PlacedSource, Source};
-use link_program::wasm_types::ConstExpr;
-use link_program::wl_base::{OutOfMemory, Seq};
+use image_emit::{Image, PlacedSource, Source};
 use std::alloc::Global;
 use std::test::Fail;
+use wasm_types::ConstExpr;
+use wl_base::{OutOfMemory, Seq};
 
 // Four bytes of data at address 1024.
 fn image_of(alloc: Global) -> Result<Image, OutOfMemory> {
@@ -34,7 +34,7 @@ fn lengths(alloc: Global) -> Option<(u64, u64)> {
         return None;
     };
     let files = Seq::new(alloc);
-    if !link_program::image_emit::lie_in(files.as_slice(), &image) {
+    if !image_emit::lie_in(files.as_slice(), &image) {
         return None;
     }
     match measured(alloc, files.as_slice(), &image) {

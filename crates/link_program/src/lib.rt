@@ -9,29 +9,43 @@ mod program;
 mod symbol;
 
 pub use home::Home;
-pub use image_emit;
-pub use index_layout;
 pub use keys::{FunctionKey, GlobalKey, GotKey};
-pub use lib_index;
-pub use lib_rounds;
-pub use link_plan;
-pub use link_rules;
-pub use mark_bits;
-pub use memory_layout;
-pub use name_entries;
-pub use name_entries::{
-    body_windows, link_names, linking_section, made_symbols, name_rules, object_columns,
-    object_file, object_parts, object_rules, reloc_section, wasm_module, wasm_types, wl_base,
-    wl_lists,
-};
-pub use name_meanings;
 pub use named::Named;
 pub use part::{Content, Part};
 pub use program::{Program, Tables};
-pub use reloc_apply;
 pub use symbol::{Definition, Lead, Symbol, Winner};
-pub use symbol_race;
-pub use table_layout;
-pub use type_merge;
-pub use wl_fan;
-pub use wl_outside;
+
+/// What the crates above name of `link_names`.
+pub mod link_names {
+    pub use name_entries::link_names::Names;
+}
+
+/// What the crates above name of `name_entries`.
+pub mod name_entries {
+    pub use name_entries::{Entries, EntryRef, EntryTable, ObjectParts, TypeRef};
+}
+
+/// What the crates above name of `name_meanings`.
+pub mod name_meanings {
+    pub use name_meanings::{ImportType, Resolution};
+}
+
+/// What the crates above name of `name_rules`.
+pub mod name_rules {
+    pub use name_entries::name_rules::{Meaning, PairCase};
+}
+
+/// What the crates above name of `object_columns`.
+pub mod object_columns {
+    pub use name_entries::object_columns::{FuncTypeRef, FunctionRef, SegmentRef, SymbolRef};
+}
+
+/// What the crates above name of `object_file`.
+pub mod object_file {
+    pub use name_entries::object_file::{GlobalDef, Object};
+}
+
+/// What the crates above name of `object_rules`.
+pub mod object_rules {
+    pub use name_entries::object_rules::ImportPlaces;
+}

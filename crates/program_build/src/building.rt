@@ -11,16 +11,16 @@ use crate::error::BuildError;
 use crate::found::Found;
 use crate::meanings::{Meanings, meanings_of};
 use crate::numbers::numbers_of;
+use link_plan::Plan;
 use link_program::Home;
-use link_program::link_plan::Plan;
-use link_program::made_symbols::Mode;
 use link_program::name_entries::EntryTable;
 use link_program::object_file::Object;
-use link_program::wl_fan::Workers;
-use link_program::wl_outside::Gate;
+use made_symbols::Mode;
 use name_jobs::group_winners;
 use std::alloc::Global;
 use std::thread::Threads;
+use wl_fan::Workers;
+use wl_outside::Gate;
 
 /// What the loaded objects are as a program: the numbers of their names, who wins each name, what each symbol means, and the tables of
 /// their symbols, parts and references. `homes` has where the bytes of each candidate begin.

@@ -8,13 +8,13 @@ ghost use Rattle.program_build.specs.Steps.{Passes};
 
 use crate::error::BuildError;
 use link_program::link_names::Names;
-use link_program::made_symbols::Mode;
 use link_program::name_entries::Entries;
 use link_program::name_rules::PairCase;
-use link_program::wl_base::{Fault, OutOfMemory, Seq};
+use made_symbols::Mode;
 use name_cases::{first_clash, first_duplicate};
 use std::alloc::Global;
 use std::thread::Threads;
+use wl_base::{Fault, OutOfMemory, Seq};
 
 /// The name of a number; the empty one where there is no such name.
 fn name_at(names: &Names, number: u32) -> &[u8]

@@ -1,6 +1,6 @@
 //! Why a program isn't built.
 
-use link_program::wl_base::{Fault, OutOfMemory};
+use wl_base::{Fault, OutOfMemory};
 
 /// Why nothing is found.
 #[derive(Debug, PartialEq, Eq, Drop)]

@@ -7,18 +7,18 @@ ghost use Rattle.program_build.specs.Steps.{MeansOrRefused};
 
 use crate::cases::refuse_cases;
 use crate::error::BuildError;
-use link_program::link_plan::Plan;
-use link_program::made_symbols::Mode;
+use link_plan::Plan;
 use link_program::name_entries::Entries;
-use link_program::name_meanings::{Resolution, resolve};
-use link_program::symbol_race::Winners;
-use link_program::wl_fan::Workers;
-use link_program::wl_outside::Gate;
 use link_program::{Home, Tables};
+use made_symbols::Mode;
 use name_jobs::name_winners;
+use name_meanings::{Resolution, resolve};
 use program_tables::tables_of;
 use std::alloc::Global;
 use std::thread::Threads;
+use symbol_race::Winners;
+use wl_fan::Workers;
+use wl_outside::Gate;
 
 /// What is found by a view of the objects.
 #[derive(Drop)]

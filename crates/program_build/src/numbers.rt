@@ -3,12 +3,12 @@ ghost use Rattle.program_build.specs.Steps.{Numbered};
 
 use crate::error::BuildError;
 use crate::words::words_of;
+use link_plan::Plan;
 use link_program::link_names::Names;
-use link_program::link_plan::Plan;
-use link_program::made_symbols::Mode;
 use link_program::object_file::Object;
-use link_program::wl_base::{Fault, NameFault};
+use made_symbols::Mode;
 use std::alloc::Global;
+use wl_base::{Fault, NameFault};
 
 /// The most different names that a link may have.
 const MOST_NAMES: u32 = 1 << 24;

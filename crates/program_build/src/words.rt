@@ -2,9 +2,9 @@
 ghost use Rattle.std.specs.Prelude.{◌≡◌, ◌++◌, ◌∷◌, [], OnOk, IfOk};
 ghost use Rattle.link_program.specs.link_rules.LinkOf.{asked_names};
 
-use link_program::link_plan::Plan;
-use link_program::wl_base::{Name, OutOfMemory, Seq};
+use link_plan::Plan;
 use std::alloc::Global;
+use wl_base::{Name, OutOfMemory, Seq};
 
 /// Puts a copy of a name at the end.
 fn add_name(alloc: Global, names: &mut Seq<Name>, name: &[u8]) -> Result<(), OutOfMemory>

@@ -11,12 +11,12 @@ ghost use Rattle.link_program.specs.Told.{told_definition};
 ghost use Rattle.program_tables.specs.Leads.{made_definition};
 
 use link_program::Definition;
-use link_program::linking_section::SymbolKind;
-use link_program::made_symbols::{Mode, kind};
 use link_program::name_entries::Entries;
 use link_program::object_columns::SymbolRef;
 use link_program::object_file::Object;
 use link_program::object_rules::ImportPlaces;
+use linking_section::SymbolKind;
+use made_symbols::{Mode, kind};
 
 /// An index without so many imports, which come first.
 fn without(index: u32, imports: usize) -> u32

@@ -9,10 +9,10 @@ ghost use Rattle.program_tables.specs.Views.{view_seen, view_at};
 use crate::pushing::push_some;
 use crate::view::{Lookups, ObjectView};
 use link_program::Named;
-use link_program::linking_section::InitFunc;
 use link_program::name_entries::{Entries, EntryRef};
-use link_program::wl_base::{OutOfMemory, Seq};
+use linking_section::InitFunc;
 use std::alloc::Global;
+use wl_base::{OutOfMemory, Seq};
 
 /// A call of an init function. Those of lesser priority come first.
 #[derive(Clone, Copy)]

@@ -4,8 +4,8 @@ ghost use Rattle.link_program.specs.name_entries.Fits.{FitsObjects};
 ghost use Rattle.program_tables.specs.Objects.{ArePlaces};
 
 use link_program::name_entries::Entries;
-use link_program::wl_base::{InputId, OutOfMemory, Seq};
 use std::alloc::Global;
+use wl_base::{InputId, OutOfMemory, Seq};
 
 /// Puts zeros at the end, up to the place of an input.
 fn pad(places: &mut Seq<u32>, input: InputId) -> Result<(), OutOfMemory>

@@ -12,15 +12,15 @@ ghost use Rattle.program_tables.specs.Gains.{Gains, AreGained, rank_of, AllBelow
 
 use crate::inits::init_calls;
 use crate::view::{Lookups, NO_SOURCE, ObjectView};
-use link_program::linking_section::SymbolKind;
-use link_program::made_symbols::{Mode, count, kind};
-use link_program::mark_bits::{Chunk, ChunkTable};
 use link_program::object_columns::{FunctionRef, SegmentRef};
 use link_program::object_file::GlobalDef;
-use link_program::wl_base::{OutOfMemory, Seq};
-use link_program::wl_lists::{Lists, shrunk};
 use link_program::{Content, Named, Part};
+use linking_section::SymbolKind;
+use made_symbols::{Mode, count, kind};
+use mark_bits::{Chunk, ChunkTable};
 use std::alloc::Global;
+use wl_base::{OutOfMemory, Seq};
+use wl_lists::{Lists, shrunk};
 
 /// Parts, and by part what it names and its chunk.
 #[derive(Drop)]

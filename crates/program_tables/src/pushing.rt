@@ -2,7 +2,7 @@
 ghost use Rattle.std.specs.Prelude.{◌≡◌, ◌++◌, [], OnOk};
 ghost use Rattle.std.specs.List.{cons_option};
 
-use link_program::wl_base::{OutOfMemory, Seq};
+use wl_base::{OutOfMemory, Seq};
 
 /// Puts the item at the end, if there is one.
 pub(crate) fn push_some<T: Drop>(items: &mut Seq<T>, item: Option<T>) -> Result<(), OutOfMemory>

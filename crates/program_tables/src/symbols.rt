@@ -11,9 +11,9 @@ use crate::definitions::{definition_at, made_definition};
 use link_program::name_entries::Entries;
 use link_program::name_meanings::Resolution;
 use link_program::name_rules::Meaning;
-use link_program::wl_base::{OutOfMemory, Seq};
 use link_program::{Lead, Symbol};
 use std::alloc::Global;
+use wl_base::{OutOfMemory, Seq};
 
 /// What symbols are looked up in.
 #[derive(Clone, Copy)]

@@ -18,10 +18,10 @@ use crate::view::Lookups;
 use crate::winners::all_winners;
 use link_program::name_entries::Entries;
 use link_program::name_meanings::Resolution;
-use link_program::symbol_race::Winners;
-use link_program::wl_base::OutOfMemory;
 use link_program::{Home, Tables};
 use std::alloc::Global;
+use symbol_race::Winners;
+use wl_base::OutOfMemory;
 
 /// The tables of the program of these loaded objects, by the numbers of names and imports. `ranks` has the winner of each name,
 /// `resolution` what each symbol means, `homes` where the bytes of each candidate begin.

@@ -7,11 +7,11 @@ ghost use Rattle.program_tables.specs.Types.{Keep, AreNumbered, AreTyped};
 
 use link_program::object_columns::FuncTypeRef;
 use link_program::object_file::Object;
-use link_program::type_merge::TypeTable;
-use link_program::wasm_types::FuncType;
-use link_program::wl_base::{OutOfMemory, Seq};
-use link_program::wl_lists::Lists;
 use std::alloc::Global;
+use type_merge::TypeTable;
+use wasm_types::FuncType;
+use wl_base::{OutOfMemory, Seq};
+use wl_lists::Lists;
 
 /// The function types, each once, and by object the numbers of its types.
 #[derive(Drop)]

@@ -7,8 +7,8 @@ ghost use Rattle.program_tables.specs.Views.{view_seen, view_at, keeps_function,
 use link_program::Home;
 use link_program::name_entries::{Entries, ObjectParts};
 use link_program::object_file::Object;
-use link_program::wl_base::{FileSpan, InputId, OutOfMemory, Seq, Span};
-use link_program::wl_lists::Lists;
+use wl_base::{FileSpan, InputId, OutOfMemory, Seq, Span};
+use wl_lists::Lists;
 
 /// The objects, and the numbers of their symbols and types.
 #[derive(Clone, Copy)]

@@ -6,10 +6,10 @@ ghost use Rattle.program_tables.specs.Rows.{symbol_named, operand_named, window_
 
 use crate::pushing::push_some;
 use crate::view::ObjectView;
+use body_windows::{Operand, OperandsRef};
 use link_program::Named;
-use link_program::body_windows::{Operand, OperandsRef};
-use link_program::reloc_section::Reloc;
-use link_program::wl_base::{OutOfMemory, Seq};
+use reloc_section::Reloc;
+use wl_base::{OutOfMemory, Seq};
 
 impl ObjectView<'_> {
     /// A window that names a symbol of the object; `None` exactly where there is no such symbol.

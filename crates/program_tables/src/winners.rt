@@ -10,11 +10,11 @@ ghost use Rattle.program_tables.specs.Winners.{is_rank, winner_of, winners_in};
 use crate::definitions::{definition_at, made_definition};
 use crate::pushing::push_some;
 use link_program::Winner;
-use link_program::made_symbols::{Mode, class, count};
 use link_program::name_entries::Entries;
-use link_program::symbol_race::{Winners, rank};
-use link_program::wl_base::{OutOfMemory, Seq};
+use made_symbols::{Mode, class, count};
 use std::alloc::Global;
+use symbol_race::{Winners, rank};
+use wl_base::{OutOfMemory, Seq};
 
 /// The flags of a linker-made symbol: HIDDEN.
 const MADE_FLAGS: u32 = 0x04;

@@ -1,6 +1,5 @@
-use Rattle.std.proofs.Common.{rules, ap, subst, sym, ◌∙◌, All}
+use Rattle.std.proofs.Common.{rules, ap, ◌∙◌}
 use Rattle.std.proofs.lemmas.Result.{err_from_is_err_and}
-use Rattle.link_program.specs.reloc_apply.Windows.{IsSum}
 use Rattle.link_program.specs.Moved.{moved_windows}
 use Rattle.link_core.proofs.Answering.{the_image, the_windows, lie_there, stand_there, measure_failed, write_failed, wrote}
 use Rattle.link_core.proofs.layers.write_out.Goals as goal
@@ -21,8 +20,8 @@ write-requires g c κs within =
     let files =
     lie_there c.args.files.now g.s.program.files (the_image g.s) c.in_ok-image.image (search rules) c.in_ok-image.ensures
     (c.windows_stand_in_sources.ensures.lie g.s.program c.args.live.now g.s.parts g.s.exports (search rules) (search rules)) in
-    let windows = c.as_slice-2.ensures ∙ c.in_ok-windows.ensures.is ∙ ap (λ ks. moved_windows ks (the_windows g.s)) c.as_slice.ensures in
-    let sums = subst (λ ws. All IsSum ws) (sym c.as_slice-2.ensures) c.in_ok-windows.ensures.sums in
+    let windows = c.in_ok-windows.ensures.is ∙ ap (λ ks. moved_windows ks (the_windows g.s)) c.as_slice.ensures in
+    let sums = c.in_ok-windows.ensures.sums in
     let stand =
     stand_there c.args.files.now g.s.program.files (the_image g.s) c.in_ok-image.image (the_windows g.s) (search rules) c.in_ok-image.ensures
     (c.windows_stand_in_sources.ensures.stand g.s.program c.args.live.now g.s.parts g.s.exports (search rules) (search rules)) in

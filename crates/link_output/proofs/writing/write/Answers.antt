@@ -4,12 +4,12 @@ use Rattle.link_output.proofs.writing.write.Goals as goal
 
 pub put-requires-clause-apart : goal.put-requires-clause-apart
 put-requires-clause-apart g c κs within =
-    apart c.args.files.now c.args.image.now c.args.m.now g.wss c.args.windows.now (search rules) (search rules) (search rules) (search rules) c.in-Ok.patches.patches c.in-Ok.ensures
+    apart c.args.files.now c.args.image.now c.args.m.now g.wss c.args.windows (search rules) (search rules) (search rules) (search rules) c.in-Ok.patches.patches c.in-Ok.ensures
 
 pub returns-clause-is : goal.returns-clause-is
 returns-clause-is g c =
     let same : c.from_vec.result ≡ c.put.new.out = c.from_vec.ensures ∙ front_is c.in_ok-bytes.bytes.len c.put.new.out c.in_ok-bytes.bytes.items (c.put.ensures.len ∙ search rules) in
-    writes c.args.files.now c.args.image.now c.args.m.now g.wss c.args.windows.now (search rules) (search rules) (search rules) (search rules) c.in-Ok.patches.patches c.from_vec.result c.in-Ok.ensures (same ∙ c.put.ensures.bytes)
+    writes c.args.files.now c.args.image.now c.args.m.now g.wss c.args.windows (search rules) (search rules) (search rules) (search rules) c.in-Ok.patches.patches c.from_vec.result c.in-Ok.ensures (same ∙ c.put.ensures.bytes)
 
 pub returns-clause-len : goal.returns-clause-len
 returns-clause-len g c =
