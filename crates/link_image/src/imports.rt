@@ -4,8 +4,7 @@ ghost use Rattle.std.specs.Option.{option_to_list};
 ghost use Rattle.link_program.specs.name_meanings.Kept.{type_kept};
 ghost use Rattle.link_image.specs.Imports.{kind_seen, import_seen, function_seen, global_seen, functions_seen};
 
-use link_program::name_meanings::{ImportType, Resolution};
-use link_program::{FunctionKey, GlobalKey};
+use link_program::{FunctionKey, GlobalKey, ImportType, Resolution};
 use std::alloc::Global;
 use wasm_types::{GlobalType, Import, ImportKind};
 use wl_base::{OutOfMemory, Seq};

@@ -4,7 +4,7 @@ ghost use Rattle.link_program.specs.link_rules.Marks.{demanded};
 ghost use Rattle.link_marks.specs.Asked.{IsAsked};
 
 use link_plan::Plan;
-use link_program::link_names::Names;
+use link_program::Names;
 use std::alloc::Global;
 use wl_base::{Name, OutOfMemory};
 

@@ -12,9 +12,7 @@ ghost use Rattle.link_marks.specs.Names.{own_name, name_seen, IsWinner};
 
 use crate::asked::asked_names;
 use crate::objects::object_of;
-use link_program::link_names::Names;
-use link_program::object_file::Object;
-use link_program::{Definition, Program, Winner};
+use link_program::{Definition, Names, Object, Program, Winner};
 use linking_section::{EXPORTED, HIDDEN, SymbolKind};
 use std::alloc::Global;
 use wl_base::{OutOfMemory, Seq};

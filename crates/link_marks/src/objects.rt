@@ -3,7 +3,7 @@ ghost use Rattle.std.specs.Prelude.{◌≡◌, ◌==◌, option_copied, slice_ge
 ghost use Rattle.std.specs.List.{find};
 ghost use Rattle.link_program.specs.name_entries.View.{InputsRise};
 
-use link_program::object_file::Object;
+use link_program::Object;
 use wl_base::InputId;
 
 /// The object at a place.

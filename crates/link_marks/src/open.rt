@@ -15,9 +15,7 @@ ghost use Rattle.link_marks.specs.Open.{missing_seen, first_missing, symbol_name
 use crate::live::Live;
 use crate::objects::object_of;
 use link_plan::Plan;
-use link_program::Program;
-use link_program::link_names::Names;
-use link_program::object_file::Object;
+use link_program::{Names, Object, Program};
 use name_unresolved::first_unresolved;
 use name_unresolved::laws::resolved_is_meant;
 use std::alloc::Global;

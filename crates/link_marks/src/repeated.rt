@@ -10,9 +10,7 @@ ghost use Rattle.link_marks.specs.About.{Exporting};
 ghost use Rattle.link_marks.specs.Names.{memory_given, given_seen, AreGiven};
 
 use crate::exported::name_seen;
-use link_program::link_names::Names;
-use link_program::object_file::Object;
-use link_program::{Program, Winner};
+use link_program::{Names, Object, Program, Winner};
 use std::alloc::Global;
 use wl_base::{Fault, InputId, NameTable, OutOfMemory, Seq};
 

@@ -2,7 +2,7 @@
 ghost use Rattle.std.specs.Prelude.{◌≡◌, [], replicate, slice_index_or, length, IfOk};
 ghost use Rattle.link_numbers.specs.Firsts.{first_at, firsts_row, firsts_rows};
 
-use link_program::link_names::Names;
+use link_program::Names;
 use std::alloc::Global;
 use wl_base::OutOfMemory;
 

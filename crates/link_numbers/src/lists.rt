@@ -10,8 +10,9 @@ use crate::marking::part_at;
 use crate::marks::Marks;
 use crate::{Code, function_code, global_code};
 use indexmap::IndexSet;
-use link_program::name_meanings::{ImportType, Resolution};
-use link_program::{FunctionKey, GlobalKey, GotKey, Program, Tables, Winner};
+use link_program::{
+    FunctionKey, GlobalKey, GotKey, ImportType, Program, Resolution, Tables, Winner,
+};
 use linking_section::SymbolKind;
 use mark_bits::Chunk;
 use std::alloc::Global;

@@ -11,10 +11,9 @@ use crate::firsts::At;
 use crate::lists::{flag_at, is_function_import, is_own};
 use crate::marking::part_at;
 use crate::marks::Marks;
-use link_program::name_entries::{Entries, TypeRef};
-use link_program::name_meanings::{ImportType, Resolution};
-use link_program::object_columns::FuncTypeRef;
-use link_program::{Content, Part, Program, Tables};
+use link_program::{
+    Content, Entries, FuncTypeRef, ImportType, Part, Program, Resolution, Tables, TypeRef,
+};
 use std::alloc::Global;
 use std::marker::Model;
 use type_merge::TypeTable;

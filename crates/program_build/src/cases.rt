@@ -7,9 +7,7 @@ ghost use Rattle.name_cases.specs.Told.{clash_told, duplicate_told};
 ghost use Rattle.program_build.specs.Steps.{Passes};
 
 use crate::error::BuildError;
-use link_program::link_names::Names;
-use link_program::name_entries::Entries;
-use link_program::name_rules::PairCase;
+use link_program::{Entries, Names, PairCase};
 use made_symbols::Mode;
 use name_cases::{first_clash, first_duplicate};
 use std::alloc::Global;

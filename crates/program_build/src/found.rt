@@ -10,11 +10,7 @@ ghost use Rattle.link_program.specs.Program.{IsProgram};
 ghost use Rattle.program_build.specs.Found.{IsFound};
 
 use link_plan::Plan;
-use link_program::link_names::Names;
-use link_program::name_entries::{Entries, EntryTable};
-use link_program::name_meanings::Resolution;
-use link_program::object_file::Object;
-use link_program::{Program, Tables};
+use link_program::{Entries, EntryTable, Names, Object, Program, Resolution, Tables};
 use symbol_race::Winners;
 
 /// What is found of the loaded objects of a link.

@@ -10,11 +10,7 @@ ghost use Rattle.link_program.specs.name_entries.Fits.{FitsObjects};
 ghost use Rattle.link_program.specs.Told.{told_definition};
 ghost use Rattle.program_tables.specs.Leads.{made_definition};
 
-use link_program::Definition;
-use link_program::name_entries::Entries;
-use link_program::object_columns::SymbolRef;
-use link_program::object_file::Object;
-use link_program::object_rules::ImportPlaces;
+use link_program::{Definition, Entries, ImportPlaces, Object, SymbolRef};
 use linking_section::SymbolKind;
 use made_symbols::{Mode, kind};
 

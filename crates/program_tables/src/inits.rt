@@ -8,8 +8,7 @@ ghost use Rattle.program_tables.specs.Views.{view_seen, view_at};
 
 use crate::pushing::push_some;
 use crate::view::{Lookups, ObjectView};
-use link_program::Named;
-use link_program::name_entries::{Entries, EntryRef};
+use link_program::{Entries, EntryRef, Named};
 use linking_section::InitFunc;
 use std::alloc::Global;
 use wl_base::{OutOfMemory, Seq};

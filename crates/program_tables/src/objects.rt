@@ -3,7 +3,7 @@ ghost use Rattle.std.specs.Prelude.{◌≡◌, ◌≤◌, ◌++◌, ℕ, ◌<◌
 ghost use Rattle.link_program.specs.name_entries.Fits.{FitsObjects};
 ghost use Rattle.program_tables.specs.Objects.{ArePlaces};
 
-use link_program::name_entries::Entries;
+use link_program::Entries;
 use std::alloc::Global;
 use wl_base::{InputId, OutOfMemory, Seq};
 

@@ -12,9 +12,7 @@ ghost use Rattle.program_tables.specs.Gains.{Gains, AreGained, rank_of, AllBelow
 
 use crate::inits::init_calls;
 use crate::view::{Lookups, NO_SOURCE, ObjectView};
-use link_program::object_columns::{FunctionRef, SegmentRef};
-use link_program::object_file::GlobalDef;
-use link_program::{Content, Named, Part};
+use link_program::{Content, FunctionRef, GlobalDef, Named, Part, SegmentRef};
 use linking_section::SymbolKind;
 use made_symbols::{Mode, count, kind};
 use mark_bits::{Chunk, ChunkTable};

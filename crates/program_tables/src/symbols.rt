@@ -8,10 +8,7 @@ ghost use Rattle.program_tables.specs.Objects.{ArePlaces};
 ghost use Rattle.program_tables.specs.Symbols.{AreSources, symbol_of, symbols_of, starts};
 
 use crate::definitions::{definition_at, made_definition};
-use link_program::name_entries::Entries;
-use link_program::name_meanings::Resolution;
-use link_program::name_rules::Meaning;
-use link_program::{Lead, Symbol};
+use link_program::{Entries, Lead, Meaning, Resolution, Symbol};
 use std::alloc::Global;
 use wl_base::{OutOfMemory, Seq};
 

@@ -5,8 +5,7 @@ ghost use Rattle.link_program.specs.object_file.Spaces.{no_type};
 ghost use Rattle.link_program.specs.type_merge.Types.{with_type};
 ghost use Rattle.program_tables.specs.Types.{Keep, AreNumbered, AreTyped};
 
-use link_program::object_columns::FuncTypeRef;
-use link_program::object_file::Object;
+use link_program::{FuncTypeRef, Object};
 use std::alloc::Global;
 use type_merge::TypeTable;
 use wasm_types::FuncType;

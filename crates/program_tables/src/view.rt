@@ -4,9 +4,7 @@ ghost use Rattle.link_program.specs.name_entries.Fits.{FitsObjects};
 ghost use Rattle.link_program.specs.name_entries.Parts.{has_flag};
 ghost use Rattle.program_tables.specs.Views.{view_seen, view_at, keeps_function, type_from, source_from};
 
-use link_program::Home;
-use link_program::name_entries::{Entries, ObjectParts};
-use link_program::object_file::Object;
+use link_program::{Entries, Home, Object, ObjectParts};
 use wl_base::{FileSpan, InputId, OutOfMemory, Seq, Span};
 use wl_lists::Lists;
 

@@ -9,8 +9,7 @@ ghost use Rattle.program_tables.specs.Winners.{is_rank, winner_of, winners_in};
 
 use crate::definitions::{definition_at, made_definition};
 use crate::pushing::push_some;
-use link_program::Winner;
-use link_program::name_entries::Entries;
+use link_program::{Entries, Winner};
 use made_symbols::{Mode, class, count};
 use std::alloc::Global;
 use symbol_race::{Winners, rank};
