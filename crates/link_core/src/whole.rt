@@ -14,6 +14,7 @@ use link_plan::Plan;
 use program_build::find;
 use program_build::laws::parts_stand;
 use std::alloc::Global;
+use std::mem::forget;
 use std::thread::Threads;
 use wl_base::Seq;
 use wl_fan::Workers;
@@ -25,6 +26,9 @@ use wl_outside::Gate;
 /// Given objects are read, groups and names are raced for, live parts are marked and the output is filled by as many workers as the plan
 /// has threads; each passes the gate before a job. The answer doesn't depend on them. From the moment that the output's buffer is
 /// reserved nothing can want memory.
+///
+/// What was read of the files isn't given back, but kept until the process ends: that would be a free for each small piece, which takes up
+/// to a tenth of a link of many objects.
 #[tactic(auto, using(crate::proofs::Steps::not_loaded, crate::proofs::Steps::loaded))]
 pub fn link<R: Threads + Sync, G: Gate>(
     rt: &R,
@@ -41,7 +45,9 @@ pub fn link<R: Threads + Sync, G: Gate>(
     ensures short { IsShort result }
 {
     let inputs = load_inputs(rt, alloc, plan, files, gate)?;
-    link_loaded(rt, alloc, plan, files, &inputs, gate)
+    let linked = link_loaded(rt, alloc, plan, files, &inputs, gate);
+    forget(inputs);
+    linked
 }
 
 // Links the loaded objects.
@@ -69,5 +75,7 @@ fn link_loaded<R: Threads + Sync, G: Gate>(
     parts_stand();
     let program = found.program(plan, objects);
     let entries = found.view(objects);
-    link_found(rt, alloc, program, entries, files, workers, gate)
+    let linked = link_found(rt, alloc, program, entries, files, workers, gate);
+    forget(found);
+    linked
 }

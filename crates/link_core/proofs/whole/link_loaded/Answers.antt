@@ -29,9 +29,9 @@ returns-in_err-found-clause-exact g c =
     (find_failed c.args.plan.now c.objects-objects.result.now (program_of Plain c.args.plan.now g.origin.files g.origin.all c.objects-objects.result.now) c.in_err-found.field-0.0 p.0 p.2
     c.in_err-found.ensures))
 
-pub link_found-requires : goal.link_found-requires
+pub link_found-linked-requires : goal.link_found-linked-requires
 unfolding program_of
-link_found-requires g c κs within =
+link_found-linked-requires g c κs within =
     let objects = c.objects-objects.result.now in
     let p = program_of Plain c.args.plan.now g.origin.files g.origin.all objects in
     let found = c.in_ok-found.ensures.1 in
@@ -65,6 +65,6 @@ returns-clause-exact g c =
     let moved =
     ap (λ plan. program_of Plain plan g.origin.files g.origin.all objects) (sym same)
     ∙ ap (λ (os : List Object). program_of Plain g.origin.plan g.origin.files g.origin.all os) (sym c.program-program.ensures.objects) in
-    let linked = subst (λ q. Answers c.link_found.result (exporting Plain q (exported Plain q))) (sym moved) c.link_found.ensures.exact in
-    subst (λ (os : List Object). Answers c.link_found.result (link_program Plain (program_of Plain c.args.plan.now g.origin.files g.origin.all os))) c.objects-objects.ensures
-    (goes_on_found p c.link_found.result c.in_ok-found.ensures.0 linked)
+    let linked = subst (λ q. Answers c.link_found-linked.result (exporting Plain q (exported Plain q))) (sym moved) c.link_found-linked.ensures.exact in
+    subst (λ (os : List Object). Answers c.link_found-linked.result (link_program Plain (program_of Plain c.args.plan.now g.origin.files g.origin.all os))) c.objects-objects.ensures
+    (goes_on_found p c.link_found-linked.result c.in_ok-found.ensures.0 linked)
