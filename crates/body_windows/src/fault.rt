@@ -3,7 +3,7 @@ ghost use Rattle.std.specs.Prelude.{◌≡◌};
 ghost use Rattle.body_windows.specs.Fault.{window_fault};
 ghost use Rattle.body_windows.specs.declared.fault.WindowFault.TheVariants as faults;
 
-use wasm_instr::wl_base::OutOfMemory;
+use wl_base::OutOfMemory;
 
 /// How relocations and a body disagree: the first of these that applies, in this order, each at its
 /// least place. Places count from the start of the code section's payload, as the offsets of

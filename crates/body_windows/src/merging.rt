@@ -10,7 +10,7 @@ use reloc_section::Reloc;
 use std::alloc::Global;
 use std::marker::Model;
 use wasm_instr::Outline;
-use wasm_instr::wl_base::OutOfMemory;
+use wl_base::OutOfMemory;
 
 /// What is known behind some of a body's immediates.
 #[derive(Drop)]

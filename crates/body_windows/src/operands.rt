@@ -6,7 +6,7 @@ ghost use Rattle.body_windows.specs.declared.operand.Operand.TheVariants.{Number
 use crate::operand::Operand;
 use std::alloc::Global;
 use std::marker::Model;
-use wasm_instr::wl_base::{OutOfMemory, Seq};
+use wl_base::{OutOfMemory, Seq};
 use wl_lists::shrunk;
 
 /// What an operand is.

@@ -12,8 +12,8 @@ use crate::operands::Operands;
 use crate::overlap::least_overlap;
 use reloc_section::Reloc;
 use std::alloc::Global;
-use wasm_instr::wl_base::OutOfMemory;
 use wasm_instr::{Body, Placed};
+use wl_base::OutOfMemory;
 
 /// Takes all immediates of these instructions.
 fn offer_code(merger: &mut Merger, code: &[Placed]) -> Result<(), OutOfMemory>

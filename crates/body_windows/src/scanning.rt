@@ -11,9 +11,9 @@ use crate::operands::Operands;
 use crate::overlap::least_overlap;
 use reloc_section::Reloc;
 use std::alloc::Global;
-use wasm_instr::wasm_grammar::{ReadFault, none_at, place};
-use wasm_instr::wl_base::Seq;
+use wasm_grammar::{ReadFault, none_at, place};
 use wasm_instr::{Outline, outline_step, skim_at, skip_locals_at};
+use wl_base::Seq;
 
 /// Whether the outline is of an instruction that neither opens, turns nor closes a block, and has no
 /// immediate that can be a reference. Most are.

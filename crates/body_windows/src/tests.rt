@@ -4,9 +4,9 @@ use super::*;
 use reloc_section::Reloc;
 use reloc_section::kinds::*;
 use std::test::*;
+use wasm_grammar::{ReadFault, Stop};
 use wasm_instr::read_body;
-use wasm_instr::wasm_grammar::{ReadFault, Stop};
-use wasm_instr::wl_base::{Item, Seq};
+use wl_base::{Item, Seq};
 
 /// Where the bodies of these tests stand in the code section.
 const BASE: u32 = 4;

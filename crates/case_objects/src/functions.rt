@@ -5,7 +5,7 @@ ghost use Rattle.wasm_sections.specs.Sections.{header};
 ghost use Rattle.wasm_module.specs.ModuleReading.{behind};
 ghost use Rattle.case_objects.specs.Functions.{Section, section_at, sections_at, found_at, found_with, count_of, functions_at, functions_in};
 
-use wasm_instr::wasm_grammar::{Stop, byte_at, part_at, u32_at};
+use wasm_grammar::{Stop, byte_at, part_at, u32_at};
 
 /// The id of the function section (Core 5.5.6).
 const FUNCTION_SECTION: u8 = 3;

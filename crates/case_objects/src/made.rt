@@ -4,7 +4,7 @@ ghost use Rattle.case_objects.specs.Objects.{objects};
 
 use crate::object::CaseObject;
 use std::alloc::Global;
-use wasm_instr::wl_base::{OutOfMemory, Seq};
+use wl_base::{OutOfMemory, Seq};
 
 /// The objects of a case of n, which is 1 to 20,000, in their order.
 ///

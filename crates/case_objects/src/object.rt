@@ -4,9 +4,9 @@ ghost use Rattle.case_objects.specs.Parts.{section as section_of};
 ghost use Rattle.case_objects.specs.Objects.{object_of, first, head as head_of, functions as functions_of, imports as imports_of, f_body as f_body_of, w_body as w_body_of, code as code_of, data_section as data_of, symbols as symbols_of, infos as infos_of, groups as groups_of, linking as linking_of, relocs as relocs_of};
 
 use crate::parts::{custom, join, numbered, section, sized};
+use leb_codec::put_s32_5;
 use std::alloc::Global;
-use wasm_instr::leb_codec::put_s32_5;
-use wasm_instr::wl_base::{OutOfMemory, Seq};
+use wl_base::{OutOfMemory, Seq};
 
 /// `call`, with a window that holds 0.
 const CALL: &[u8] = &[0x10, 0x80, 0x80, 0x80, 0x80, 0];

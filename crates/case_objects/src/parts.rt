@@ -2,9 +2,9 @@
 ghost use Rattle.std.specs.Prelude.{◌≡◌, IfOk};
 ghost use Rattle.case_objects.specs.Parts.{joined, sized as sized_of, section as section_of, custom as custom_of, letter_name};
 
+use leb_codec::write_u32;
 use std::alloc::Global;
-use wasm_instr::leb_codec::write_u32;
-use wasm_instr::wl_base::{OutOfMemory, Seq};
+use wl_base::{OutOfMemory, Seq};
 
 /// The parts, one behind the other.
 pub fn join(alloc: Global, parts: &[&[u8]]) -> Result<Seq<u8>, OutOfMemory>

@@ -7,7 +7,7 @@ use crate::parts::parts_of;
 use crate::splitting::{Division, Emitter};
 use crate::{Image, Measured};
 use std::thread::Threads;
-use wasm_instr::wl_base::Seq;
+use wl_base::Seq;
 use wl_fan::{Workers, each_slice};
 use wl_outside::Gate;
 

@@ -10,7 +10,7 @@ use crate::put::{
 };
 use crate::sizes::bodies_size;
 use crate::{Image, Source};
-use wasm_instr::wl_base::Seq;
+use wl_base::Seq;
 
 /// Writes all up to the first source, whose bytes the files hold.
 pub fn put_front(image: &Image, files: &[Seq<u8>], out: &mut [u8]) -> usize

@@ -13,7 +13,7 @@ use crate::sizes::{
 };
 use crate::{Image, PlacedSource, Source};
 use std::alloc::Global;
-use wasm_instr::wl_base::{LayoutError, OutOfMemory, Seq, What};
+use wl_base::{LayoutError, OutOfMemory, Seq, What};
 
 /// The length of an image's bytes, and where the bytes of each source begin in them.
 #[derive(Debug, Drop)]

@@ -4,7 +4,7 @@ ghost use Rattle.wasm_instr.specs.leb_codec.Shortest.{u32 as shortest_u32};
 ghost use Rattle.image_emit.specs.Bytes.{vector, sized};
 ghost use Rattle.image_emit.specs.Put.{IsPut, HasRoom, capped};
 
-use wasm_instr::leb_codec::write_u32;
+use leb_codec::write_u32;
 
 /// A value with one spelling.
 pub trait Put {

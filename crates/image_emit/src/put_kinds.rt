@@ -5,11 +5,9 @@ use crate::put::{
     Put, plus, put_byte, put_bytes, put_number, put_sized, put_vector, sized_size, u32_size,
     vector_size,
 };
-use wasm_instr::leb_codec::{write_s32, write_s64};
-use wasm_instr::wasm_types::{
-    ConstExpr, FuncType, GlobalType, Import, ImportKind, Limits, TableType, ValType,
-};
+use leb_codec::{write_s32, write_s64};
 use wasm_module::{Element, Export, ModuleGlobal};
+use wasm_types::{ConstExpr, FuncType, GlobalType, Import, ImportKind, Limits, TableType, ValType};
 
 impl Put for u32 {
     ghost use Rattle.wasm_instr.specs.leb_codec.Shortest.{u32 as shortest_u32};

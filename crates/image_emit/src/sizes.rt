@@ -7,8 +7,8 @@ ghost use Rattle.image_emit.specs.Sizes.{source_len, bodies_len, blocks_len, dat
 
 use crate::put::{Put, plus, sized_size, u32_size, vector_size};
 use crate::{Image, PlacedSource, Source};
-use wasm_instr::wasm_types::ConstExpr;
-use wasm_instr::wl_base::Seq;
+use wasm_types::ConstExpr;
+use wl_base::Seq;
 
 /// The length of a section.
 pub fn section_size<T: Put>(items: &[T]) -> u64

@@ -9,8 +9,8 @@ ghost use Rattle.image_emit.specs.Sizes.{data_len};
 use crate::put::{Put, plus, put_byte, put_bytes, put_number, put_sized, u32_size};
 use crate::sizes::data_size;
 use crate::{Image, PlacedSource, Source};
-use wasm_instr::wasm_types::ConstExpr;
-use wasm_instr::wl_base::{Seq, Span};
+use wasm_types::ConstExpr;
+use wl_base::{Seq, Span};
 
 /// Writes the source of this number, the bodies before the blocks, behind what leads to it.
 pub fn put_piece(image: &Image, files: &[Seq<u8>], job: usize, at: usize, out: &mut [u8]) -> usize

@@ -10,7 +10,7 @@ use crate::Image;
 use crate::fronts::put_front;
 use crate::parts::first_piece;
 use crate::sources::{bytes_at, put_piece};
-use wasm_instr::wl_base::Seq;
+use wl_base::Seq;
 use wl_fan::Slices;
 use wl_outside::{Gate, Phase};
 

@@ -4,11 +4,9 @@ use std::alloc::Global;
 use std::sync::atomic::{AtomicU64, Ordering};
 use std::test::Fail;
 use std::thread::Threads;
-use wasm_instr::wasm_types::{
-    ConstExpr, FuncType, GlobalType, Import, ImportKind, Limits, TableType, ValType,
-};
-use wasm_instr::wl_base::{FileSpan, LayoutError, OutOfMemory, Seq, Span, What};
 use wasm_module::{Element, Export, ModuleGlobal};
+use wasm_types::{ConstExpr, FuncType, GlobalType, Import, ImportKind, Limits, TableType, ValType};
+use wl_base::{FileSpan, LayoutError, OutOfMemory, Seq, Span, What};
 use wl_fan::Workers;
 use wl_outside::{Gate, OpenGate, Phase};
 

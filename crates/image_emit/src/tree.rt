@@ -1,8 +1,8 @@
 //! The output module.
 
-use wasm_instr::wasm_types::{ConstExpr, FuncType, Import, Limits, TableType};
-use wasm_instr::wl_base::{FileSpan, Seq};
 use wasm_module::{Element, Export, ModuleGlobal};
+use wasm_types::{ConstExpr, FuncType, Import, Limits, TableType};
+use wl_base::{FileSpan, Seq};
 
 /// Bytes of an input file, or bytes that the linker made.
 #[derive(Debug, Drop)]

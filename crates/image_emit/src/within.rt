@@ -4,7 +4,7 @@ ghost use Rattle.std.specs.List.{list_all};
 ghost use Rattle.image_emit.specs.Measures.{LieIn, lies, placed_lies};
 
 use crate::{Image, PlacedSource, Source};
-use wasm_instr::wl_base::Seq;
+use wl_base::Seq;
 
 /// Whether all parts of files lie in them.
 #[tactic(auto, using(crate::proofs::Emitted::lie_from))]

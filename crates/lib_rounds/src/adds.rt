@@ -2,10 +2,10 @@
 ghost use Rattle.std.specs.Prelude.{◌≡◌, ℕ, OnOk};
 
 use crate::offer::Offer;
-use object_file::wl_base::{InputId, OutOfMemory};
-use object_file::wl_lists::Lists;
 use std::alloc::Global;
 use std::collections::BTreeMap;
+use wl_base::{InputId, OutOfMemory};
+use wl_lists::Lists;
 
 /// The names for which an input is added.
 #[derive(Drop)]

@@ -18,8 +18,8 @@ use crate::slot::Slot;
 use crate::table::{Table, define, put};
 use indexmap::IndexMap;
 use made_symbols::Mode;
-use object_file::wl_base::{OutOfMemory, Seq};
 use std::alloc::Global;
+use wl_base::{OutOfMemory, Seq};
 
 /// The names that the linker makes, as those of input 0.
 fn made_names(alloc: Global, mode: Mode) -> Result<Table, OutOfMemory>

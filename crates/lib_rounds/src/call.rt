@@ -12,8 +12,8 @@ use crate::loaded::Loaded;
 use crate::offer::Inputs;
 use crate::running::run;
 use made_symbols::Mode;
-use object_file::wl_base::{Name, Seq};
 use std::alloc::Global;
+use wl_base::{Name, Seq};
 
 /// Loads what is needed from the start on.
 fn load_needed(inputs: Inputs<'_>, start: Start, wanted: &[Name]) -> Result<Loaded, RoundError>

@@ -13,9 +13,9 @@ use crate::offer::{Inputs, Offer, offer_of};
 use crate::slot::Slot;
 use crate::table::{Table, input_of, wanted_at};
 use object_file::Object;
-use object_file::wl_base::{InputId, Name, OutOfMemory};
-use object_file::wl_lists::Lists;
 use std::alloc::Global;
+use wl_base::{InputId, Name, OutOfMemory};
+use wl_lists::Lists;
 
 /// What is looked at to find who is added.
 #[derive(Clone, Copy)]

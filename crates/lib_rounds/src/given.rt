@@ -2,7 +2,7 @@
 
 use lib_index::Library;
 use object_file::Object;
-use object_file::wl_base::{Fault, InputId, OutOfMemory};
+use wl_base::{Fault, InputId, OutOfMemory};
 
 /// A library of the words, by its index.
 #[derive(Drop)]

@@ -5,8 +5,8 @@ ghost use Rattle.lib_rounds.specs.Rounds.{comes_before, lesser_name, least_name}
 ghost use Rattle.lib_rounds.specs.State.{is_other};
 
 use crate::table::{Table, input_of};
-use object_file::wl_base::InputId;
-use object_file::wl_lists::Lists;
+use wl_base::InputId;
+use wl_lists::Lists;
 
 /// Whether a name comes before another, by their bytes.
 fn comes_before(a: &[u8], b: &[u8]) -> bool

@@ -4,9 +4,9 @@ ghost use Rattle.lib_rounds.specs.Held.{loaded_objects};
 
 use crate::slot::Slot;
 use object_file::Object;
-use object_file::wl_base::{OutOfMemory, Seq};
 use std::alloc::Global;
 use std::marker::Model;
+use wl_base::{OutOfMemory, Seq};
 
 /// The loaded objects of a link, by rising input.
 #[derive(Debug, Drop)]

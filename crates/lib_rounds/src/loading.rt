@@ -18,9 +18,9 @@ use crate::lies::least_lie;
 use crate::offer::{Inputs, Offer};
 use crate::slot::Slot;
 use crate::table::{Table, define};
-use object_file::wl_base::{Fault, InputId, Seq};
 use object_file::{Object, ObjectError, read_object};
 use std::alloc::Global;
+use wl_base::{Fault, InputId, Seq};
 
 /// The object of a library's member.
 fn read_member(inputs: Inputs<'_>, offer: Offer) -> Result<Object, RoundError>

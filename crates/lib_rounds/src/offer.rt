@@ -9,8 +9,8 @@ ghost use Rattle.lib_rounds.specs.State.{IsOffer, Knows};
 
 use crate::given::LibraryFile;
 use crate::table::{Table, input_of};
-use object_file::wl_base::{InputId, Seq};
 use std::alloc::Global;
+use wl_base::{InputId, Seq};
 
 /// What is lent to every part of the rounds.
 #[derive(Clone, Copy)]

@@ -3,9 +3,9 @@ ghost use Rattle.std.specs.Prelude.{◌≡◌, Bool, option_copied, IfOk};
 ghost use Rattle.lib_rounds.specs.Held.{absent, holding, is_loaded_slot, is_waiting_slot, object_held, loaded_in, as_loaded};
 
 use object_file::Object;
-use object_file::wl_base::OutOfMemory;
 use std::alloc::Global;
 use std::marker::Model;
+use wl_base::OutOfMemory;
 
 /// The object of an input, where it is read, and whether the input is loaded.
 #[derive(Drop)]

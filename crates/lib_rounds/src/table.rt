@@ -10,8 +10,8 @@ ghost use Rattle.lib_rounds.specs.Rounds.{defined_names};
 
 use indexmap::IndexMap;
 use object_file::Object;
-use object_file::wl_base::{InputId, OutOfMemory};
 use std::alloc::Global;
+use wl_base::{InputId, OutOfMemory};
 
 /// An input for each of some names.
 pub type Table = IndexMap<Vec<u8>, InputId>;

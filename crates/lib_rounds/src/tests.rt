@@ -7,9 +7,9 @@ use super::*;
 use lib_index::read_index;
 use made_symbols::Mode;
 use object_file::read_object;
-use object_file::wl_base::{Fault, Seq};
 use std::alloc::Global;
 use std::test::*;
+use wl_base::{Fault, Seq};
 
 /// Nothing is loaded where nothing is given.
 #[test]

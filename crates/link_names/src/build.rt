@@ -7,12 +7,10 @@ ghost use Rattle.link_names.specs.Interning.{Room, Takes, Tells, TellsAll, IsNum
 
 use crate::names::NONE;
 use made_symbols::Mode;
-use object_file::Object;
-use object_file::linking_section::Group;
-use object_file::object_columns::{SymbolRef, Symbols};
-use object_file::wl_base::{Name, NameFault, NameTable, OutOfMemory};
-use object_file::wl_lists::Lists;
+use object_file::{Group, Object, SymbolRef, Symbols};
 use std::alloc::Global;
+use wl_base::{Name, NameFault, NameTable, OutOfMemory};
+use wl_lists::Lists;
 
 /// Gives a name its number.
 fn number(table: &mut NameTable, name: &[u8]) -> Result<u32, NameFault>

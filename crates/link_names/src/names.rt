@@ -6,10 +6,10 @@ ghost use Rattle.link_names.specs.Numbered.{Numbers, numbers_seen};
 use crate::build::{add_words, group_lists, made_numbers, symbol_lists};
 use made_symbols::Mode;
 use object_file::Object;
-use object_file::wl_base::{Name, NameFault, NameTable, Seq};
-use object_file::wl_lists::Lists;
 use std::alloc::Global;
 use std::marker::Model;
+use wl_base::{Name, NameFault, NameTable, Seq};
+use wl_lists::Lists;
 
 /// In a list of numbers: the symbol is no entry of a name.
 pub(crate) const NONE: u32 = u32::MAX;

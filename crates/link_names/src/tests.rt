@@ -1,11 +1,12 @@
 use super::*;
 use made_symbols::Mode;
-use object_file::Object;
-use object_file::linking_section::{Group, LOCAL, SymbolKind, UNDEFINED};
-use object_file::object_columns::{FuncTypes, Functions, Imports, Segments, SymbolRef, Symbols};
-use object_file::wl_base::{Name, NameFault, OutOfMemory, Seq};
+use object_file::{
+    FuncTypes, Functions, Group, Imports, LOCAL, Object, Segments, SymbolKind, SymbolRef, Symbols,
+    UNDEFINED,
+};
 use std::alloc::Global;
 use std::test::Fail;
+use wl_base::{Name, NameFault, OutOfMemory, Seq};
 
 fn symbol(kind: SymbolKind, flags: u32, name: Option<&[u8]>) -> SymbolRef<'_> {
     SymbolRef {

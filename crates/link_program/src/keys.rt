@@ -1,7 +1,7 @@
 //! What numbers of the output are given to.
 
 use crate::Definition;
-use name_entries::wl_base::InputId;
+use wl_base::InputId;
 
 /// A function of the output.
 #[derive(Clone, Copy, Debug, PartialEq, Eq)]

@@ -10,12 +10,10 @@ mod symbol;
 
 pub use home::Home;
 pub use keys::{FunctionKey, GlobalKey, GotKey};
-pub use name_entries::link_names::Names;
-pub use name_entries::name_rules::{Meaning, PairCase};
-pub use name_entries::object_columns::{FuncTypeRef, FunctionRef, SegmentRef, SymbolRef};
-pub use name_entries::object_file::{GlobalDef, Object};
-pub use name_entries::object_rules::ImportPlaces;
-pub use name_entries::{Entries, EntryRef, EntryTable, ObjectParts, TypeRef};
+pub use name_entries::{
+    Entries, EntryRef, EntryTable, FuncTypeRef, FunctionRef, GlobalDef, ImportPlaces, Meaning,
+    Names, Object, ObjectParts, PairCase, SegmentRef, SymbolRef, TypeRef,
+};
 pub use name_meanings::{ImportType, Resolution};
 pub use named::Named;
 pub use part::{Content, Part};

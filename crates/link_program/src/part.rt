@@ -1,8 +1,8 @@
 //! The parts of which the output is made.
 
 use mark_bits::Chunk;
-use name_entries::wasm_types::{ConstExpr, GlobalType};
-use name_entries::wl_base::FileSpan;
+use wasm_types::{ConstExpr, GlobalType};
+use wl_base::FileSpan;
 
 /// What a part is.
 #[derive(Clone, Copy, Debug, PartialEq, Eq)]

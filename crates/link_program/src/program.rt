@@ -3,13 +3,12 @@
 use crate::{Named, Part, Symbol, Winner};
 use link_plan::Plan;
 use mark_bits::ChunkTable;
-use name_entries::link_names::Names;
-use name_entries::object_file::Object;
-use name_entries::wasm_types::FuncType;
-use name_entries::wl_base::Seq;
-use name_entries::wl_lists::Lists;
+use name_entries::{Names, Object};
 use name_meanings::Resolution;
 use symbol_race::Winners;
+use wasm_types::FuncType;
+use wl_base::Seq;
+use wl_lists::Lists;
 
 /// What is looked up of a program.
 #[derive(Drop)]

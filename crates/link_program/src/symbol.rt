@@ -1,7 +1,7 @@
 //! Symbols and what they lead to.
 
-use name_entries::linking_section::SymbolKind;
-use name_entries::wl_base::InputId;
+use name_entries::SymbolKind;
+use wl_base::InputId;
 
 /// A definition: of an object, by its input, or of the linker, which is input 0.
 #[derive(Clone, Copy, Debug, PartialEq, Eq)]

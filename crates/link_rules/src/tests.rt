@@ -3,12 +3,12 @@ ghost use Rattle.std.specs.Prelude.{◌≡◌, ◌≤◌, IsTrue};
 ghost use Rattle.reloc_apply.specs.Apart.{AreApart, size_of};
 
 use image_emit::{Image, PlacedSource, Source, emit, lie_in, measure};
-use object_file::wasm_types::ConstExpr;
-use object_file::wl_base::{FileSpan, OutOfMemory, Seq, Span};
 use reloc_apply::{Form, Patch, Patches, fill};
 use std::alloc::Global;
 use std::test::Fail;
 use std::thread::Threads;
+use wasm_types::ConstExpr;
+use wl_base::{FileSpan, OutOfMemory, Seq, Span};
 use wl_fan::Workers;
 use wl_outside::OpenGate;
 

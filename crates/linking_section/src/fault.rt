@@ -2,8 +2,8 @@
 ghost use Rattle.std.specs.Prelude.{◌≡◌};
 ghost use Rattle.linking_section.specs.Fault.{linking_fault};
 
-use wasm_grammar::wl_base::Item;
 use wasm_grammar::{ReadFault, Stop};
+use wl_base::Item;
 
 /// What reading comes to first, from left to right, or want of memory.
 #[derive(Clone, Copy, Debug, PartialEq, Eq)]

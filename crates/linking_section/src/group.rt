@@ -5,8 +5,8 @@ ghost use Rattle.linking_section.specs.Linking.{SpellsMember, SpellsGroup};
 ghost use Rattle.linking_section.specs.Reading.{member_kind_of, member_at, zero_at, group_at};
 
 use std::alloc::Global;
-use wasm_grammar::wl_base::{Name, Seq};
 use wasm_grammar::{Form, ReadFault, Stop, byte_at, name_at, place, u32_at, vector_at};
+use wl_base::{Name, Seq};
 
 /// A part of an object that belongs to a group (Linking.md, 'Linking Metadata Section').
 #[derive(Clone, Copy, Debug, PartialEq, Eq)]

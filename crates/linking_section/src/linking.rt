@@ -3,7 +3,7 @@ use crate::group::Group;
 use crate::init::InitFunc;
 use crate::segment::SegmentInfo;
 use crate::symbol::Symbol;
-use wasm_grammar::wl_base::Seq;
+use wl_base::Seq;
 
 /// What the section `linking` says (Linking.md, 'Linking Metadata Section'). A list whose
 /// subsection isn't there is empty.

@@ -9,8 +9,8 @@ ghost use Rattle.linking_section.specs.declared.linking.Linking.{Linking};
 use crate::fault::LinkingFault;
 use crate::linking::{Found, Linking};
 use std::alloc::Global;
-use wasm_grammar::wl_base::{Item, Seq};
 use wasm_grammar::{ReadFault, Stop, byte_at, part_at, place, u32_at, whole};
+use wl_base::{Item, Seq};
 
 /// The version of the section that is linked.
 const VERSION: u32 = 2;

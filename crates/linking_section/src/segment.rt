@@ -8,8 +8,8 @@ ghost use Rattle.linking_section.specs.Reading.{unless_at, segment_at};
 
 use crate::flags::is_foreign_segment;
 use std::alloc::Global;
-use wasm_grammar::wl_base::{Item, Name};
 use wasm_grammar::{Form, ReadFault, Stop, name_at, u32_at};
+use wl_base::{Item, Name};
 
 /// What is said of a data segment (Linking.md, 'Linking Metadata Section').
 #[derive(Debug, PartialEq, Eq, Drop)]

@@ -8,8 +8,8 @@ ghost use Rattle.linking_section.specs.Reading.{unless_at, kind_of, maybe_name_a
 
 use crate::flags::{UNDEFINED, is_foreign_symbol, is_named};
 use std::alloc::Global;
-use wasm_grammar::wl_base::{Item, Name};
 use wasm_grammar::{Form, ReadFault, Stop, byte_at, name_at, place, u32_at};
+use wl_base::{Item, Name};
 
 /// What a symbol names.
 #[derive(Clone, Copy, Debug, PartialEq, Eq)]

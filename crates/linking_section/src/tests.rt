@@ -1,8 +1,8 @@
 use super::*;
 use std::alloc::Global;
 use std::test::Fail;
-use wasm_grammar::wl_base::{Item, Name, OutOfMemory, Seq};
 use wasm_grammar::{Form, ReadFault, Stop, vector_at};
+use wl_base::{Item, Name, OutOfMemory, Seq};
 
 /// The name of this text.
 fn name(alloc: Global, text: &str) -> Result<Name, OutOfMemory> {

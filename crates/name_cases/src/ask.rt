@@ -6,7 +6,7 @@ ghost use Rattle.name_cases.specs.Rows.{RowsFit, names_shown, rows_shown, symbol
 use crate::look::clash;
 use crate::question::Question;
 use crate::rows::{Rows, Spot};
-use name_entries::wl_base::InputId;
+use wl_base::InputId;
 
 impl Rows<'_> {
     /// The number of the name of a symbol, where it is an entry that counts.

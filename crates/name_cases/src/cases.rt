@@ -10,13 +10,12 @@ ghost use Rattle.name_cases.specs.Told.{clash_told, duplicate_told};
 
 use crate::question::Question;
 use crate::rows::{Rows, Spot};
-use name_entries::Entries;
-use name_entries::made_symbols::Mode;
-use name_entries::name_rules::PairCase;
-use name_entries::wl_base::OutOfMemory;
+use made_symbols::Mode;
+use name_entries::{Entries, PairCase};
 use rayon::prelude::*;
 use std::alloc::Global;
 use std::thread::Threads;
+use wl_base::OutOfMemory;
 
 /// How few rows are worth a thread of their own.
 const LEAST_ROWS: usize = 8;

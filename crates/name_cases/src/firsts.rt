@@ -8,8 +8,8 @@ ghost use Rattle.name_cases.specs.Rows.{RowsFit, entries_in, names_shown, rows_s
 
 use crate::question::Question;
 use crate::rows::{Rows, Spot};
-use name_entries::wl_base::{OutOfMemory, Seq};
 use std::alloc::Global;
+use wl_base::{OutOfMemory, Seq};
 
 /// A column of this length that tells nothing.
 fn blank(alloc: Global, len: usize) -> Result<Vec<Option<Spot>>, OutOfMemory>

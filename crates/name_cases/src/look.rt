@@ -7,9 +7,7 @@ ghost use Rattle.name_cases.specs.Look.{AreLook, imports_differ, looks_clash};
 ghost use Rattle.name_cases.specs.Rows.{RowsFit, rows_shown, symbol_in};
 
 use crate::rows::{Rows, Spot};
-use name_entries::TypeRef;
-use name_entries::linking_section::SymbolKind;
-use name_entries::object_columns::ImportRef;
+use name_entries::{ImportRef, SymbolKind, TypeRef};
 
 /// What is compared of an entry.
 #[derive(Clone, Copy, Debug)]

@@ -6,11 +6,11 @@ ghost use Rattle.name_entries.specs.Shown.{AreShown, type_seen};
 ghost use Rattle.name_entries.specs.object_columns.Seen.{import_seen};
 ghost use Rattle.name_cases.specs.Rows.{RowsFit, names_shown, rows_shown, symbol_in};
 
-use name_entries::linking_section::{HIDDEN, SymbolKind};
-use name_entries::made_symbols::Mode;
-use name_entries::object_columns::{FuncTypeRef, ImportRef, SymbolRef};
-use name_entries::wasm_types::{GlobalType, ValType};
-use name_entries::{Entries, EntryRef, TypeRef};
+use made_symbols::Mode;
+use name_entries::{
+    Entries, EntryRef, FuncTypeRef, HIDDEN, ImportRef, SymbolKind, SymbolRef, TypeRef,
+};
+use wasm_types::{GlobalType, ValType};
 
 /// Where a symbol stands: row 0 has the linker's own symbols, row `o + 1` those of object `o`.
 #[derive(Clone, Copy, Debug, PartialEq, Eq)]
@@ -30,17 +30,17 @@ pub(crate) struct Rows<'a> {
 fn made_type(mode: Mode, place: u32) -> Option<TypeRef<'static>>
     ensures { option_map type_seen result ≡ option_map (λ e. e.type) (slice_get (made_from 0 (made mode)) place) }
 {
-    if place >= name_entries::made_symbols::count(mode) {
+    if place >= made_symbols::count(mode) {
         return None;
     }
-    Some(match name_entries::made_symbols::kind(mode, place) {
+    Some(match made_symbols::kind(mode, place) {
         SymbolKind::Function => TypeRef::Function(FuncTypeRef {
             params: &[],
             results: &[],
         }),
         SymbolKind::GlobalVar => TypeRef::GlobalVar(GlobalType {
             kind: ValType::I32,
-            var: name_entries::made_symbols::changes(mode, place),
+            var: made_symbols::changes(mode, place),
         }),
         SymbolKind::Datum | SymbolKind::Section | SymbolKind::Table => TypeRef::Untyped,
     })
@@ -59,13 +59,13 @@ impl<'a> Rows<'a> {
         requires { RowsFit self.now }
         ensures { AreShown (names_shown self.now) result (slice_get (made_from 0 (made self.now.mode)) place) }
     {
-        if place >= name_entries::made_symbols::count(self.mode) {
+        if place >= made_symbols::count(self.mode) {
             return None;
         }
         let symbol = SymbolRef {
-            kind: name_entries::made_symbols::kind(self.mode, place),
+            kind: made_symbols::kind(self.mode, place),
             flags: HIDDEN,
-            name: Some(name_entries::made_symbols::name(self.mode, place)),
+            name: Some(made_symbols::name(self.mode, place)),
             index: 0,
             offset: 0,
             size: 0,
@@ -76,7 +76,7 @@ impl<'a> Rows<'a> {
             symbol,
             number: self.view.names.made(place),
             defines: true,
-            class: name_entries::made_symbols::class(self.mode, place),
+            class: made_symbols::class(self.mode, place),
         })
     }
 
@@ -96,7 +96,7 @@ impl<'a> Rows<'a> {
         ensures { result ≡ length (slice_index_or (rows_shown self.now) row []) }
     {
         if row == 0 {
-            name_entries::made_symbols::count(self.mode)
+            made_symbols::count(self.mode)
         } else {
             self.view.symbols(row - 1)
         }

@@ -1,10 +1,8 @@
 //! What is compared of two entries of a name.
 use crate::look::{Look, clash};
-use name_entries::TypeRef;
-use name_entries::linking_section::SymbolKind;
-use name_entries::object_columns::{FuncTypeRef, ImportRef};
-use name_entries::wasm_types::{GlobalType, ImportKind, ValType};
+use name_entries::{FuncTypeRef, ImportRef, SymbolKind, TypeRef};
 use std::test::Fail;
+use wasm_types::{GlobalType, ImportKind, ValType};
 
 fn function(params: &'static [ValType]) -> Look<'static> {
     Look {

@@ -8,10 +8,9 @@ ghost use Rattle.name_entries.specs.Fits.{GroupsAreNumbered};
 
 use comdat_pick::ComdatWinners;
 use link_names::Names;
-use object_file::Object;
-use object_file::linking_section::{Group, Member};
-use object_file::wl_base::{InputId, OutOfMemory};
+use object_file::{Group, Member, Object};
 use std::alloc::Global;
+use wl_base::{InputId, OutOfMemory};
 
 /// Flags of the functions and of the data segments of an object that aren't kept, by index.
 #[derive(Debug, Drop)]

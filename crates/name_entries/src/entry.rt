@@ -1,8 +1,8 @@
 //! Entries and types, lent.
 
-use object_file::object_columns::{FuncTypeRef, SymbolRef};
-use object_file::wasm_types::GlobalType;
-use object_file::wl_base::InputId;
+use object_file::{FuncTypeRef, SymbolRef};
+use wasm_types::GlobalType;
+use wl_base::InputId;
 
 /// A symbol of an object, lent.
 #[derive(Clone, Copy, Debug)]

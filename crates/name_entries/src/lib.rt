@@ -12,14 +12,13 @@ mod table;
 mod tests;
 
 pub use entry::{EntryRef, TypeRef};
-pub use link_names;
+pub use link_names::Names;
 pub use lookups::Entries;
-pub use made_symbols;
-pub use name_rules;
-pub use object_file;
+pub use name_rules::{Meaning, PairCase};
 pub use object_file::{
-    body_windows, linking_section, object_columns, object_parts, object_rules, reloc_section,
-    wasm_module, wasm_types, wl_base, wl_lists,
+    FuncTypeRef, FuncTypes, FunctionRef, Functions, GlobalDef, HIDDEN, ImportPlaces, ImportRef,
+    Imports, InitFunc, Object, Operand, Operands, Reference, Reloc, SegmentRef, Segments,
+    SymbolKind, SymbolRef, Symbols, UNDEFINED, read_object,
 };
 pub use parts::ObjectParts;
 pub use table::EntryTable;

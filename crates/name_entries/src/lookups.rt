@@ -11,8 +11,7 @@ use crate::entry::{EntryRef, TypeRef};
 use crate::parts::{ObjectParts, class_of};
 use crate::spaces::{import_in, type_in};
 use link_names::Names;
-use object_file::Object;
-use object_file::object_columns::{ImportRef, SymbolRef};
+use object_file::{ImportRef, Object, SymbolRef};
 
 /// The loaded objects, their names' numbers, and what is looked up of each: all by reference.
 #[derive(Clone, Copy)]

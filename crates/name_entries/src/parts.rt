@@ -4,10 +4,8 @@ ghost use Rattle.object_file.specs.linking_section.Flags.{is_weak, is_undefined}
 ghost use Rattle.object_file.specs.object_columns.Seen.{symbol_seen};
 ghost use Rattle.name_entries.specs.Parts.{has_flag, keeps};
 
-use object_file::linking_section::SymbolKind;
-use object_file::object_columns::SymbolRef;
-use object_file::object_rules::ImportPlaces;
-use object_file::wl_base::Seq;
+use object_file::{ImportPlaces, SymbolKind, SymbolRef};
+use wl_base::Seq;
 
 /// What is looked up of an object by index.
 #[derive(Debug, Drop)]

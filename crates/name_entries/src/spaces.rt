@@ -8,11 +8,8 @@ ghost use Rattle.name_rules.specs.Entries.{type_in, import_in};
 ghost use Rattle.name_entries.specs.Shown.{type_seen};
 
 use crate::entry::TypeRef;
-use object_file::Object;
-use object_file::linking_section::SymbolKind;
-use object_file::object_columns::{FuncTypeRef, ImportRef, SymbolRef};
-use object_file::object_rules::ImportPlaces;
-use object_file::wasm_types::{GlobalType, ImportKind, ValType};
+use object_file::{FuncTypeRef, ImportPlaces, ImportRef, Object, SymbolKind, SymbolRef};
+use wasm_types::{GlobalType, ImportKind, ValType};
 
 /// The place of an index; `None` exactly where there is none.
 fn place_at(places: &[usize], index: u32) -> Option<usize>

@@ -12,13 +12,11 @@ use crate::lookups::Entries;
 use crate::parts::ObjectParts;
 use comdat_pick::ComdatWinners;
 use link_names::Names;
-use object_file::Object;
-use object_file::object_columns::Imports;
-use object_file::object_rules::ImportPlaces;
-use object_file::wasm_types::ImportKind;
-use object_file::wl_base::{OutOfMemory, Seq};
-use object_file::wl_lists::shrunk;
+use object_file::{ImportPlaces, Imports, Object};
 use std::alloc::Global;
+use wasm_types::ImportKind;
+use wl_base::{OutOfMemory, Seq};
+use wl_lists::shrunk;
 
 /// What is looked up of the objects; `view` lends it with them.
 #[derive(Debug, Drop)]

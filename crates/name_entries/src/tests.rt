@@ -6,19 +6,14 @@ use crate::entry::TypeRef;
 use crate::parts::ObjectParts;
 use crate::spaces::{import_in, type_in};
 use crate::table::places_of;
-use object_file::body_windows::Operands;
-use object_file::linking_section::{Group, Member, SymbolKind};
-use object_file::object_columns::{
-    FuncTypes, FunctionRef, Functions, Imports, Segments, SymbolRef, Symbols,
+use object_file::{
+    FuncTypes, FunctionRef, Functions, GlobalDef, Group, ImportPlaces, Imports, Member, Object,
+    Operands, Segments, SymbolKind, SymbolRef, Symbols,
 };
-use object_file::object_rules::ImportPlaces;
-use object_file::wasm_types::{
-    FuncType, GlobalType, Import, ImportKind, Limits, TableType, ValType,
-};
-use object_file::wl_base::{InputId, OutOfMemory, Seq, Span};
-use object_file::{GlobalDef, Object};
 use std::alloc::Global;
 use std::test::Fail;
+use wasm_types::{FuncType, GlobalType, Import, ImportKind, Limits, TableType, ValType};
+use wl_base::{InputId, OutOfMemory, Seq, Span};
 
 const COUNTER: GlobalType = GlobalType {
     kind: ValType::I64,

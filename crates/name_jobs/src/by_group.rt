@@ -5,8 +5,7 @@ ghost use Rattle.name_entries.specs.Fits.{GroupsAreNumbered};
 ghost use Rattle.name_jobs.specs.Offers.{group_jobs};
 
 use least_race::{Jobs, Offer};
-use name_entries::link_names::Names;
-use name_entries::object_file::Object;
+use name_entries::{Names, Object};
 use std::marker::Model;
 
 /// The jobs of the race for groups. A job is an object, an item one of its groups, which offers the

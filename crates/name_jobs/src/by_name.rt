@@ -8,9 +8,8 @@ ghost use Rattle.name_entries.specs.Fits.{Fits, FitsObjects};
 ghost use Rattle.name_jobs.specs.Offers.{entry_offer, name_jobs};
 
 use least_race::{Jobs, Offer};
-use name_entries::Entries;
-use name_entries::link_names::Names;
-use name_entries::made_symbols::Mode;
+use made_symbols::Mode;
+use name_entries::{Entries, Names};
 use std::marker::Model;
 use symbol_race::rank;
 
@@ -56,7 +55,7 @@ impl Jobs for NameJobs<'_> {
     fn items(&self, job: u32) -> u32 {
         match job.checked_sub(1) {
             Some(object) => self.entries.symbols(object),
-            None => name_entries::made_symbols::count(self.mode),
+            None => made_symbols::count(self.mode),
         }
     }
 
@@ -75,7 +74,7 @@ fn made_offer(names: &Names, mode: Mode, k: u32) -> Option<Offer>
     ensures { result ≡ slice_index_or (map (entry_offer names.now.names) (made_from 0 (made mode))) k None }
 {
     let word = names.made(k)?;
-    let rank = rank(name_entries::made_symbols::class(mode, k), 0, k);
+    let rank = rank(made_symbols::class(mode, k), 0, k);
     Some(Offer { word, rank })
 }
 

@@ -8,14 +8,12 @@ ghost use Rattle.name_entries.specs.Fits.{Fits, GroupsAreNumbered};
 use crate::by_group::GroupJobs;
 use crate::by_name::NameJobs;
 use comdat_pick::{ComdatWinners, pick};
-use name_entries::Entries;
-use name_entries::link_names::Names;
-use name_entries::made_symbols::Mode;
-use name_entries::object_file::Object;
-use name_entries::wl_base::OutOfMemory;
+use made_symbols::Mode;
+use name_entries::{Entries, Names, Object};
 use std::alloc::Global;
 use std::thread::Threads;
 use symbol_race::{Winners, race};
+use wl_base::OutOfMemory;
 use wl_fan::Workers;
 use wl_outside::Gate;
 

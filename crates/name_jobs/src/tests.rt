@@ -5,10 +5,8 @@ ghost use Rattle.name_entries.specs.link_names.Numbered.{AreNumbers};
 ghost use Rattle.name_entries.specs.View.{InputsRise};
 
 use super::*;
-use name_entries::EntryTable;
-use name_entries::link_names::Names;
-use name_entries::made_symbols::Mode;
-use name_entries::object_file::{Object, read_object};
+use made_symbols::Mode;
+use name_entries::{EntryTable, Names, Object, read_object};
 use std::alloc::Global;
 use std::thread::Threads;
 use symbol_race::rank;

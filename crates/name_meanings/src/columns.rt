@@ -8,10 +8,9 @@ ghost use Rattle.name_entries.specs.View.{rows_of, entry_at};
 ghost use Rattle.name_entries.specs.Fits.{FitsObjects};
 ghost use Rattle.name_meanings.specs.Columns.{or_else, AreColumnsOf, all_symbols};
 
-use name_entries::Entries;
-use name_entries::object_columns::SymbolRef;
-use name_entries::wl_base::OutOfMemory;
+use name_entries::{Entries, SymbolRef};
 use std::alloc::Global;
+use wl_base::OutOfMemory;
 
 /// A symbol, by the place of its object among the objects and its place there.
 #[derive(Clone, Copy, Debug)]

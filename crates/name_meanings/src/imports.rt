@@ -6,12 +6,11 @@ ghost use Rattle.name_entries.specs.Shown.{type_seen};
 ghost use Rattle.name_meanings.specs.Kept.{type_kept, import_of, with_import};
 
 use indexmap::IndexSet;
-use name_entries::TypeRef;
-use name_entries::object_columns::ImportRef;
-use name_entries::wasm_types::{FuncType, ValType};
-use name_entries::wl_base::{Name, OutOfMemory, Seq};
+use name_entries::{ImportRef, TypeRef};
 use std::alloc::Global;
 use std::marker::Model;
+use wasm_types::{FuncType, ValType};
+use wl_base::{Name, OutOfMemory, Seq};
 
 /// The type of an import.
 #[derive(Debug, PartialEq, Eq, Hash, Drop)]

@@ -17,13 +17,10 @@ ghost use Rattle.name_meanings.specs.Known.{IsKnown, FoundBy, Finds, IsNumbered,
 
 use crate::columns::{At, Column};
 use crate::imports::{ImportTable, OutputImport};
-use name_entries::linking_section::SymbolKind;
-use name_entries::name_rules::Meaning;
-use name_entries::object_columns::SymbolRef;
-use name_entries::wl_base::OutOfMemory;
-use name_entries::{Entries, EntryRef};
+use name_entries::{Entries, EntryRef, Meaning, SymbolKind, SymbolRef};
 use std::alloc::Global;
 use symbol_race::Winners;
+use wl_base::OutOfMemory;
 
 /// What the rules look at, by the numbers of names.
 #[derive(Clone, Copy)]

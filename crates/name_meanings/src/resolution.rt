@@ -4,11 +4,11 @@ ghost use Rattle.name_meanings.specs.Kept.{type_kept};
 ghost use Rattle.name_meanings.specs.Means.{row_of, answer_at};
 
 use crate::imports::{ImportTable, ImportType};
-use name_entries::name_rules::Meaning;
-use name_entries::wl_base::InputId;
-use name_entries::wl_lists::Lists;
+use name_entries::Meaning;
 use std::alloc::Global;
 use std::marker::Model;
+use wl_base::InputId;
+use wl_lists::Lists;
 
 /// What the symbols of the loaded objects mean, with imports by number.
 #[derive(Drop)]

@@ -12,13 +12,12 @@ use crate::columns::columns_of;
 use crate::imports::ImportTable;
 use crate::naming::{Found, Known, meaning_of};
 use crate::resolution::Resolution;
-use name_entries::Entries;
-use name_entries::made_symbols::Mode;
-use name_entries::name_rules::Meaning;
-use name_entries::wl_base::{InputId, OutOfMemory, Seq};
-use name_entries::wl_lists::Lists;
+use made_symbols::Mode;
+use name_entries::{Entries, Meaning};
 use std::alloc::Global;
 use symbol_race::Winners;
+use wl_base::{InputId, OutOfMemory, Seq};
+use wl_lists::Lists;
 
 /// The answers for the symbols of an object, in place of those that the row has.
 fn fill_row(

@@ -5,11 +5,8 @@ ghost use Rattle.name_entries.specs.link_names.Numbered.{AreNumbers};
 ghost use Rattle.name_entries.specs.View.{InputsRise};
 
 use super::*;
-use name_entries::EntryTable;
-use name_entries::link_names::Names;
-use name_entries::made_symbols::Mode;
-use name_entries::name_rules::Meaning;
-use name_entries::object_file::{Object, read_object};
+use made_symbols::Mode;
+use name_entries::{EntryTable, Meaning, Names, Object, read_object};
 use name_jobs::{group_winners, name_winners};
 use std::alloc::Global;
 use std::thread::Threads;

@@ -1,6 +1,6 @@
 //! A case of two entries of one name.
 
-use object_file::wl_base::InputId;
+use wl_base::InputId;
 
 /// A name, by its number, and the inputs of two entries that can't stand together.
 #[derive(Clone, Copy, Debug, PartialEq, Eq)]

@@ -1,6 +1,6 @@
 //! What a symbol means.
 
-use object_file::wl_base::InputId;
+use wl_base::InputId;
 
 /// What a symbol means after all names are resolved.
 #[derive(Clone, Copy, Debug, PartialEq, Eq)]

@@ -2,7 +2,7 @@
 ghost use Rattle.std.specs.Prelude.{◌≡◌};
 ghost use Rattle.name_unresolved.specs.Least.{is_before, lesser};
 
-use name_entries::wl_base::InputId;
+use wl_base::InputId;
 
 /// Whether a symbol comes before another one, by input and then by place.
 fn is_before(a: (InputId, u32), b: (InputId, u32)) -> bool

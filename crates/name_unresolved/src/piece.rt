@@ -7,13 +7,9 @@ ghost use Rattle.name_unresolved.specs.Search.{rows_in, IsMeant, opened_in, open
 
 use crate::order::lesser;
 use mark_bits::Chunk;
-use name_entries::body_windows::{Operand, Reference};
-use name_entries::linking_section::InitFunc;
-use name_entries::name_rules::Meaning;
-use name_entries::object_file::Object;
-use name_entries::reloc_section::Reloc;
-use name_entries::wl_base::InputId;
+use name_entries::{InitFunc, Meaning, Object, Operand, Reference, Reloc};
 use name_meanings::Resolution;
+use wl_base::InputId;
 
 /// An object, and what its symbols mean.
 #[derive(Clone, Copy)]

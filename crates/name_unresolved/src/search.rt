@@ -10,12 +10,12 @@ ghost use Rattle.name_unresolved.specs.Search.{IsReady, rows_of, least_open, chu
 use crate::order::lesser;
 use crate::piece::Piece;
 use mark_bits::{Chunk, ChunkTable, MarkSet};
-use name_entries::object_file::Object;
-use name_entries::wl_base::{InputId, OutOfMemory, Seq};
+use name_entries::Object;
 use name_meanings::Resolution;
 use rayon::prelude::*;
 use std::alloc::Global;
 use std::thread::Threads;
+use wl_base::{InputId, OutOfMemory, Seq};
 
 /// How few chunks are worth a thread of their own.
 const LEAST_CHUNKS: usize = 1024;

@@ -7,20 +7,16 @@ ghost use Rattle.name_unresolved.specs.Unresolved.{AreMeant};
 
 use crate::first_unresolved;
 use mark_bits::{Chunk, ChunkTable, MarkBits, MarkSeat, MarkSet};
-use name_entries::body_windows::{Operand, Operands};
-use name_entries::linking_section::{InitFunc, SymbolKind, UNDEFINED};
-use name_entries::name_rules::Meaning;
-use name_entries::object_columns::{
-    FuncTypes, FunctionRef, Functions, Imports, SegmentRef, Segments, SymbolRef, Symbols,
+use name_entries::{
+    FuncTypes, FunctionRef, Functions, Imports, InitFunc, Meaning, Object, Operand, Operands,
+    Reloc, SegmentRef, Segments, SymbolKind, SymbolRef, Symbols, UNDEFINED,
 };
-use name_entries::object_file::Object;
-use name_entries::reloc_section::Reloc;
-use name_entries::wl_base::{InputId, OutOfMemory, Seq, Span};
-use name_entries::wl_lists::Lists;
 use name_meanings::Resolution;
 use std::alloc::Global;
 use std::test::Fail;
 use std::thread::Threads;
+use wl_base::{InputId, OutOfMemory, Seq, Span};
+use wl_lists::Lists;
 
 const SPAN: Span = Span { start: 0, len: 20 };
 

@@ -4,8 +4,8 @@ ghost use Rattle.object_columns.specs.Seen.{func_type_seen};
 
 use std::alloc::Global;
 use std::marker::Model;
-use wasm_instr::wasm_types::{FuncType, ValType};
-use wasm_instr::wl_base::OutOfMemory;
+use wasm_types::{FuncType, ValType};
+use wl_base::OutOfMemory;
 use wl_lists::Lists;
 
 /// A function type, lent.

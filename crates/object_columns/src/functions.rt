@@ -8,7 +8,7 @@ use crate::short_span::ShortSpan;
 use body_windows::{Operands, OperandsRef, Reference};
 use std::alloc::Global;
 use std::marker::Model;
-use wasm_instr::wl_base::{Name, OutOfMemory, Seq, Span};
+use wl_base::{Name, OutOfMemory, Seq, Span};
 use wl_lists::{Lists, shrunk};
 
 /// A defined function, as contracts see it.

@@ -4,8 +4,8 @@ ghost use Rattle.object_columns.specs.Seen.{import_seen};
 
 use std::alloc::Global;
 use std::marker::Model;
-use wasm_instr::wasm_types::{Import, ImportKind};
-use wasm_instr::wl_base::{OutOfMemory, Seq};
+use wasm_types::{Import, ImportKind};
+use wl_base::{OutOfMemory, Seq};
 use wl_lists::{Lists, shrunk};
 
 /// An import, lent (Core 5.5.5).

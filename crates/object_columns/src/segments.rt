@@ -7,7 +7,7 @@ use linking_section::SegmentInfo;
 use reloc_section::Reloc;
 use std::alloc::Global;
 use std::marker::Model;
-use wasm_instr::wl_base::{OutOfMemory, Seq, Span};
+use wl_base::{OutOfMemory, Seq, Span};
 use wl_lists::{Lists, shrunk};
 
 /// An active data segment, as contracts see it.

@@ -2,7 +2,7 @@
 ghost use Rattle.std.specs.Prelude.{◌≡◌, IfOk};
 ghost use Rattle.object_columns.specs.Columns.{span_of};
 
-use wasm_instr::wl_base::{OutOfMemory, Span};
+use wl_base::{OutOfMemory, Span};
 
 /// A run of bytes whose place and length are below 2^32.
 #[derive(Clone, Copy, Debug)]

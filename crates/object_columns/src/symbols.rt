@@ -7,7 +7,7 @@ use crate::name::{maybe, split};
 use linking_section::SymbolKind;
 use std::alloc::Global;
 use std::marker::Model;
-use wasm_instr::wl_base::{OutOfMemory, Seq};
+use wl_base::{OutOfMemory, Seq};
 use wl_lists::{Lists, shrunk};
 
 /// A symbol, lent (Linking.md, 'Linking Metadata Section'). Fields that its kind doesn't have are 0.

@@ -4,8 +4,8 @@ use linking_section::SymbolKind;
 use reloc_section::Reloc;
 use std::alloc::Global;
 use std::test::Fail;
-use wasm_instr::wasm_types::{FuncType, Import, ImportKind, ValType};
-use wasm_instr::wl_base::{OutOfMemory, Seq, Span};
+use wasm_types::{FuncType, Import, ImportKind, ValType};
+use wl_base::{OutOfMemory, Seq, Span};
 
 const SPAN: Span = Span { start: 7, len: 9 };
 

@@ -8,12 +8,11 @@ use crate::names::with_names;
 use crate::object::Object;
 use crate::segments::segments_from;
 use object_columns::{FuncTypes, Functions, Imports, Segments, Symbols};
-use object_rules::linking_section::{Linking, SegmentInfo, Symbol};
-use object_rules::object_parts::Parts;
-use object_rules::wasm_sections::SectionSpan;
-use object_rules::wl_base::{InputId, OutOfMemory, Seq};
-use object_rules::{Counts, relocs_for, start_of};
+use object_rules::{
+    Counts, Linking, Parts, SectionSpan, SegmentInfo, Symbol, relocs_for, start_of,
+};
 use std::alloc::Global;
+use wl_base::{InputId, OutOfMemory, Seq};
 
 /// The lists of an object that are kept as columns.
 #[derive(Drop)]

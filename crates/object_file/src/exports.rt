@@ -2,9 +2,9 @@
 ghost use Rattle.std.specs.Prelude.{◌≡◌, slice_get, slice_index_or, option_copied, None, IfOk};
 ghost use Rattle.object_file.specs.Exports.{AreLast, noted, named, name_at};
 
-use object_rules::wasm_module::Export;
-use object_rules::wl_base::OutOfMemory;
+use object_rules::Export;
 use std::alloc::Global;
+use wl_base::OutOfMemory;
 
 /// For each function, by its index, the place of its last export. Where there is no export at all
 /// the list is empty.

@@ -6,11 +6,9 @@ ghost use Rattle.object_rules.specs.body_windows.Operands.{operands_seen};
 
 use crate::exports::{last_exports, name_at, place_of};
 use object_columns::{FunctionRef, Functions};
-use object_rules::body_windows::{Mismatch, Operands, OperandsRef};
-use object_rules::object_parts::CodeBody;
-use object_rules::wasm_module::Export;
-use object_rules::wl_base::OutOfMemory;
+use object_rules::{CodeBody, Export, Mismatch, Operands, OperandsRef};
 use std::alloc::Global;
+use wl_base::OutOfMemory;
 
 /// The operands of a body.
 fn operands_of(windows: &Result<Operands, Mismatch>) -> OperandsRef<'_>

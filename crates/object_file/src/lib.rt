@@ -17,11 +17,12 @@ mod tests;
 
 pub use laws::{index_spaces_are_counted, operands_stand_on_immediates, read_objects_are_sound};
 pub use object::Object;
-pub use object_columns;
-pub use object_rules;
-pub use object_rules::object_parts::GlobalDef;
+pub use object_columns::{
+    FuncTypeRef, FuncTypes, FunctionRef, Functions, ImportRef, Imports, SegmentRef, Segments,
+    SymbolRef, Symbols,
+};
 pub use object_rules::{
-    body_windows, leb_codec, linking_section, object_parts, reloc_section, wasm_module, wasm_types,
-    wl_base, wl_lists,
+    GlobalDef, Group, HIDDEN, ImportPlaces, InitFunc, LOCAL, Member, Operand, Operands, Reference,
+    Reloc, SymbolKind, UNDEFINED,
 };
 pub use reading::{ObjectError, read_object};

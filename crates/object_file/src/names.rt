@@ -5,11 +5,10 @@ ghost use Rattle.object_rules.specs.Spaces.{ArePlaces};
 ghost use Rattle.object_file.specs.Objects.{with_name};
 
 use object_columns::{SymbolRef, Symbols};
-use object_rules::linking_section::Symbol;
-use object_rules::wasm_types::Import;
-use object_rules::wl_base::OutOfMemory;
-use object_rules::{ImportPlaces, name_of};
+use object_rules::{ImportPlaces, Symbol, name_of};
 use std::alloc::Global;
+use wasm_types::Import;
+use wl_base::OutOfMemory;
 
 /// A symbol with its name.
 fn with_name<'a>(imports: &'a [Import], places: &ImportPlaces, symbol: &'a Symbol) -> SymbolRef<'a>

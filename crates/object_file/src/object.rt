@@ -1,9 +1,8 @@
 //! An object as a tree. Every span counts from the object's first byte.
 
 use object_columns::{FuncTypes, Functions, Imports, Segments, Symbols};
-use object_rules::linking_section::{Group, InitFunc};
-use object_rules::object_parts::GlobalDef;
-use object_rules::wl_base::{InputId, Seq};
+use object_rules::{GlobalDef, Group, InitFunc};
+use wl_base::{InputId, Seq};
 
 /// An object that can be linked. Its long lists are kept as columns; contracts see them as lists.
 #[derive(Debug, Drop)]

@@ -8,12 +8,12 @@ ghost use Rattle.object_file.specs.declared.object.Object.{Object as Read};
 
 use crate::building::object_from;
 use crate::object::Object;
-use object_rules::broken_rule;
-use object_rules::object_parts::{Parts, PartsFault, SectionStop, parts_of};
-use object_rules::wasm_grammar::Stop;
-use object_rules::wasm_sections::{FrameFault, SectionSpan, frame};
-use object_rules::wl_base::{Fault, InputId, OutOfMemory, Part};
+use object_rules::{
+    FrameFault, Parts, PartsFault, SectionSpan, SectionStop, broken_rule, frame, parts_of,
+};
 use std::alloc::Global;
+use wasm_grammar::Stop;
+use wl_base::{Fault, InputId, OutOfMemory, Part};
 
 /// How many bytes an object has at most.
 const MAX_LEN: usize = 1 << 30;

@@ -5,12 +5,9 @@ ghost use Rattle.object_rules.specs.object_parts.Code.{end_in};
 ghost use Rattle.object_file.specs.Objects.{first_info, window_from, segments_from};
 
 use object_columns::{SegmentRef, Segments};
-use object_rules::linking_section::SegmentInfo;
-use object_rules::object_parts::DataPart;
-use object_rules::reloc_section::Reloc;
-use object_rules::split_before;
-use object_rules::wl_base::{OutOfMemory, Seq, Span};
+use object_rules::{DataPart, Reloc, SegmentInfo, split_before};
 use std::alloc::Global;
+use wl_base::{OutOfMemory, Seq, Span};
 
 /// A segment, with the info at its place, or else no name, alignment 1 and no flags.
 fn with_info<'a>(

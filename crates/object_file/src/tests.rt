@@ -1,8 +1,7 @@
 use super::*;
-use object_rules::body_windows::Operand;
-use object_rules::reloc_section::Reloc;
-use object_rules::wl_base::{Fault, Item, Part, Span};
+use object_rules::{Operand, Reloc};
 use std::alloc::Global;
+use wl_base::{Fault, Item, Part, Span};
 
 /// The fault of bytes that are no object.
 fn fault_of(alloc: Global, bytes: &[u8]) -> Option<Fault> {

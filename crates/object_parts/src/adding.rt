@@ -13,9 +13,9 @@ use crate::kind::SectionKind;
 use crate::parts::Parts;
 use reloc_section::Reloc;
 use std::alloc::Global;
-use wasm_instr::wasm_grammar::{ReadFault, Stop, none_at, u32_at, whole};
-use wasm_instr::wl_base::{Item, Span};
+use wasm_grammar::{ReadFault, Stop, none_at, u32_at, whole};
 use wasm_sections::SectionSpan;
+use wl_base::{Item, Span};
 
 fn none_of(item: Item, count: u32, end: usize, bytes: &[u8]) -> Result<(), Stop>
     ensures { Reads (λ x. x) result (none_of item count end bytes.now) }

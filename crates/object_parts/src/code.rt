@@ -11,8 +11,8 @@ use crate::placed::span_before;
 use body_windows::scan;
 use reloc_section::Reloc;
 use std::alloc::Global;
-use wasm_instr::wasm_grammar::{ReadFault, none_at, part_at, u32_at};
-use wasm_instr::wl_base::{Seq, Span};
+use wasm_grammar::{ReadFault, none_at, part_at, u32_at};
+use wl_base::{Seq, Span};
 
 /// How many relocations in front begin before a place of the payload.
 fn count_before(place: u64, relocs: &[Reloc]) -> usize

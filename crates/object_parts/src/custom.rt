@@ -8,9 +8,9 @@ use crate::parts::Parts;
 use linking_section::{Linking, linking_at};
 use reloc_section::{RelocSection, relocs_at};
 use std::alloc::Global;
-use wasm_instr::wasm_grammar::{ReadFault, Stop, name_at, u32_at};
-use wasm_instr::wl_base::{Item, OutOfMemory, Seq};
+use wasm_grammar::{ReadFault, Stop, name_at, u32_at};
 use wasm_sections::SectionSpan;
+use wl_base::{Item, OutOfMemory, Seq};
 
 /// Whether the section at this place among all sections is there and has this id.
 pub fn has_id(id: u8, all: &[SectionSpan], target: u32) -> bool

@@ -7,9 +7,9 @@ ghost use Rattle.object_parts.specs.Placed.{stays, data_part_at};
 use crate::parts::DataPart;
 use crate::placed::span_before;
 use std::alloc::Global;
-use wasm_instr::wasm_grammar::{ReadFault, Stop, none_at, u32_at};
-use wasm_instr::wl_base::Seq;
+use wasm_grammar::{ReadFault, Stop, none_at, u32_at};
 use wasm_module::lent_segment_at;
+use wl_base::Seq;
 
 /// The segment at the front, and the bytes after it (Core 5.5.14).
 #[tactic(auto, unfolding(crate::specs::Placed::data_part_at))]

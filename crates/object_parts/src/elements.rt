@@ -5,9 +5,9 @@ ghost use Rattle.wasm_instr.specs.wasm_grammar.Reading.{many_at, vector_at, whol
 ghost use Rattle.wasm_module.specs.PartReading.{element_at};
 
 use std::alloc::Global;
-use wasm_instr::wasm_grammar::{ReadFault, none_at, u32_at};
-use wasm_instr::wl_base::Seq;
+use wasm_grammar::{ReadFault, none_at, u32_at};
 use wasm_module::{Element, element_at};
+use wl_base::Seq;
 
 /// So many element segments, and the bytes after them.
 fn many_elements(

@@ -7,9 +7,9 @@ ghost use Rattle.object_parts.specs.Placed.{stays, global_def_at};
 use crate::parts::GlobalDef;
 use crate::placed::span_between;
 use std::alloc::Global;
-use wasm_instr::wasm_grammar::{ReadFault, Stop, none_at, u32_at};
-use wasm_instr::wasm_types::{const_expr_at, global_type_at};
-use wasm_instr::wl_base::Seq;
+use wasm_grammar::{ReadFault, Stop, none_at, u32_at};
+use wasm_types::{const_expr_at, global_type_at};
+use wl_base::Seq;
 
 /// The global at the front, and the bytes after it (Core 5.5.9).
 #[tactic(auto, unfolding(crate::specs::Placed::global_def_at))]

@@ -5,9 +5,9 @@ ghost use Rattle.object_parts.specs.Turns.{turns_at, entries_at};
 ghost use Rattle.object_parts.specs.Imports.{names_table, seen_kind, seen_import, none_seen, funcref_table_at, table_import_at, taken_kind, object_import_at};
 
 use std::alloc::Global;
-use wasm_instr::wasm_grammar::{ReadFault, Stop, byte_at, name_at, none_at, u32_at};
-use wasm_instr::wasm_types::{Import, ImportKind, import_kind_at, table_type_at};
-use wasm_instr::wl_base::{Item, Seq};
+use wasm_grammar::{ReadFault, Stop, byte_at, name_at, none_at, u32_at};
+use wasm_types::{Import, ImportKind, import_kind_at, table_type_at};
+use wl_base::{Item, Seq};
 
 /// Which imports came before.
 #[derive(Clone, Copy, Debug, PartialEq, Eq)]

@@ -19,16 +19,15 @@ mod reading;
 #[cfg(test)]
 mod tests;
 
-pub use body_windows;
+pub use body_windows::{Mismatch, Operand, Operands, OperandsRef, Reference};
 pub use code::split_at_place;
 pub use custom::has_id;
 pub use kind::{CustomKind, SectionKind};
-pub use linking_section;
+pub use linking_section::{
+    Group, HIDDEN, InitFunc, LOCAL, Linking, Member, SegmentInfo, Symbol, SymbolKind, UNDEFINED,
+};
 pub use parts::{CodeBody, DataPart, GlobalDef, Parts};
 pub use reading::{PartsFault, SectionStop, parts_of};
-pub use reloc_section;
-pub use wasm_instr;
-pub use wasm_instr::{leb_codec, wasm_grammar, wasm_types, wl_base};
-pub use wasm_module;
-pub use wasm_sections;
-pub use wl_lists;
+pub use reloc_section::{Reloc, RelocSection, kinds};
+pub use wasm_module::{Element, Export};
+pub use wasm_sections::{FrameFault, SectionSpan, frame};

@@ -3,9 +3,9 @@
 use body_windows::{Mismatch, Operands};
 use linking_section::Linking;
 use reloc_section::RelocSection;
-use wasm_instr::wasm_types::{ConstExpr, FuncType, GlobalType, Import};
-use wasm_instr::wl_base::{Seq, Span};
 use wasm_module::{Element, Export};
+use wasm_types::{ConstExpr, FuncType, GlobalType, Import};
+use wl_base::{Seq, Span};
 
 /// A defined global (Core 2.5.6).
 #[derive(Clone, Copy, Debug, PartialEq, Eq)]

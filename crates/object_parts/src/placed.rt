@@ -3,8 +3,8 @@ ghost use Rattle.std.specs.Prelude.{◌≡◌, ◌+◌, ◌≤◌, length};
 ghost use Rattle.object_parts.specs.Placed.{span_between, span_before};
 ghost use Rattle.object_parts.specs.Sections.{bytes_in};
 
-use wasm_instr::wasm_grammar::place;
-use wasm_instr::wl_base::Span;
+use wasm_grammar::place;
+use wl_base::Span;
 
 /// The bytes from here on up to there, by the place of the end of both.
 pub fn span_between(end: usize, from: &[u8], to: &[u8]) -> Span

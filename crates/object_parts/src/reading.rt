@@ -15,9 +15,9 @@ use crate::parts::Parts;
 use crate::placed::bytes_in;
 use reloc_section::{Reloc, relocs_at};
 use std::alloc::Global;
-use wasm_instr::wasm_grammar::{ReadFault, Stop, name_at, u32_at};
-use wasm_instr::wl_base::{OutOfMemory, Seq};
+use wasm_grammar::{ReadFault, Stop, name_at, u32_at};
 use wasm_sections::SectionSpan;
+use wl_base::{OutOfMemory, Seq};
 
 /// The first section that isn't spelled whole.
 #[derive(Clone, Copy, Debug, PartialEq, Eq)]

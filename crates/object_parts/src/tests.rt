@@ -1,8 +1,8 @@
 use super::*;
 use std::alloc::Global;
-use wasm_instr::wasm_grammar::Stop;
-use wasm_instr::wl_base::{Item, Span};
+use wasm_grammar::Stop;
 use wasm_sections::frame;
+use wl_base::{Item, Span};
 
 /// The parts of a small object; `None` where it isn't cut into sections.
 fn parts(alloc: Global, bytes: &[u8]) -> Option<Result<Parts, PartsFault>> {

@@ -4,8 +4,8 @@ ghost use Rattle.std.specs.Str.{bytes_eq};
 ghost use Rattle.object_rules.specs.Differ.{all_differ};
 
 use indexmap::IndexSet;
-use object_parts::wl_base::OutOfMemory;
 use std::alloc::Global;
+use wl_base::OutOfMemory;
 
 /// Whether no two of these numbers are equal.
 pub fn numbers_differ(alloc: Global, numbers: &[u64]) -> Result<bool, OutOfMemory>

@@ -18,10 +18,10 @@ mod tests;
 mod windows;
 
 pub use names::name_of;
-pub use object_parts;
 pub use object_parts::{
-    body_windows, leb_codec, linking_section, reloc_section, wasm_grammar, wasm_instr, wasm_module,
-    wasm_sections, wasm_types, wl_base, wl_lists,
+    CodeBody, DataPart, Export, FrameFault, GlobalDef, Group, HIDDEN, InitFunc, LOCAL, Linking,
+    Member, Mismatch, Operand, Operands, OperandsRef, Parts, PartsFault, Reference, Reloc,
+    SectionSpan, SectionStop, SegmentInfo, Symbol, SymbolKind, UNDEFINED, frame, parts_of,
 };
 pub use rules::broken_rule;
 pub use spaces::{Counts, ImportPlaces, function_types};

@@ -9,11 +9,10 @@ ghost use Rattle.object_rules.specs.Metadata.{infos_stand, is_plain, is_plain_at
 use crate::differ::numbers_differ;
 use crate::spaces::{Counts, function_types};
 use indexmap::IndexSet;
-use object_parts::Parts;
-use object_parts::linking_section::{Group, InitFunc, Member, SegmentInfo, Symbol, SymbolKind};
-use object_parts::wasm_types::FuncType;
-use object_parts::wl_base::{OutOfMemory, Seq};
+use object_parts::{Group, InitFunc, Member, Parts, SegmentInfo, Symbol, SymbolKind};
 use std::alloc::Global;
+use wasm_types::FuncType;
+use wl_base::{OutOfMemory, Seq};
 
 fn are_aligned(infos: &[SegmentInfo]) -> bool
     ensures { result ≡ list_all (λ i. nat_le i.align 31) infos.now }

@@ -5,10 +5,10 @@ ghost use Rattle.object_rules.specs.Symbols.{field_of, import_name, name_of, is_
 
 use crate::spaces::ImportPlaces;
 use indexmap::IndexSet;
-use object_parts::linking_section::{Symbol, SymbolKind};
-use object_parts::wasm_types::Import;
-use object_parts::wl_base::OutOfMemory;
+use object_parts::{Symbol, SymbolKind};
 use std::alloc::Global;
+use wasm_types::Import;
+use wl_base::OutOfMemory;
 
 fn field_at(imports: &[Import], place: usize) -> Option<&[u8]>
     ensures { option_copied result ≡ field_of (slice_get imports.now place) }

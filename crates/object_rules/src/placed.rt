@@ -5,12 +5,10 @@ ghost use Rattle.object_parts.specs.Code.{end_in, base_in};
 ghost use Rattle.object_rules.specs.Windows.{is_placed, is_covered, is_global_symbol, may_stand, code_windows_stand, in_segment, data_windows_stand, windows_stand, indexes_are_covered};
 
 use crate::windows::{relocs_for, split_before, start_of};
-use object_parts::body_windows::{Mismatch, Operands};
-use object_parts::linking_section::{Symbol, SymbolKind};
-use object_parts::reloc_section::{Reloc, kinds};
-use object_parts::wasm_sections::SectionSpan;
-use object_parts::wl_base::Span;
-use object_parts::{CodeBody, DataPart, Parts};
+use object_parts::{
+    CodeBody, DataPart, Mismatch, Operands, Parts, Reloc, SectionSpan, Symbol, SymbolKind, kinds,
+};
+use wl_base::Span;
 
 fn is_placed(windows: &Result<Operands, Mismatch>) -> bool
     ensures { result ≡ is_placed windows.now }

@@ -9,13 +9,10 @@ ghost use Rattle.object_rules.specs.Relocs.{target_stands, lie_apart, payload_le
 use crate::differ::numbers_differ;
 use crate::names::name_of;
 use crate::spaces::{Counts, ImportPlaces};
-use object_parts::has_id;
-use object_parts::linking_section::{Symbol, SymbolKind};
-use object_parts::reloc_section::{Reloc, RelocSection, kinds};
-use object_parts::wasm_sections::SectionSpan;
-use object_parts::wasm_types::Import;
-use object_parts::wl_base::{OutOfMemory, Seq};
+use object_parts::{Reloc, RelocSection, SectionSpan, Symbol, SymbolKind, has_id, kinds};
 use std::alloc::Global;
+use wasm_types::Import;
+use wl_base::{OutOfMemory, Seq};
 
 /// Whether the target is the code section, the data section or a custom section.
 fn target_stands(all: &[SectionSpan], relocs: &RelocSection) -> bool

@@ -10,11 +10,9 @@ use crate::placed::{indexes_are_covered, windows_stand};
 use crate::relocs::{entries_stand, targets_stand};
 use crate::spaces::{Counts, ImportPlaces};
 use crate::symbols::symbols_stand;
-use object_parts::Parts;
-use object_parts::linking_section::Linking;
-use object_parts::wasm_sections::SectionSpan;
-use object_parts::wl_base::OutOfMemory;
+use object_parts::{Linking, Parts, SectionSpan};
 use std::alloc::Global;
+use wl_base::OutOfMemory;
 
 /// The first broken rule of 9 to 12.
 #[tactic(auto, unfolding(crate::specs::Rules::reloc_rule))]

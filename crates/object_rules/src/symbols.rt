@@ -4,8 +4,7 @@ ghost use Rattle.std.specs.List.{list_all};
 ghost use Rattle.object_rules.specs.Symbols.{stands, lies_in, symbol_stands, symbols_stand};
 
 use crate::spaces::Counts;
-use object_parts::linking_section::{Symbol, SymbolKind};
-use object_parts::{DataPart, Parts};
+use object_parts::{DataPart, Parts, Symbol, SymbolKind};
 
 /// Whether the index is in range, and the symbol undefined exactly where it is that of an import.
 fn stands(symbol: &Symbol, imports: usize, all: usize) -> bool

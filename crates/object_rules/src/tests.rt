@@ -1,17 +1,11 @@
 use super::*;
-use object_parts::body_windows::{Mismatch, Operands};
-use object_parts::linking_section::{
-    Group, InitFunc, Linking, Member, SegmentInfo, Symbol, SymbolKind,
+use object_parts::{
+    CodeBody, DataPart, Element, Export, Group, InitFunc, Linking, Member, Mismatch, Operands,
+    Parts, Reloc, RelocSection, SectionSpan, SegmentInfo, Symbol, SymbolKind,
 };
-use object_parts::reloc_section::{Reloc, RelocSection};
-use object_parts::wasm_module::{Element, Export};
-use object_parts::wasm_sections::SectionSpan;
-use object_parts::wasm_types::{
-    ConstExpr, FuncType, GlobalType, Import, ImportKind, Limits, TableType, ValType,
-};
-use object_parts::wl_base::{Name, OutOfMemory, Seq, Span};
-use object_parts::{CodeBody, DataPart, Parts};
 use std::alloc::Global;
+use wasm_types::{ConstExpr, FuncType, GlobalType, Import, ImportKind, Limits, TableType, ValType};
+use wl_base::{Name, OutOfMemory, Seq, Span};
 
 /// The sections: types, functions, a custom one, code in the bytes 50 to 89, data in 95 to 114, and
 /// two custom ones.

@@ -4,9 +4,7 @@ ghost use Rattle.std.specs.List.{prefix_len};
 ghost use Rattle.object_parts.specs.Code.{begins_before, before, behind};
 ghost use Rattle.object_rules.specs.Windows.{relocs_for, start_of};
 
-use object_parts::has_id;
-use object_parts::reloc_section::{Reloc, RelocSection};
-use object_parts::wasm_sections::SectionSpan;
+use object_parts::{Reloc, RelocSection, SectionSpan, has_id};
 
 /// The relocations for the section with this id, 10 for code and 11 for data: those of the first
 /// section `reloc.` that is for it.

@@ -5,8 +5,8 @@ ghost use Rattle.reloc_section.specs.Relocs.{SpellsReloc, known_kind, addend_at,
 
 use crate::kinds::{has_addend, is_read};
 use std::alloc::Global;
-use wasm_grammar::wl_base::Item;
 use wasm_grammar::{Form, ReadFault, Stop, byte_at, s32_at, u32_at};
+use wl_base::Item;
 
 /// A place that the linker writes anew, and what it writes there (Linking.md, 'Relocation
 /// Sections').

@@ -8,8 +8,8 @@ ghost use Rattle.reloc_section.specs.declared.section.RelocSection.{RelocSection
 use crate::entry::Reloc;
 use crate::fault::RelocFault;
 use std::alloc::Global;
-use wasm_grammar::wl_base::Seq;
 use wasm_grammar::{Form, ReadFault, u32_at, vector_at, whole};
+use wl_base::Seq;
 
 /// What a section `reloc.` says (Linking.md, 'Relocation Sections').
 #[derive(Debug, PartialEq, Eq, Drop)]

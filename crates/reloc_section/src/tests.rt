@@ -1,8 +1,8 @@
 use super::*;
 use crate::kinds::{has_addend, is_read};
 use std::test::Fail;
-use wasm_grammar::wl_base::{Item, Seq};
 use wasm_grammar::{Form, ReadFault, Stop, vector_at};
+use wl_base::{Item, Seq};
 
 #[test]
 fn types_are_known_by_their_numbers(rt: HostRuntime) {

@@ -5,8 +5,8 @@ ghost use Rattle.type_merge.specs.Types.{type_number, with_type};
 use indexmap::IndexSet;
 use std::alloc::Global;
 use std::marker::Model;
-use wasm_grammar::wl_base::{OutOfMemory, Seq};
 use wasm_types::{FuncType, ValType};
+use wl_base::{OutOfMemory, Seq};
 
 /// Function types, each once, in first-seen order. Contracts see it as the list of its types.
 #[derive(Drop)]

@@ -1,8 +1,8 @@
 use super::*;
 use std::alloc::Global;
 use std::test::Fail;
-use wasm_grammar::wl_base::{OutOfMemory, Seq};
 use wasm_types::{FuncType, ValType};
+use wl_base::{OutOfMemory, Seq};
 
 const TYPES: [ValType; 2] = [ValType::I32, ValType::I64];
 

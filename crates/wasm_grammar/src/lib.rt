@@ -15,14 +15,12 @@ mod writing;
 
 pub use fault::{ReadFault, Stop};
 pub use laws::{one_value, read_again};
-pub use leb_codec;
 pub use names::{blob_at, name_at};
 pub use parts::{
     byte_at, bytes_at, front_at, none_at, part_at, place, s32_at, s33_at, s64_at, tag_at, u32_at,
 };
 pub use sized::{read_front, sized_at, whole};
 pub use vector::{Form, many_at, vector_at};
-pub use wl_base;
 pub use writing::{
     Spell, cut_back, put_byte, put_bytes, put_count, put_itself, put_s32, put_s64, put_u32,
     put_vector,

@@ -7,9 +7,9 @@ ghost use Rattle.wasm_instr.specs.declared.body.Body.{Body};
 use crate::instr::{Instr, instr_at};
 use crate::outline::outline_step;
 use std::alloc::Global;
-use wasm_grammar::wl_base::{Item, Seq};
 use wasm_grammar::{ReadFault, Stop, place, u32_at};
 use wasm_types::{ValType, plain_val_type_at};
+use wl_base::{Item, Seq};
 
 /// So many locals of one type (Core 5.5.13).
 #[derive(Clone, Copy, Debug, PartialEq, Eq)]

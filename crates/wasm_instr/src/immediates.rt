@@ -9,11 +9,11 @@ ghost use Rattle.wasm_instr.specs.Reading.{index_kind_at, kind_of, block_kind_at
 
 use crate::instr::{BlockKind, Instr};
 use std::alloc::Global;
-use wasm_grammar::wl_base::Item;
 use wasm_grammar::{
     ReadFault, Stop, byte_at, place, s32_at, s33_at, s64_at, tag_at, u32_at, vector_at,
 };
 use wasm_types::val_type_of;
+use wl_base::Item;
 
 /// What a reader of immediates finds.
 type Found<'a> = Result<(Instr, &'a [u8], &'a [u8]), Stop>;

@@ -10,9 +10,9 @@ use crate::immediates::{
     numbered_at, select_typed_at,
 };
 use std::alloc::Global;
-use wasm_grammar::wl_base::{Item, Seq};
 use wasm_grammar::{ReadFault, Stop, byte_at};
 use wasm_types::ValType;
+use wl_base::{Item, Seq};
 
 /// The type of a block: what it takes and gives (Core 5.4.1).
 #[derive(Clone, Copy, Debug, PartialEq, Eq)]

@@ -22,7 +22,4 @@ pub use instr::{BlockKind, Instr, instr_at};
 pub use laws::{body_is_unambiguous, instr_is_unambiguous, outlines_tell_blocks, places_rise};
 pub use outline::{Outline, outline_step};
 pub use skim::{skim_at, skip_locals_at};
-pub use wasm_grammar;
-pub use wasm_grammar::{leb_codec, wl_base};
-pub use wasm_types;
 pub use writing::{put_body, put_instr, write_instr};

@@ -6,8 +6,8 @@ ghost use Rattle.wasm_instr.specs.declared.instr.Instr.TheVariants as instrs;
 ghost use Rattle.wasm_instr.specs.Skimming.{is_index, outline_of, outline_step};
 
 use crate::instr::{BlockKind, Instr};
-use wasm_grammar::wl_base::Seq;
 use wasm_grammar::{ReadFault, Stop};
+use wl_base::Seq;
 
 /// What a scanner has to know of an instruction.
 #[derive(Clone, Copy, Debug, PartialEq, Eq)]

@@ -16,9 +16,9 @@ use crate::body::run_at;
 use crate::class::{Class, class_of};
 use crate::immediates::{block_kind_at, f32_at, f64_at};
 use crate::outline::{Outline, plain_outline};
-use wasm_grammar::wl_base::Item;
 use wasm_grammar::{Stop, byte_at, s32_at, s64_at, tag_at, u32_at};
 use wasm_types::plain_val_type_at;
+use wl_base::Item;
 
 /// What skimming finds: the outline, the bytes from the last immediate on, and the bytes after the
 /// instruction; or the first fault.

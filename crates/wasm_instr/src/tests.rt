@@ -1,9 +1,9 @@
 use super::*;
 use std::alloc::Global;
 use std::test::Fail;
-use wasm_grammar::wl_base::{Item, OutOfMemory, Seq};
 use wasm_grammar::{ReadFault, Stop};
 use wasm_types::ValType;
+use wl_base::{Item, OutOfMemory, Seq};
 
 fn placed(instr: Instr, at: u32, mid: u32, end: u32) -> Placed {
     Placed {

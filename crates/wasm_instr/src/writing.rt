@@ -11,8 +11,8 @@ ghost use Rattle.wasm_instr.specs.Placeless.{instrs_of, SpellsPlaceless};
 
 use crate::body::{Body, LocalRun, Placed};
 use crate::instr::{BlockKind, Instr};
-use wasm_grammar::wl_base::{OutOfMemory, Seq};
 use wasm_grammar::{Spell, cut_back, put_byte, put_count, put_s32, put_s64, put_u32, put_vector};
+use wl_base::{OutOfMemory, Seq};
 
 /// Appends an index as an s33 (Core 5.4.1).
 fn put_index(to: &mut Seq<u8>, n: u32) -> Result<(), OutOfMemory>

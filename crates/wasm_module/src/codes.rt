@@ -7,9 +7,9 @@ ghost use Rattle.wasm_module.specs.ModuleReading.{code_at};
 
 use crate::sections::{begins, customs_at};
 use std::alloc::Global;
-use wasm_instr::wasm_grammar::{ReadFault, none_at, part_at, place, u32_at};
-use wasm_instr::wl_base::Seq;
+use wasm_grammar::{ReadFault, none_at, part_at, place, u32_at};
 use wasm_instr::{Body, body_at};
+use wl_base::Seq;
 
 /// A function's code at the front, and the bytes after it (Core 5.5.13). The places in the body are
 /// counted from its first byte.

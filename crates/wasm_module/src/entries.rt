@@ -6,9 +6,9 @@ ghost use Rattle.wasm_module.specs.PartReading.{get_expr_at, init_at, global_at,
 
 use crate::parts::{Export, ModuleGlobal};
 use std::alloc::Global;
-use wasm_instr::wasm_grammar::{ReadFault, Stop, byte_at, name_at, place, u32_at};
-use wasm_instr::wasm_types::{ConstExpr, const_expr_at, global_type_at};
-use wasm_instr::wl_base::Item;
+use wasm_grammar::{ReadFault, Stop, byte_at, name_at, place, u32_at};
+use wasm_types::{ConstExpr, const_expr_at, global_type_at};
+use wl_base::Item;
 
 /// The bytes after the byte 0B, which closes an expression.
 fn closed_at(end: usize, bytes: &[u8]) -> Result<&[u8], Stop>

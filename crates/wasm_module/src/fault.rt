@@ -2,7 +2,7 @@
 ghost use Rattle.std.specs.Prelude.{◌≡◌};
 ghost use Rattle.wasm_module.specs.ModuleReading.{module_fault};
 
-use wasm_instr::wasm_grammar::ReadFault;
+use wasm_grammar::ReadFault;
 
 /// Why no module is read.
 #[derive(Clone, Copy, Debug, PartialEq, Eq)]

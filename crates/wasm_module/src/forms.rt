@@ -10,9 +10,9 @@ use crate::entries::{export_at, global_at};
 use crate::parts::{DataSegment, Element, Export, ModuleGlobal};
 use crate::segments::{data_segment_at, element_at};
 use std::alloc::Global;
-use wasm_instr::wasm_grammar::{Form, ReadFault, Spell, put_byte, put_bytes, put_u32, put_vector};
-use wasm_instr::wasm_types::{put_const_expr, put_global_type};
-use wasm_instr::wl_base::{OutOfMemory, Seq};
+use wasm_grammar::{Form, ReadFault, Spell, put_byte, put_bytes, put_u32, put_vector};
+use wasm_types::{put_const_expr, put_global_type};
+use wl_base::{OutOfMemory, Seq};
 
 impl Form for ModuleGlobal {
     ghost spells = { SpellsGlobal true };

@@ -1,7 +1,7 @@
 //! Globals, exports, element and data segments (Core 2.5.6, 2.5.10, 2.5.7 and 2.5.8).
 
-use wasm_instr::wasm_types::{ConstExpr, GlobalType};
-use wasm_instr::wl_base::{Name, Seq};
+use wasm_types::{ConstExpr, GlobalType};
+use wl_base::{Name, Seq};
 
 /// A defined global with its first value (Core 2.5.6).
 #[derive(Clone, Copy, Debug, PartialEq, Eq)]

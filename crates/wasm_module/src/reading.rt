@@ -11,7 +11,7 @@ use crate::fault::ModuleFault;
 use crate::sections::{customs_at, next_at, next_count_at};
 use crate::structure::Module;
 use std::alloc::Global;
-use wasm_instr::wasm_grammar::{ReadFault, Stop, none_at};
+use wasm_grammar::{ReadFault, Stop, none_at};
 
 /// The bytes after the header (Core 5.5.16).
 fn header_at(end: usize, bytes: &[u8]) -> Result<&[u8], Stop>

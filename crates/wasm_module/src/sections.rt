@@ -6,10 +6,10 @@ ghost use Rattle.wasm_instr.specs.wasm_grammar.Reading.{name_at, vector_at, size
 ghost use Rattle.wasm_module.specs.Sections.{begins, custom_at, customs_at, section_at, next_at, given_at};
 
 use std::alloc::Global;
-use wasm_instr::wasm_grammar::{
+use wasm_grammar::{
     Form, ReadFault, Stop, bytes_at, none_at, part_at, place, sized_at, tag_at, u32_at,
 };
-use wasm_instr::wl_base::Seq;
+use wl_base::Seq;
 
 /// Whether the bytes are UTF-8.
 fn is_utf8(text: &[u8]) -> bool

@@ -5,9 +5,9 @@ ghost use Rattle.wasm_module.specs.PartReading.{first_table_at, named_table_at, 
 use crate::entries::init_at;
 use crate::parts::{DataSegment, Element};
 use std::alloc::Global;
-use wasm_instr::wasm_grammar::{ReadFault, Stop, bytes_at, tag_at, u32_at, vector_at};
-use wasm_instr::wasm_types::ConstExpr;
-use wasm_instr::wl_base::{Item, Seq};
+use wasm_grammar::{ReadFault, Stop, bytes_at, tag_at, u32_at, vector_at};
+use wasm_types::ConstExpr;
+use wl_base::{Item, Seq};
 
 /// The functions of table 0 behind the flag, and the bytes after them.
 fn first_table_at(

@@ -2,8 +2,8 @@
 
 use crate::parts::{DataSegment, Element, Export, ModuleGlobal};
 use wasm_instr::Body;
-use wasm_instr::wasm_types::{FuncType, Import, Limits, TableType};
-use wasm_instr::wl_base::Seq;
+use wasm_types::{FuncType, Import, Limits, TableType};
+use wl_base::Seq;
 
 /// A module, section by section (Core 2.5). Indexes count the imports first.
 #[derive(Debug, PartialEq, Eq, Drop)]

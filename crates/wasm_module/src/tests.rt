@@ -1,10 +1,10 @@
 use super::*;
 use std::alloc::Global;
 use std::test::Fail;
+use wasm_grammar::{ReadFault, Stop};
 use wasm_instr::Body;
-use wasm_instr::wasm_grammar::{ReadFault, Stop};
-use wasm_instr::wasm_types::{ConstExpr, GlobalType, Limits, TableType, ValType};
-use wasm_instr::wl_base::{Item, OutOfMemory, Seq};
+use wasm_types::{ConstExpr, GlobalType, Limits, TableType, ValType};
+use wl_base::{Item, OutOfMemory, Seq};
 
 /// Where the last instruction of a body ends.
 fn end_of(body: &Body) -> Option<u32> {

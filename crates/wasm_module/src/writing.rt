@@ -8,11 +8,9 @@ ghost use Rattle.wasm_module.specs.Modules.{IsModuleButPlaces};
 
 use crate::structure::Module;
 use std::alloc::Global;
-use wasm_instr::wasm_grammar::{
-    Spell, put_byte, put_bytes, put_count, put_itself, put_u32, put_vector,
-};
-use wasm_instr::wl_base::{OutOfMemory, Seq};
+use wasm_grammar::{Spell, put_byte, put_bytes, put_count, put_itself, put_u32, put_vector};
 use wasm_instr::{Body, put_body};
+use wl_base::{OutOfMemory, Seq};
 
 /// Appends a section that has these contents: its id, their size, and they (Core 5.5.2).
 fn put_contents(to: &mut Seq<u8>, id: u8, contents: &[u8]) -> Result<(), OutOfMemory>

@@ -2,7 +2,7 @@
 ghost use Rattle.std.specs.Prelude.{◌≡◌};
 ghost use Rattle.wasm_sections.specs.declared.fault.FrameFault.TheVariants as faults;
 
-use wasm_grammar::wl_base::OutOfMemory;
+use wl_base::OutOfMemory;
 
 /// Why a file is no frame of sections: its header, or the first section at fault with the place of
 /// its id, from the file's first byte.

@@ -7,8 +7,8 @@ ghost use Rattle.wasm_sections.specs.declared.section.SectionSpan.{SectionSpan a
 use crate::fault::FrameFault;
 use crate::section::SectionSpan;
 use std::alloc::Global;
-use wasm_grammar::wl_base::{Seq, Span};
 use wasm_grammar::{place, u32_at};
+use wl_base::{Seq, Span};
 
 /// Where a section stands in the order, from 1; 0 for a custom one, which may stand anywhere.
 fn rank_of(id: u8) -> u8

@@ -1,6 +1,6 @@
 //! Where a section lies.
 
-use wasm_grammar::wl_base::Span;
+use wl_base::Span;
 
 /// A section, and where its payload lies in the file (Core 5.5.2).
 #[derive(Clone, Copy, Debug, PartialEq, Eq)]

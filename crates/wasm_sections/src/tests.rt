@@ -1,7 +1,7 @@
 use super::*;
 use std::alloc::Global;
 use std::test::Fail;
-use wasm_grammar::wl_base::{Seq, Span};
+use wl_base::{Seq, Span};
 
 /// The header, and these bytes behind it.
 fn module(alloc: Global, after: &[u8]) -> Result<Seq<u8>, Fail> {

@@ -4,8 +4,8 @@ ghost use Rattle.wasm_grammar.specs.Fault.{Reads};
 ghost use Rattle.wasm_grammar.specs.Writers.{Appends, Keeps};
 ghost use Rattle.wasm_types.specs.Types.{SpellsExpr, closed_at, opened_expr, const_expr_at};
 
-use wasm_grammar::wl_base::{Item, OutOfMemory, Seq};
 use wasm_grammar::{Stop, byte_at, put_byte, put_s32, put_s64, put_u32, s32_at, s64_at};
+use wl_base::{Item, OutOfMemory, Seq};
 
 /// A constant expression of one instruction (Core 5.4.9).
 #[derive(Clone, Copy, Debug, PartialEq, Eq)]

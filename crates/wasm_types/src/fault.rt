@@ -2,8 +2,8 @@
 ghost use Rattle.std.specs.Prelude.{◌≡◌};
 ghost use Rattle.wasm_types.specs.Fault.{plain_fault, form_fault};
 
-use wasm_grammar::wl_base::Item;
 use wasm_grammar::{ReadFault, Stop};
+use wl_base::Item;
 
 /// What reading comes to first, from left to right.
 #[derive(Clone, Copy, Debug, PartialEq, Eq)]

@@ -9,10 +9,10 @@ ghost use Rattle.wasm_types.specs.declared.function.FuncType.{FuncType};
 use crate::fault::FormFault;
 use crate::value::ValType;
 use std::alloc::Global;
-use wasm_grammar::wl_base::{OutOfMemory, Seq};
 use wasm_grammar::{
     Form, ReadFault, Spell, cut_back, put_byte, put_vector, read_front, tag_at, vector_at,
 };
+use wl_base::{OutOfMemory, Seq};
 
 /// What a function takes and gives (Core 5.3.6). Two of them are equal where their lists are.
 #[derive(Debug, PartialEq, Eq, Hash, Drop)]

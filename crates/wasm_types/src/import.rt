@@ -9,10 +9,10 @@ use crate::table::{
     put_table_type, table_type_at,
 };
 use std::alloc::Global;
-use wasm_grammar::wl_base::{Item, Name, OutOfMemory, Seq};
 use wasm_grammar::{
     Form, ReadFault, Spell, Stop, byte_at, name_at, place, put_byte, put_bytes, put_u32, u32_at,
 };
+use wl_base::{Item, Name, OutOfMemory, Seq};
 
 /// What an import is (Core 5.5.5).
 #[derive(Clone, Copy, Debug, PartialEq, Eq)]

@@ -10,10 +10,10 @@ ghost use Rattle.wasm_types.specs.declared.table.GlobalType.{GlobalType};
 use crate::fault::PlainFault;
 use crate::value::{ValType, plain_val_type_at};
 use std::alloc::Global;
-use wasm_grammar::wl_base::{Item, OutOfMemory, Seq};
 use wasm_grammar::{
     Form, ReadFault, Spell, Stop, byte_at, cut_back, place, put_byte, put_u32, u32_at,
 };
+use wl_base::{Item, OutOfMemory, Seq};
 
 /// The size of a memory, in pages of 64 KiB, or of a table, in elements (Core 5.3.7).
 #[derive(Clone, Copy, Debug, PartialEq, Eq)]

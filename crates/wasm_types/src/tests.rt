@@ -1,7 +1,7 @@
 use super::*;
 use std::test::Fail;
-use wasm_grammar::wl_base::{Item, Seq};
 use wasm_grammar::{ReadFault, Spell, Stop, put_vector, vector_at};
+use wl_base::{Item, Seq};
 
 #[test]
 fn function_types_are_read(rt: HostRuntime) {

@@ -4,8 +4,8 @@ ghost use Rattle.wasm_grammar.specs.Fault.{Reads};
 ghost use Rattle.wasm_types.specs.Types.{val_type_of, val_type_at};
 
 use std::alloc::Global;
-use wasm_grammar::wl_base::{Item, OutOfMemory, Seq};
 use wasm_grammar::{Form, ReadFault, Spell, Stop, byte_at, place, put_byte};
+use wl_base::{Item, OutOfMemory, Seq};
 
 /// A type of values that is linked (Core 5.3.4, of numbers alone).
 #[derive(Clone, Copy, Debug)]

@@ -2,7 +2,7 @@
 ghost use Rattle.std.specs.Prelude.{◌↔◌, IsTrue};
 ghost use Rattle.name_entries.specs.View.{InputsRise};
 
-use name_entries::object_file::Object;
+use name_entries::Object;
 
 /// Whether the inputs of the objects rise, from 1 or more to below 2^20, as those of loaded objects do.
 pub fn inputs_rise(objects: &[Object]) -> bool

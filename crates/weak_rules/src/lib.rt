@@ -10,9 +10,7 @@ mod tests;
 
 pub use inputs::inputs_rise;
 pub use name_cases::{first_clash, first_duplicate};
-pub use name_entries::link_names::Names;
-pub use name_entries::name_rules::{Meaning, PairCase};
-pub use name_entries::{Entries, EntryTable};
+pub use name_entries::{Entries, EntryTable, Meaning, Names, PairCase};
 pub use name_jobs::{GroupJobs, NameJobs, group_winners, laws, name_winners};
 pub use name_meanings::{Resolution, resolve};
 pub use name_unresolved::first_unresolved;

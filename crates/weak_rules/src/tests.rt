@@ -8,8 +8,8 @@ ghost use Rattle.name_entries.specs.Fits.{Fits, FitsObjects};
 use super::*;
 use crate::counted::{Asked, Counted};
 use comdat_pick::pick;
-use name_entries::made_symbols::Mode;
-use name_entries::object_file::{Object, read_object};
+use made_symbols::Mode;
+use name_entries::{Object, read_object};
 use std::alloc::Global;
 use std::thread::Threads;
 use symbol_race::{race, rank};
@@ -153,7 +153,7 @@ fn raced_over<R: Threads + Sync>(
 #[test]
 fn each_offer_is_asked_for_once_by_workers_at_once(rt: HostRuntime) {
     let files = [weak(), grouped(), grouped(), strong(), grouped(), strong()];
-    let made = u64::from(name_entries::made_symbols::count(Mode::Plain));
+    let made = u64::from(made_symbols::count(Mode::Plain));
     for workers in [2u32, 64] {
         let wanted = BothRaces {
             group: Some(2),
