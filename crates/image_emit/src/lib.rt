@@ -12,8 +12,6 @@ mod put_kinds;
 mod sizes;
 mod sources;
 mod splitting;
-#[cfg(test)]
-mod tests;
 mod tree;
 mod within;
 

@@ -13,8 +13,6 @@ mod library;
 mod magic;
 mod members;
 mod table;
-#[cfg(test)]
-mod tests;
 
 pub use fault::LibError;
 pub use laws::{library_is_unambiguous, members_lie_in_order, the_least_is_offered};

@@ -18,4 +18,3 @@ pub mod Round
 pub mod Beginning
 pub mod Whole
 pub mod Starting
-pub mod Tested

@@ -14,8 +14,6 @@ mod offer;
 mod running;
 mod slot;
 mod table;
-#[cfg(test)]
-mod tests;
 
 pub use call::load_rounds;
 pub use given::{Given, LibraryFile, RoundError};

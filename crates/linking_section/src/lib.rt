@@ -11,8 +11,6 @@ mod linking;
 mod reading;
 mod segment;
 mod symbol;
-#[cfg(test)]
-mod tests;
 
 pub use fault::LinkingFault;
 pub use flags::{

@@ -10,8 +10,6 @@ mod name;
 mod segments;
 mod short_span;
 mod symbols;
-#[cfg(test)]
-mod tests;
 
 pub use func_types::{FuncTypeRef, FuncTypes};
 pub use functions::{FunctionDef, FunctionRef, Functions};

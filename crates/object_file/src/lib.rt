@@ -12,8 +12,6 @@ mod names;
 mod object;
 mod reading;
 mod segments;
-#[cfg(test)]
-mod tests;
 
 pub use laws::{index_spaces_are_counted, operands_stand_on_immediates, read_objects_are_sound};
 pub use object::Object;

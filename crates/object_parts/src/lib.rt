@@ -16,8 +16,6 @@ mod kind;
 mod parts;
 mod placed;
 mod reading;
-#[cfg(test)]
-mod tests;
 
 pub use body_windows::{Mismatch, Operand, Operands, OperandsRef, Reference};
 pub use code::split_at_place;

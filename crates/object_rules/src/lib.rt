@@ -13,8 +13,6 @@ mod relocs;
 mod rules;
 mod spaces;
 mod symbols;
-#[cfg(test)]
-mod tests;
 mod windows;
 
 pub use names::name_of;

@@ -11,8 +11,6 @@ mod reading;
 mod sections;
 mod segments;
 mod structure;
-#[cfg(test)]
-mod tests;
 mod writing;
 
 pub use entries::{export_at, global_at, init_at};

@@ -3,8 +3,8 @@ ghost use Rattle.std.specs.Prelude.{◌≡◌, ◌+◌, ◌<◌, ◌^◌, ℕ, S
 ghost use Rattle.lib_rounds.specs.declared.given.Given.{Given as GivenObject};
 ghost use Rattle.lib_rounds.specs.Inputs.{IsRead};
 
-use super::*;
 use lib_index::read_index;
+use lib_rounds::{Given, LibraryFile, Loaded, RoundError, load_rounds};
 use made_symbols::Mode;
 use object_file::read_object;
 use std::alloc::Global;

@@ -1,8 +1,11 @@
-use super::*;
 use std::alloc::Global;
 use std::test::Fail;
 use wasm_grammar::{ReadFault, Stop};
 use wasm_instr::Body;
+use wasm_module::{
+    DataSegment, Element, Export, ModuleFault, ModuleGlobal, data_segment_at, element_at,
+    export_at, global_at, init_at, lent_name_at, lent_segment_at, read, write,
+};
 use wasm_types::{ConstExpr, GlobalType, Limits, TableType, ValType};
 use wl_base::{Item, OutOfMemory, Seq};
 

@@ -1,4 +1,8 @@
-use super::*;
+use linking_section::{
+    EXPLICIT_NAME, EXPORTED, Group, HIDDEN, InitFunc, LOCAL, Linking, LinkingFault, Member,
+    NO_STRIP, RETAIN, STRINGS, SegmentInfo, Symbol, SymbolKind, UNDEFINED, WEAK, group_at,
+    linking_at, read, segment_at, symbol_at,
+};
 use std::alloc::Global;
 use std::test::Fail;
 use wasm_grammar::{Form, ReadFault, Stop, vector_at};

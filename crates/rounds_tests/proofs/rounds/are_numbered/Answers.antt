@@ -1,8 +1,8 @@
 use Rattle.std.proofs.Common.{List, sym, subst, arith}
 use Rattle.std.proofs.lemmas.List.{drop_all}
 use Rattle.lib_rounds.specs.declared.given.Given.{Given}
-use Rattle.lib_rounds.proofs.Tested.{NumberedFrom, numbered_from_one}
-use Rattle.lib_rounds.proofs.tests.are_numbered.Goals as goal
+use Rattle.rounds_tests.proofs.Tested.{NumberedFrom, numbered_from_one}
+use Rattle.rounds_tests.proofs.rounds.are_numbered.Goals as goal
 
 pub returns : goal.returns
 returns c _ = numbered_from_one c.args.given.now (c.loop-one.invariant (subst (λ (gs : List Given). NumberedFrom c.loop-one.last gs)

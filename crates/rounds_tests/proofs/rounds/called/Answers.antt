@@ -1,6 +1,6 @@
 use Rattle.std.proofs.Common.{[], ◌∷◌}
-use Rattle.lib_rounds.proofs.Tested.{are_candidates, one_is_read}
-use Rattle.lib_rounds.proofs.tests.called.Goals as goal
+use Rattle.rounds_tests.proofs.Tested.{are_candidates, one_is_read}
+use Rattle.rounds_tests.proofs.rounds.called.Goals as goal
 
 pub load_rounds-requires : goal.load_rounds-requires
 load_rounds-requires c = (

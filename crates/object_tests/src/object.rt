@@ -1,4 +1,4 @@
-use super::*;
+use object_file::{ObjectError, read_object};
 use object_rules::{Operand, Reloc};
 use std::alloc::Global;
 use wl_base::{Fault, Item, Part, Span};

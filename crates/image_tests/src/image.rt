@@ -1,5 +1,4 @@
-use super::*;
-use crate::within::lie_in;
+use image_emit::{Image, PlacedSource, Source, emit, lie_in, measure};
 use std::alloc::Global;
 use std::sync::atomic::{AtomicU64, Ordering};
 use std::test::Fail;

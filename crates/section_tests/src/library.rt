@@ -1,4 +1,4 @@
-use super::*;
+use lib_index::{LibError, Library, has_magic, read_index};
 use std::alloc::Global;
 use std::test::Fail;
 use wl_base::{LibFault, Seq, Span};

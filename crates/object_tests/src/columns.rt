@@ -1,6 +1,8 @@
-use super::*;
 use body_windows::{Operand, Operands};
 use linking_section::SymbolKind;
+use object_columns::{
+    FuncTypes, FunctionRef, Functions, Imports, SegmentRef, Segments, SymbolRef, Symbols,
+};
 use reloc_section::Reloc;
 use std::alloc::Global;
 use std::test::Fail;

@@ -1,8 +1,8 @@
-use super::*;
 use object_parts::{
     CodeBody, DataPart, Element, Export, Group, InitFunc, Linking, Member, Mismatch, Operands,
     Parts, Reloc, RelocSection, SectionSpan, SegmentInfo, Symbol, SymbolKind,
 };
+use object_rules::broken_rule;
 use std::alloc::Global;
 use wasm_types::{ConstExpr, FuncType, GlobalType, Import, ImportKind, Limits, TableType, ValType};
 use wl_base::{Name, OutOfMemory, Seq, Span};

@@ -1,4 +1,4 @@
-use super::*;
+use object_parts::{DataPart, Parts, PartsFault, SectionStop, parts_of};
 use std::alloc::Global;
 use wasm_grammar::Stop;
 use wasm_sections::frame;

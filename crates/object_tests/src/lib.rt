@@ -1,0 +1,11 @@
+//! Objects, from their sections to the whole: what is told of spelled bytes, and the first rule that others break.
+#![tactic(auto)]
+
+#[cfg(test)]
+mod columns;
+#[cfg(test)]
+mod object;
+#[cfg(test)]
+mod parts;
+#[cfg(test)]
+mod rules;
