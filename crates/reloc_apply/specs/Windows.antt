@@ -1,11 +1,11 @@
 -- Windows, the values that fit them, and bytes with their windows written.
 -- Linking.md, "Relocation Sections": a relocated number is padded to five bytes in code, and has four bytes in data.
-use Rattle.std.specs.Prelude.{ℕ, ◌+◌, ◌-◌, ◌/◌, ◌%◌, ◌^◌, nat_lt, int_lt, Bool, not, ◌&&◌, List, [], ◌∷◌, ◌++◌, take, drop, length, find, if◌then◌else◌, Option, option_map, map, Result, Ok, Err, ℤ, pos, negsuc, ◌+ℤ◌, ◌≤ℤ◌}
+use Rattle.std.specs.Prelude.{◌≡◌, ℕ, ◌+◌, ◌-◌, ◌/◌, ◌%◌, ◌^◌, nat_lt, int_lt, Bool, not, ◌&&◌, List, [], ◌∷◌, ◌++◌, take, drop, length, find, if◌then◌else◌, Option, option_map, map, Result, Ok, Err, ℤ, pos, negsuc, ◌+ℤ◌, ◌≤ℤ◌}
 use Rattle.leb_codec.specs.Shortest.{u32_padded, s32_padded}
 use Rattle.wl_base.specs.Choice.{unless, ◌>>=◌}
 use Rattle.wl_base.specs.declared.fault.What.TheVariants.{Reference}
 use Rattle.wl_base.specs.declared.layout_error.LayoutError.{LayoutError}
-use Rattle.wl_base.specs.declared.layout_error.LayoutError.TheVariants.{Overflow}
+use Rattle.wl_base.specs.declared.layout_error.LayoutError.TheVariants.{Overflow, OutOfMemory}
 use Rattle.reloc_apply.specs.declared.window.Form.{Form}
 use Rattle.reloc_apply.specs.declared.window.Form.TheVariants.{Unsigned5, Signed5, Word4}
 use Rattle.reloc_apply.specs.declared.window.Window.{Window}
@@ -77,6 +77,16 @@ patches_from (w ∷ ws) = do
   first ← patch_at w
   others ← patches_from ws
   Ok (first ∷ others)
+
+-- patches, and behind them those of windows; or the first value of the windows that is out of range
+abbrev pub patched_on : List Patch → List Window → Result (List Patch) LayoutError
+patched_on front ws = patches_from ws >>= λ xs. Ok (front ++ xs)
+
+-- what is there behind a call that puts patches behind others
+abbrev pub Puts : {A : Type 0} → Result A LayoutError → List Patch → Result (List Patch) LayoutError → Type 0
+Puts (Ok a) now said = said ≡ Ok now
+Puts (Err (Overflow what needed)) now said = said ≡ Err (Overflow what needed)
+Puts (Err OutOfMemory) now said = Unit {0}
 
 -- the bytes with one window written, and with one after another
 abbrev pub patched : Patch → List ℕ → List ℕ

@@ -101,6 +101,20 @@ fn valued(alloc: Global, windows: &[Window]) -> Option<Result<Patches, LayoutErr
     Some(values(alloc, windows))
 }
 
+// The same, where each is put behind the others.
+fn pushed(alloc: Global, windows: &[Window]) -> Option<Result<Patches, LayoutError>> {
+    let mut patches = Patches::with_capacity(alloc, windows.len()).ok()?;
+    for window in windows {
+        if !is_sum(window) {
+            return None;
+        }
+        if let Err(fault) = patches.push(window) {
+            return Some(Err(fault));
+        }
+    }
+    Some(Ok(patches))
+}
+
 // So many bytes FF with these windows filled, where they lie apart.
 fn filled<G: Gate, R: Threads + Sync>(
     rt: &R,
@@ -184,6 +198,8 @@ fn values_are_targets_and_addends(rt: HostRuntime) -> Result<(), Fail> {
         ]
         .as_slice()
     );
+    let others = pushed(rt.alloc(), &windows).ok_or("no sums")??;
+    assert!(rt; others == patches);
     let none = valued(rt.alloc(), &[]).ok_or("no sums")??;
     assert!(rt; none.patches.is_empty());
     Ok(())
@@ -207,6 +223,8 @@ fn the_first_value_out_of_range_is_answered(rt: HostRuntime) -> Result<(), Fail>
             needed,
         };
         assert!(rt; answer == Err(fault), "at {needed}");
+        let answer = pushed(rt.alloc(), &[fine, wrong, low]).ok_or("no sums")?;
+        assert!(rt; answer == Err(fault), "put, at {needed}");
     }
     Ok(())
 }

@@ -1,7 +1,7 @@
 //! The value of each window.
-ghost use Rattle.std.specs.Prelude.{◌≡◌, ◌-◌, ◌^◌, ◌≤ℤ◌, ◌<ℤ◌, ◌+ℤ◌, pos, negsuc, [], All, IfOk};
+ghost use Rattle.std.specs.Prelude.{◌≡◌, ◌-◌, ◌^◌, ◌≤ℤ◌, ◌<ℤ◌, ◌+ℤ◌, pos, negsuc, [], ◌∷◌, All, IfOk};
 ghost use Rattle.wl_base.specs.Answers.{Answers};
-ghost use Rattle.reloc_apply.specs.Windows.{IsSum, patches_of, patches_from, patch_at, bits32, fits_form};
+ghost use Rattle.reloc_apply.specs.Windows.{IsSum, patches_of, patches_from, patch_at, patched_on, Puts, bits32, fits_form};
 
 use crate::{Form, Patch, Patches, Window};
 use std::alloc::Global;
@@ -37,6 +37,31 @@ fn room_for(alloc: Global, count: usize) -> Result<Seq<Patch>, OutOfMemory>
     ensures { IfOk result (λ patches. patches ≡ []) }
 {
     Ok(Seq::from_vec(Vec::with_capacity(alloc, count)?))
+}
+
+impl Patches {
+    /// No patch, and room for so many.
+    pub fn with_capacity(alloc: Global, count: usize) -> Result<Patches, OutOfMemory>
+        ensures { IfOk result (λ made. made.patches ≡ []) }
+    {
+        Ok(Patches {
+            patches: room_for(alloc, count)?,
+        })
+    }
+
+    /// Puts what is written into a window behind the others.
+    ///
+    /// # Errors
+    ///
+    /// `Overflow` with `Reference` exactly where the value is out of the range of its form. `OutOfMemory`.
+    pub fn push(&mut self, window: &Window) -> Result<(), LayoutError>
+        requires { IsSum window.now }
+        ensures { Puts result self.new.patches (patched_on self.old.patches (window.now ∷ [])) }
+    {
+        let patch = patch(window)?;
+        self.patches.push(patch)?;
+        Ok(())
+    }
 }
 
 fn patch(window: &Window) -> Result<Patch, LayoutError>
