@@ -17,7 +17,7 @@ use crate::LinkError;
 use link_image::image;
 use link_layout::{Layout, Placed, place_segments};
 use link_numbers::{Numbering, number};
-use link_output::laws::windows_stand_in_sources;
+use link_output::laws::{values_are_judged_in_turn, windows_stand_in_sources};
 use link_output::{measured, write};
 use link_program::{Entries, Program, Winner};
 use std::alloc::Global;
@@ -82,6 +82,7 @@ fn write_out<'a, R: Threads + Sync, G: Gate>(
     ensures short { IsShort result }
 {
     windows_stand_in_sources();
+    values_are_judged_in_turn();
     let layout = Layout {
         program,
         numbering,
@@ -94,7 +95,7 @@ fn write_out<'a, R: Threads + Sync, G: Gate>(
         numbering,
         placed,
     };
-    let windows = again.windows(alloc, live, m.places.as_slice())?;
-    let bytes = write(rt, alloc, files, &image, &m, windows, workers, gate)?;
+    let patches = again.patches(alloc, live, m.places.as_slice())?;
+    let bytes = write(rt, alloc, files, &image, &m, &patches, workers, gate)?;
     Ok(bytes)
 }

@@ -3,6 +3,7 @@ pub mod Chunks
 pub mod MadeData
 pub mod Pairs
 pub mod Steps
+pub mod Patched
 pub mod Filled
 pub mod Parts
 pub mod PlacedTold

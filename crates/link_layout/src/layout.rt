@@ -2,7 +2,8 @@
 ghost use Rattle.std.specs.Prelude.{◌≡◌, ◌<◌, ◌^◌, ℕ, length, slice_index_or, unwrap_or, All, IfOk, IsTrue};
 ghost use Rattle.link_program.specs.made_symbols.declared.mode.Mode.TheVariants.{Plain};
 ghost use Rattle.link_program.specs.name_rules.Entries.{Entry};
-ghost use Rattle.link_program.specs.reloc_apply.Windows.{IsSum};
+ghost use Rattle.link_program.specs.wl_base.Answers.{Answers};
+ghost use Rattle.link_program.specs.reloc_apply.Windows.{IsSum, patches_of};
 ghost use Rattle.link_program.specs.link_rules.Program as rules;
 ghost use Rattle.link_program.specs.link_rules.Keys as keys;
 ghost use Rattle.link_program.specs.link_rules.Values as values;
@@ -19,15 +20,15 @@ ghost use Rattle.link_layout.specs.Layout.{looked, IsLayout, IsNamedBy};
 
 use crate::Placed;
 use crate::keys::{function_meant, function_of, global_named};
-use crate::moved::all_windows;
+use crate::moved::all_patches;
 use link_numbers::{Numbering, keys_are_told};
 use link_program::{Definition, FunctionKey, GotKey, Lead, Named, Program, Symbol};
 use linking_section::SymbolKind;
 use mark_bits::{Chunk, ChunkTable};
 use memory_layout::Places;
-use reloc_apply::{Form, Window};
+use reloc_apply::{Form, Patches, Window};
 use std::alloc::Global;
-use wl_base::{OutOfMemory, Seq};
+use wl_base::{LayoutError, OutOfMemory};
 
 /// A program with all numbers of its output and the places of its segments, by reference.
 #[derive(Clone, Copy)]
@@ -362,22 +363,25 @@ impl<'a> Layout<'a> {
         self.window_seen(named)
     }
 
-    /// The windows of all sources of the output by their places there: of the bodies of functions, then of the live segments that
-    /// aren't zero. `places` has the place of each source. A place of 2^64 and more is answered as want of memory.
-    pub fn windows(
+    /// What is written into the windows of all sources of the output, by their places there: of the bodies of functions, then of the live
+    /// segments that aren't zero. `places` has the place of each source. A place of 2^64 and more is answered as want of memory.
+    ///
+    /// # Errors
+    ///
+    /// `Overflow` with `Reference` exactly where a value is out of range: the first one by place in the output. `OutOfMemory`.
+    pub fn patches(
         self,
         alloc: Global,
         live: &[u32],
         places: &[u64],
-    ) -> Result<Seq<Window>, OutOfMemory>
+    ) -> Result<Patches, LayoutError>
         ghost s: { Stage }
         requires is { IsLayout s.program s.parts s.exports self }
         requires live { AreLive s.program live.now s.parts }
-        ensures is { IfOk result (λ ws. ws ≡ moved_windows places.now (source_windows Plain s.program s.parts s.exports (layout Plain s.program s.parts s.exports))) }
-        ensures sums { IfOk result (λ ws. All IsSum ws) }
+        ensures { Answers result (patches_of (moved_windows places.now (source_windows Plain s.program s.parts s.exports (layout Plain s.program s.parts s.exports)))) }
     {
         keys_are_told();
-        let windows = all_windows(alloc, self, live, places)?;
-        Ok(windows)
+        let patches = all_patches(alloc, self, live, places)?;
+        Ok(patches)
     }
 }

@@ -1,6 +1,7 @@
 //! The windows of all sources.
 ghost use Rattle.std.specs.Prelude.{◌≡◌, ◌==◌, ◌++◌, ◌∷◌, [], false, map, filter, drop, length, slice_index_or, All, IfOk, OnOk};
-ghost use Rattle.link_program.specs.reloc_apply.Windows.{IsSum};
+ghost use Rattle.link_program.specs.wl_base.Answers.{Answers};
+ghost use Rattle.link_program.specs.reloc_apply.Windows.{IsSum, patches_of, patched_on, Puts};
 ghost use Rattle.link_program.specs.Moved.{moved_window, moved_windows};
 ghost use Rattle.link_layout.specs.Seen.{body_number, AreTargets, row_windows, body_windows, moved_sources};
 ghost use Rattle.link_layout.specs.Layout.{looked, AreThere};
@@ -10,9 +11,9 @@ use crate::segments::row_at;
 use crate::{Layout, Placed};
 use link_program::{FunctionKey, Tables};
 use mark_bits::{Chunk, ChunkTable};
-use reloc_apply::Window;
+use reloc_apply::{Patches, Window};
 use std::alloc::Global;
-use wl_base::{OutOfMemory, Seq};
+use wl_base::{LayoutError, OutOfMemory};
 
 /// The number of the part that has the body of a function. What the linker makes has its numbers already.
 fn body_number(chunks: &ChunkTable, key: FunctionKey) -> Option<u32>
@@ -31,75 +32,70 @@ fn body_number(chunks: &ChunkTable, key: FunctionKey) -> Option<u32>
     }
 }
 
-/// Puts a window behind the others, so much later.
-fn push_window(windows: &mut Vec<Window>, window: Window, by: u64) -> Result<(), OutOfMemory>
+/// Puts what is written into a window behind the others, so much later.
+fn push_patch(patches: &mut Patches, window: Window, by: u64) -> Result<(), LayoutError>
     requires { IsSum window }
-    ensures is { OnOk result (windows.new.items ≡ windows.old.items ++ moved_window by window ∷ []) }
-    ensures sums { OnOk result (All IsSum windows.old.items → All IsSum windows.new.items) }
+    ensures { Puts result patches.new.patches (patched_on patches.old.patches (moved_window by window ∷ [])) }
 {
     let Some(place) = by.checked_add(window.place) else {
-        return Err(OutOfMemory);
+        return Err(LayoutError::OutOfMemory);
     };
-    windows.push(Window { place, ..window })?;
-    Ok(())
+    patches.push(&Window { place, ..window })
 }
 
-/// Puts the windows of a part behind the others, so much later.
+/// Puts what is written into the windows of a part behind the others, so much later.
 fn push_part(
-    windows: &mut Vec<Window>,
+    patches: &mut Patches,
     layout: Layout<'_>,
     targets: &[u64],
     number: u32,
     place: u64,
-) -> Result<(), OutOfMemory>
+) -> Result<(), LayoutError>
     requires there { AreThere layout }
     requires targets { AreTargets (looked layout) targets.now }
-    ensures is { OnOk result (windows.new.items ≡ windows.old.items ++ map (moved_window place) (row_windows (looked layout.entry) number)) }
-    ensures sums { OnOk result (All IsSum windows.old.items → All IsSum windows.new.items) }
+    ensures { Puts result patches.new.patches (patched_on patches.old.patches (map (moved_window place) (row_windows (looked layout.entry) number))) }
 {
     let row = row_at(layout.program.tables, number);
     for named in row {
         let window = layout.window_by(targets, named);
-        push_window(windows, window, place)?;
+        push_patch(patches, window, place)?;
     }
     Ok(())
 }
 
-/// Puts the windows of the body of a function behind the others, so much later.
+/// Puts what is written into the windows of the body of a function behind the others, so much later.
 fn push_body(
-    windows: &mut Vec<Window>,
+    patches: &mut Patches,
     layout: Layout<'_>,
     targets: &[u64],
     key: FunctionKey,
     place: u64,
-) -> Result<(), OutOfMemory>
+) -> Result<(), LayoutError>
     requires there { AreThere layout }
     requires targets { AreTargets (looked layout) targets.now }
-    ensures is { OnOk result (windows.new.items ≡ windows.old.items ++ map (moved_window place) (body_windows (looked layout.entry) key)) }
-    ensures sums { OnOk result (All IsSum windows.old.items → All IsSum windows.new.items) }
+    ensures { Puts result patches.new.patches (patched_on patches.old.patches (map (moved_window place) (body_windows (looked layout.entry) key))) }
 {
     if let Some(number) = body_number(&layout.program.tables.chunks, key) {
-        push_part(windows, layout, targets, number, place)?;
+        push_part(patches, layout, targets, number, place)?;
     }
     Ok(())
 }
 
-/// Puts the windows of the bodies of functions behind the others, each as much later as its place says.
+/// Puts what is written into the windows of the bodies of functions behind the others, each as much later as its place says.
 fn push_bodies(
-    windows: &mut Vec<Window>,
+    patches: &mut Patches,
     layout: Layout<'_>,
     targets: &[u64],
     keys: &[FunctionKey],
     places: &[u64],
-) -> Result<(), OutOfMemory>
+) -> Result<(), LayoutError>
     requires there { AreThere layout }
     requires targets { AreTargets (looked layout) targets.now }
-    ensures is { OnOk result (windows.new.items ≡ windows.old.items ++ moved_windows places.now (map (body_windows (looked layout.entry)) keys.now)) }
-    ensures sums { OnOk result (All IsSum windows.old.items → All IsSum windows.new.items) }
+    ensures { Puts result patches.new.patches (patched_on patches.old.patches (moved_windows places.now (map (body_windows (looked layout.entry)) keys.now))) }
 {
     for (i, key) in keys.iter().enumerate() {
         if let Some(place) = places.get(i) {
-            push_body(windows, layout, targets, *key, *place)?;
+            push_body(patches, layout, targets, *key, *place)?;
         }
     }
     Ok(())
@@ -129,22 +125,21 @@ fn solid_numbers(alloc: Global, placed: &Placed, live: &[u32]) -> Result<Vec<u32
     Ok(numbers)
 }
 
-/// Puts the windows of segments behind the others, each as much later as its place says.
+/// Puts what is written into the windows of segments behind the others, each as much later as its place says.
 fn push_segments(
-    windows: &mut Vec<Window>,
+    patches: &mut Patches,
     layout: Layout<'_>,
     targets: &[u64],
     numbers: &[u32],
     places: &[u64],
-) -> Result<(), OutOfMemory>
+) -> Result<(), LayoutError>
     requires there { AreThere layout }
     requires targets { AreTargets (looked layout) targets.now }
-    ensures is { OnOk result (windows.new.items ≡ windows.old.items ++ moved_windows places.now (map (row_windows (looked layout.entry)) numbers.now)) }
-    ensures sums { OnOk result (All IsSum windows.old.items → All IsSum windows.new.items) }
+    ensures { Puts result patches.new.patches (patched_on patches.old.patches (moved_windows places.now (map (row_windows (looked layout.entry)) numbers.now))) }
 {
     for (i, number) in numbers.iter().enumerate() {
         if let Some(place) = places.get(i) {
-            push_part(windows, layout, targets, *number, *place)?;
+            push_part(patches, layout, targets, *number, *place)?;
         }
     }
     Ok(())
@@ -164,32 +159,31 @@ fn count_windows(tables: &Tables, keys: &[FunctionKey], segments: &[u32]) -> usi
     count
 }
 
-/// The windows of all sources, by the data alone.
-pub(crate) fn all_windows(
+/// What is written into the windows of all sources, by the data alone.
+pub(crate) fn all_patches(
     alloc: Global,
     layout: Layout<'_>,
     live: &[u32],
     places: &[u64],
-) -> Result<Seq<Window>, OutOfMemory>
+) -> Result<Patches, LayoutError>
     requires { AreThere layout }
-    ensures is { IfOk result (λ ws. ws ≡ moved_sources (looked layout.entry) live.now places.now) }
-    ensures sums { IfOk result (λ ws. All IsSum ws) }
+    ensures { Answers result (patches_of (moved_sources (looked layout.entry) live.now places.now)) }
 {
     let numbering = layout.numbering;
     let keys = keys_behind(numbering.functions(), numbering.imported());
     let segments = solid_numbers(alloc, layout.placed, live)?;
     let targets = layout.targets(alloc)?;
     let count = count_windows(layout.program.tables, keys, &segments);
-    let mut windows = Vec::with_capacity(alloc, count)?;
-    push_bodies(&mut windows, layout, &targets, keys, places)?;
+    let mut patches = Patches::with_capacity(alloc, count)?;
+    push_bodies(&mut patches, layout, &targets, keys, places)?;
     push_segments(
-        &mut windows,
+        &mut patches,
         layout,
         &targets,
         &segments,
         places_behind(places, keys.len()),
     )?;
-    Ok(Seq::from_vec(windows))
+    Ok(patches)
 }
 
 /// The keys behind so many.

@@ -1,8 +1,14 @@
 //! What holds of the image and the windows of a program, as calls that do nothing: their contracts are the laws.
-ghost use Rattle.std.specs.Prelude.{◌≡◌, ℕ, List, All};
+ghost use Rattle.std.specs.Prelude.{◌≡◌, ℕ, List, Ok, Err};
 ghost use Rattle.link_program.specs.reloc_apply.declared.window.Window.{Window as Value};
+ghost use Rattle.link_program.specs.reloc_apply.declared.window.Patches.{Patches as Written};
+ghost use Rattle.link_program.specs.reloc_apply.Windows.{patches_of};
+ghost use Rattle.link_program.specs.wl_base.Answers.{Answers};
+ghost use Rattle.link_program.specs.wl_base.declared.layout_error.LayoutError.{LayoutError as Fault};
+ghost use Rattle.link_program.specs.image_emit.declared.tree.Image.{Image as Whole};
+ghost use Rattle.link_program.specs.image_emit.declared.measuring.Measured.{Measured as Size};
 ghost use Rattle.link_program.specs.image_emit.Bytes.{tree_of};
-ghost use Rattle.link_program.specs.image_emit.Measures.{LieIn};
+ghost use Rattle.link_program.specs.image_emit.Measures.{LieIn, image_measure};
 ghost use Rattle.link_program.specs.image_emit.Pieces.{sources};
 ghost use Rattle.link_program.specs.made_symbols.declared.mode.Mode.TheVariants.{Plain};
 ghost use Rattle.link_program.specs.name_rules.Entries.{Entry};
@@ -10,9 +16,10 @@ ghost use Rattle.link_program.specs.link_rules.Program.{Program, Part};
 ghost use Rattle.link_program.specs.link_rules.Keys.{numbers};
 ghost use Rattle.link_program.specs.link_rules.Values.{Layout};
 ghost use Rattle.link_program.specs.link_rules.Output.{layout, image, source_windows};
+ghost use Rattle.link_program.specs.Moved.{moved_windows};
 ghost use Rattle.link_program.specs.Stand.{PartsStand};
 ghost use Rattle.link_program.specs.Live.{AreLive};
-ghost use Rattle.link_output.specs.Written.{StandInSources};
+ghost use Rattle.link_output.specs.Written.{StandInSources, Writes};
 
 /// The sources of the image lie in their files, and the windows of each source in it.
 pub fn windows_stand_in_sources()
@@ -20,4 +27,10 @@ pub fn windows_stand_in_sources()
         → LieIn p.files (image Plain p parts es (layout Plain p parts es)) }
     ensures stand { (p : Program) (live : List ℕ) (parts : List Part) (es : List Entry) → PartsStand p → AreLive p live parts
         → StandInSources (source_windows Plain p parts es (layout Plain p parts es)) (sources (tree_of p.files (image Plain p parts es (layout Plain p parts es)))) }
+{}
+
+/// The first value that is out of range, of the windows by their places in the output, is the first one source by source.
+pub fn values_are_judged_in_turn()
+    ensures { (files : List (List ℕ)) (i : Whole) (m : Size) (wss : List (List Value)) (f : Fault) → LieIn files i → image_measure i ≡ Ok m
+        → StandInSources wss (sources (tree_of files i)) → Answers {A = Written} (Err f) (patches_of (moved_windows m.places wss)) → Writes (Err f) wss files i }
 {}

@@ -1,5 +1,8 @@
-use Rattle.std.proofs.Common.{rules, ap, ◌∙◌}
+use Rattle.std.proofs.Common.{rules, Err, ap, sym, subst, ◌∙◌}
 use Rattle.std.proofs.lemmas.Result.{err_from_is_err_and}
+use Rattle.link_program.specs.wl_base.Answers.{Answers}
+use Rattle.link_program.specs.reloc_apply.declared.window.Patches.{Patches}
+use Rattle.link_program.specs.reloc_apply.Windows.{patches_of}
 use Rattle.link_program.specs.Moved.{moved_windows}
 use Rattle.link_core.proofs.Answering.{the_image, the_windows, lie_there, stand_there, measure_failed, write_failed, wrote}
 use Rattle.link_core.proofs.layers.write_out.Goals as goal
@@ -15,25 +18,31 @@ returns-in_err-m-clause-exact g c =
     rw (p.1)
     (measure_failed g.s.program (the_image g.s) (the_windows g.s) c.args.files.now c.in_ok-image.image (search rules) c.in_ok-image.ensures c.in_err-m.field-0.0 p.0 p.2 c.in_err-m.ensures)
 
+pub returns-in_err-patches-clause-exact : goal.returns-in_err-patches-clause-exact
+returns-in_err-patches-clause-exact g c =
+    let p = err_from_is_err_and c.from_residual-in_err-patches.result c.from_residual-in_err-patches.ensures.1 in
+    let files =
+    lie_there c.args.files.now g.s.program.files (the_image g.s) c.in_ok-image.image (search rules) c.in_ok-image.ensures
+    (c.windows_stand_in_sources.ensures.lie g.s.program c.args.live.now g.s.parts g.s.exports (search rules) (search rules)) in
+    let stand =
+    stand_there c.args.files.now g.s.program.files (the_image g.s) c.in_ok-image.image (the_windows g.s) (search rules) c.in_ok-image.ensures
+    (c.windows_stand_in_sources.ensures.stand g.s.program c.args.live.now g.s.parts g.s.exports (search rules) (search rules)) in
+    let told = subst (λ ks. Answers {A = Patches} (Err c.in_err-patches.field-0.0) (patches_of (moved_windows ks (the_windows g.s)))) c.as_slice.ensures c.in_err-patches.ensures in
+    rw (p.1)
+    (write_failed g.s.program (the_image g.s) (the_windows g.s) c.args.files.now c.in_ok-image.image (search rules) c.in_ok-image.ensures c.in_ok-m.m c.in_err-patches.field-0.0 p.0 p.2 c.in_ok-m.ensures
+    (c.values_are_judged_in_turn.ensures c.args.files.now c.in_ok-image.image c.in_ok-m.m (the_windows g.s) c.in_err-patches.field-0.0 files c.in_ok-m.ensures.0 stand told))
+
 pub write-requires : goal.write-requires
 write-requires g c κs within =
     let files =
     lie_there c.args.files.now g.s.program.files (the_image g.s) c.in_ok-image.image (search rules) c.in_ok-image.ensures
     (c.windows_stand_in_sources.ensures.lie g.s.program c.args.live.now g.s.parts g.s.exports (search rules) (search rules)) in
-    let windows = c.in_ok-windows.ensures.is ∙ ap (λ ks. moved_windows ks (the_windows g.s)) c.as_slice.ensures in
-    let sums = c.in_ok-windows.ensures.sums in
+    let patches = sym (ap (λ ks. patches_of (moved_windows ks (the_windows g.s))) c.as_slice.ensures) ∙ c.in_ok-patches.ensures in
     let stand =
     stand_there c.args.files.now g.s.program.files (the_image g.s) c.in_ok-image.image (the_windows g.s) (search rules) c.in_ok-image.ensures
     (c.windows_stand_in_sources.ensures.stand g.s.program c.args.live.now g.s.parts g.s.exports (search rules) (search rules)) in
     let measured = c.in_ok-m.ensures.0 in
-    search (rules, files, windows, sums, stand, measured)
-
-pub returns-in_err-bytes-clause-exact : goal.returns-in_err-bytes-clause-exact
-returns-in_err-bytes-clause-exact g c =
-    let p = err_from_is_err_and c.from_residual-in_err-bytes.result c.from_residual-in_err-bytes.ensures.1 in
-    rw (p.1)
-    (write_failed g.s.program (the_image g.s) (the_windows g.s) c.args.files.now c.in_ok-image.image (search rules) c.in_ok-image.ensures c.in_ok-m.m c.in_err-bytes.field-0.0 p.0 p.2 c.in_ok-m.ensures
-    c.in_err-bytes.ensures.is)
+    search (rules, files, patches, stand, measured)
 
 pub returns-clause-exact : goal.returns-clause-exact
 returns-clause-exact g c =

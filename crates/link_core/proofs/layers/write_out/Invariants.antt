@@ -5,8 +5,8 @@ use Rattle.link_core.proofs.layers.write_out.Given as goal
 abbrev pub ghost-image : goal.ghost-image
 ghost-image g a = g.s
 
-abbrev pub ghost-windows : goal.ghost-windows
-ghost-windows g a = g.s
+abbrev pub ghost-patches : goal.ghost-patches
+ghost-patches g a = g.s
 
 abbrev pub ghost-write : goal.ghost-write
 ghost-write g a = source_windows Plain g.s.program g.s.parts g.s.exports (layout Plain g.s.program g.s.parts g.s.exports)
