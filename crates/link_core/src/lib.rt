@@ -4,6 +4,7 @@
 mod error;
 mod layers;
 mod linking;
+mod prepared;
 mod whole;
 
 pub use error::LinkError;

@@ -1,16 +1,18 @@
 //! From what was found of the objects to what is live.
-ghost use Rattle.std.specs.Prelude.{◌≡◌, map, All, Contains};
+ghost use Rattle.std.specs.Prelude.{◌≡◌, map, All, Contains, IfOk};
 ghost use Rattle.link_program.specs.made_symbols.declared.mode.Mode.TheVariants as modes;
 ghost use Rattle.link_program.specs.link_rules.Program as rules;
 ghost use Rattle.link_program.specs.link_rules.Marks as marks;
 ghost use Rattle.link_program.specs.link_rules.LinkOf.{exporting, marked};
 ghost use Rattle.link_program.specs.Told.{told_winner};
-ghost use Rattle.link_core.specs.Answers.{Answers, IsShort};
+ghost use Rattle.link_core.specs.Answers.{Answers};
+ghost use Rattle.link_core.specs.Prepared.{outputs, IsReady};
 ghost use Rattle.link_core.specs.Linking.{IsLinking};
 ghost use Rattle.link_marks.specs.About.{Exporting};
 
 use crate::LinkError;
 use crate::layers::lay_out;
+use crate::prepared::Prepared;
 use link_marks::{all_are_meant, exports, live_parts, repeated_export, unresolved};
 use link_program::{Entries, Program, Winner};
 use std::alloc::Global;
@@ -19,7 +21,7 @@ use wl_base::Seq;
 use wl_fan::Workers;
 use wl_outside::Gate;
 
-/// Links a program: what it exports, and then the rest.
+/// Prepares the output of a program: what it exports, and then the rest.
 pub(crate) fn link_found<R: Threads + Sync, G: Gate>(
     rt: &R,
     alloc: Global,
@@ -28,11 +30,11 @@ pub(crate) fn link_found<R: Threads + Sync, G: Gate>(
     files: &[Seq<u8>],
     workers: Workers,
     gate: &G,
-) -> Result<Seq<u8>, LinkError>
+) -> Result<Prepared, LinkError>
     ghost p: { rules.Program }
     requires { IsLinking p program entries files.now }
-    ensures exact { Answers result (exporting modes.Plain p (marks.exported modes.Plain p)) }
-    ensures short { IsShort result }
+    ensures exact { Answers (outputs files.now result) (exporting modes.Plain p (marks.exported modes.Plain p)) }
+    ensures ready { IfOk result (IsReady files.now) }
 {
     let exports = exports(alloc, program)?;
     let repeated = repeated_export(alloc, program, exports.as_slice())?;
@@ -51,7 +53,7 @@ pub(crate) fn link_found<R: Threads + Sync, G: Gate>(
     )
 }
 
-// Marks what is live, and links it.
+// Marks what is live, and prepares its output.
 fn mark<R: Threads + Sync, G: Gate>(
     rt: &R,
     alloc: Global,
@@ -61,13 +63,13 @@ fn mark<R: Threads + Sync, G: Gate>(
     exports: &[Winner],
     workers: Workers,
     gate: &G,
-) -> Result<Seq<u8>, LinkError>
+) -> Result<Prepared, LinkError>
     ghost w: { Exporting }
     requires is { IsLinking w.program program entries files.now }
     requires exports { exports.now ≡ map (told_winner program.names.now.names) w.exports }
     requires winners { All (Contains w.program.winners) w.exports }
-    ensures exact { Answers result (marked modes.Plain w.program w.exports) }
-    ensures short { IsShort result }
+    ensures exact { Answers (outputs files.now result) (marked modes.Plain w.program w.exports) }
+    ensures ready { IfOk result (IsReady files.now) }
 {
     let live = live_parts(rt, alloc, program, exports, workers, gate)?;
     let open = unresolved(rt, alloc, program, &live)?;
@@ -76,14 +78,11 @@ fn mark<R: Threads + Sync, G: Gate>(
     }
     all_are_meant();
     lay_out(
-        rt,
         alloc,
         program,
         entries,
         files,
         exports,
         live.numbers.as_slice(),
-        workers,
-        gate,
     )
 }

@@ -6,10 +6,13 @@ ghost use Rattle.link_program.specs.link_rules.Program.{program_of};
 ghost use Rattle.link_program.specs.link_rules.LinkOf.{link_of, link_program};
 ghost use Rattle.link_program.specs.Loaded.{IsLoaded, Origin};
 ghost use Rattle.link_core.specs.Answers.{Answers, IsShort};
+ghost use Rattle.link_core.specs.Prepared.{outputs, IsReady};
 
 use crate::LinkError;
 use crate::linking::link_found;
+use crate::prepared::Prepared;
 use link_inputs::{Inputs, load_inputs};
+use link_output::write;
 use link_plan::Plan;
 use program_build::find;
 use program_build::laws::parts_stand;
@@ -50,7 +53,7 @@ pub fn link<R: Threads + Sync, G: Gate>(
     linked
 }
 
-// Links the loaded objects.
+// Links the loaded objects. What was found of them is given back before the output's buffer is reserved.
 fn link_loaded<R: Threads + Sync, G: Gate>(
     rt: &R,
     alloc: Global,
@@ -70,12 +73,39 @@ fn link_loaded<R: Threads + Sync, G: Gate>(
     let Some(workers) = Workers::new(plan.threads) else {
         return Err(LinkError::OutOfMemory);
     };
+    let prepared = prepare_loaded(rt, alloc, plan, files, inputs, workers, gate)?;
+    let Prepared {
+        image,
+        measured,
+        patches,
+    } = &prepared;
+    let bytes = write(rt, alloc, files, image, measured, patches, workers, gate)?;
+    Ok(bytes)
+}
+
+// Prepares the output of the loaded objects.
+fn prepare_loaded<R: Threads + Sync, G: Gate>(
+    rt: &R,
+    alloc: Global,
+    plan: &Plan,
+    files: &[Seq<u8>],
+    inputs: &Inputs,
+    workers: Workers,
+    gate: &G,
+) -> Result<Prepared, LinkError>
+    ghost origin: { Origin }
+    requires plan { IsPlan plan.now }
+    requires same { origin.plan ≡ plan.now }
+    requires files { origin.files ≡ files.now }
+    requires loaded { IsLoaded origin.files origin.all inputs.now.loaded inputs.now.homes }
+    ensures exact { Answers (outputs files.now result) (link_program modes.Plain (program_of modes.Plain plan.now origin.files origin.all inputs.now.loaded)) }
+    ensures ready { IfOk result (IsReady files.now) }
+{
     let objects = inputs.objects();
     let found = find(rt, alloc, plan, objects, inputs.homes(), gate)?;
     parts_stand();
     let program = found.program(plan, objects);
     let entries = found.view(objects);
     let linked = link_found(rt, alloc, program, entries, files, workers, gate);
-    forget(found);
     linked
 }

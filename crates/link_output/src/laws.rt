@@ -1,13 +1,14 @@
 //! What holds of the image and the windows of a program, as calls that do nothing: their contracts are the laws.
-ghost use Rattle.std.specs.Prelude.{◌≡◌, ℕ, List, Ok, Err};
+ghost use Rattle.std.specs.Prelude.{◌≡◌, ℕ, List, Ok, Err, length};
 ghost use Rattle.link_program.specs.reloc_apply.declared.window.Window.{Window as Value};
 ghost use Rattle.link_program.specs.reloc_apply.declared.window.Patches.{Patches as Written};
-ghost use Rattle.link_program.specs.reloc_apply.Windows.{patches_of};
+ghost use Rattle.link_program.specs.reloc_apply.Windows.{patches_of, filled};
+ghost use Rattle.link_program.specs.reloc_apply.Apart.{AreApart};
 ghost use Rattle.link_program.specs.wl_base.Answers.{Answers};
 ghost use Rattle.link_program.specs.wl_base.declared.layout_error.LayoutError.{LayoutError as Fault};
 ghost use Rattle.link_program.specs.image_emit.declared.tree.Image.{Image as Whole};
 ghost use Rattle.link_program.specs.image_emit.declared.measuring.Measured.{Measured as Size};
-ghost use Rattle.link_program.specs.image_emit.Bytes.{tree_of};
+ghost use Rattle.link_program.specs.image_emit.Bytes.{tree_of, bytes_of};
 ghost use Rattle.link_program.specs.image_emit.Measures.{LieIn, image_measure};
 ghost use Rattle.link_program.specs.image_emit.Pieces.{sources};
 ghost use Rattle.link_program.specs.made_symbols.declared.mode.Mode.TheVariants.{Plain};
@@ -33,4 +34,11 @@ pub fn windows_stand_in_sources()
 pub fn values_are_judged_in_turn()
     ensures { (files : List (List ℕ)) (i : Whole) (m : Size) (wss : List (List Value)) (f : Fault) → LieIn files i → image_measure i ≡ Ok m
         → StandInSources wss (sources (tree_of files i)) → Answers {A = Written} (Err f) (patches_of (moved_windows m.places wss)) → Writes (Err f) wss files i }
+{}
+
+/// What is written into windows that stand in their sources lies apart in the output, and with it written the image's bytes are the output's.
+pub fn patches_make_the_output()
+    ensures { (files : List (List ℕ)) (i : Whole) (m : Size) (wss : List (List Value)) (p : Written) → LieIn files i → image_measure i ≡ Ok m
+        → StandInSources wss (sources (tree_of files i)) → patches_of (moved_windows m.places wss) ≡ Ok p
+        → (AreApart 0 (length (bytes_of (tree_of files i))) p.patches) × Writes (Ok (filled p.patches (bytes_of (tree_of files i)))) wss files i }
 {}

@@ -1,13 +1,9 @@
 //! One buffer for all of the output.
-ghost use Rattle.std.specs.Prelude.{◌≡◌, List, Ok, IfOk, length};
-ghost use Rattle.link_program.specs.reloc_apply.declared.window.Window.{Window as Value};
-ghost use Rattle.link_program.specs.reloc_apply.Windows.{filled, patches_of};
+ghost use Rattle.std.specs.Prelude.{◌≡◌, Ok, IfOk, length};
+ghost use Rattle.link_program.specs.reloc_apply.Windows.{filled};
 ghost use Rattle.link_program.specs.reloc_apply.Apart.{AreApart};
 ghost use Rattle.link_program.specs.image_emit.Bytes.{tree_of, bytes_of};
 ghost use Rattle.link_program.specs.image_emit.Measures.{LieIn, image_measure};
-ghost use Rattle.link_program.specs.image_emit.Pieces.{sources};
-ghost use Rattle.link_program.specs.Moved.{moved_windows};
-ghost use Rattle.link_output.specs.Written.{StandInSources, Writes};
 
 use image_emit::{Image, Measured, emit};
 use reloc_apply::{Patches, fill};
@@ -17,11 +13,9 @@ use wl_base::{OutOfMemory, Seq};
 use wl_fan::Workers;
 use wl_outside::Gate;
 
-/// The bytes of a measured image, with a value written into each window. The windows of each source rise and lie in it; what is written
-/// into them is given by their places in the output, source by source.
+/// The bytes of a measured image, with each patch written. The patches rise and don't overlap.
 ///
 /// Once the buffer is reserved nothing can want memory.
-#[tactic(auto, using(crate::proofs::Writes::apart, crate::proofs::Writes::writes))]
 pub fn write<R: Threads + Sync, G: Gate>(
     rt: &R,
     alloc: Global,
@@ -32,12 +26,10 @@ pub fn write<R: Threads + Sync, G: Gate>(
     workers: Workers,
     gate: &G,
 ) -> Result<Seq<u8>, OutOfMemory>
-    ghost wss: { List (List Value) }
     requires measured { image_measure image.now ≡ Ok m.now }
     requires files { LieIn files.now image.now }
-    requires patches { patches_of (moved_windows m.now.places wss) ≡ Ok patches.now }
-    requires stand { StandInSources wss (sources (tree_of files.now image.now)) }
-    ensures is { IfOk result (λ bytes. Writes (Ok bytes) wss files.now image.now) }
+    requires apart { AreApart 0 (length (bytes_of (tree_of files.now image.now))) patches.now.patches }
+    ensures is { IfOk result (λ bytes. bytes ≡ filled patches.now.patches (bytes_of (tree_of files.now image.now))) }
     ensures len { IfOk result (λ bytes. length bytes ≡ m.now.len) }
 {
     let mut bytes = room(alloc, m.len)?;

@@ -3,6 +3,7 @@ use Rattle.link_program.specs.Told.{told_winner}
 use Rattle.std.proofs.lemmas.Result.{err_from_is_err_and}
 use Rattle.link_program.specs.Live.{AreLive, AllMeant}
 use Rattle.link_core.specs.Linking.{IsLinking}
+use Rattle.link_core.specs.Prepared.{outputs}
 use Rattle.link_core.proofs.Answering.{place_failed, number_failed, goes_on_placed}
 use Rattle.link_core.proofs.layers.lay_out.Goals as goal
 
@@ -16,8 +17,8 @@ returns-in_err-numbering-clause-exact g c =
     let p = err_from_is_err_and c.from_residual-in_err-numbering.result c.from_residual-in_err-numbering.ensures.1 in
     rw (p.1) (number_failed g.s.program g.s.exports g.s.parts ℕ c.in_err-numbering.field-0.0 p.0 p.2 c.in_ok-placed.ensures.0 c.in_err-numbering.ensures.table)
 
-pub write_out-requires : goal.write_out-requires
-write_out-requires g c κs within =
+pub prepare-requires : goal.prepare-requires
+prepare-requires g c =
     let is : IsLinking g.s.program c.args.program c.args.entries c.args.files.now = search rules in
     let live : AreLive g.s.program c.args.live.now g.s.parts = search rules in
     let meant : AllMeant g.s.parts = search rules in
@@ -32,4 +33,4 @@ write_out-requires g c κs within =
 
 pub returns-clause-exact : goal.returns-clause-exact
 returns-clause-exact g c =
-    goes_on_placed g.s.program g.s.exports g.s.parts c.write_out.result c.in_ok-placed.ensures.0 c.in_ok-numbering.ensures.table c.write_out.ensures.exact
+    goes_on_placed g.s.program g.s.exports g.s.parts (outputs c.args.files.now c.prepare.result) c.in_ok-placed.ensures.0 c.in_ok-numbering.ensures.table c.prepare.ensures.exact

@@ -6,5 +6,5 @@ ghost-place_segments g a = g.s
 abbrev pub ghost-number : goal.ghost-number
 ghost-number g a = record { program = g.s.program; exports = g.s.exports; parts = g.s.parts }
 
-abbrev pub ghost-write_out : goal.ghost-write_out
-ghost-write_out g a = g.s
+abbrev pub ghost-prepare : goal.ghost-prepare
+ghost-prepare g a = g.s

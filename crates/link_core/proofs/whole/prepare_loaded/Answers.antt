@@ -9,8 +9,9 @@ use Rattle.link_program.specs.link_rules.LinkOf.{exporting, link_program}
 use Rattle.link_program.specs.Loaded.{IsLoaded}
 use Rattle.link_core.specs.Answers.{Answers}
 use Rattle.link_core.specs.Linking.{IsLinking}
+use Rattle.link_core.specs.Prepared.{outputs}
 use Rattle.link_core.proofs.Answering.{find_failed, goes_on_found}
-use Rattle.link_core.proofs.whole.link_loaded.Goals as goal
+use Rattle.link_core.proofs.whole.prepare_loaded.Goals as goal
 
 pub find-requires : goal.find-requires
 find-requires g c κs within =
@@ -65,6 +66,6 @@ returns-clause-exact g c =
     let moved =
     ap (λ plan. program_of Plain plan g.origin.files g.origin.all objects) (sym same)
     ∙ ap (λ (os : List Object). program_of Plain g.origin.plan g.origin.files g.origin.all os) (sym c.program-program.ensures.objects) in
-    let linked = subst (λ q. Answers c.link_found-linked.result (exporting Plain q (exported Plain q))) (sym moved) c.link_found-linked.ensures.exact in
-    subst (λ (os : List Object). Answers c.link_found-linked.result (link_program Plain (program_of Plain c.args.plan.now g.origin.files g.origin.all os))) c.objects-objects.ensures
-    (goes_on_found p c.link_found-linked.result c.in_ok-found.ensures.0 linked)
+    let linked = subst (λ q. Answers (outputs c.args.files.now c.link_found-linked.result) (exporting Plain q (exported Plain q))) (sym moved) c.link_found-linked.ensures.exact in
+    subst (λ (os : List Object). Answers (outputs c.args.files.now c.link_found-linked.result) (link_program Plain (program_of Plain c.args.plan.now g.origin.files g.origin.all os))) c.objects-objects.ensures
+    (goes_on_found p (outputs c.args.files.now c.link_found-linked.result) c.in_ok-found.ensures.0 linked)

@@ -1,0 +1,14 @@
+//! What is left to write when all is placed and numbered.
+
+use image_emit::{Image, Measured};
+use reloc_apply::Patches;
+
+/// An output that is ready to be written: nothing of the program is needed any more.
+#[derive(Drop)]
+pub struct Prepared {
+    pub image: Image,
+    /// Where the sources of the image stand, and how long the output is.
+    pub measured: Measured,
+    /// What is written into the windows of the sources.
+    pub patches: Patches,
+}
