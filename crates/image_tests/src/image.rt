@@ -1,7 +1,6 @@
 use image_emit::{Image, PlacedSource, Source, emit, lie_in, measure};
 use std::alloc::Global;
 use std::sync::atomic::{AtomicU64, Ordering};
-use std::test::Fail;
 use std::thread::Threads;
 use wasm_module::{Element, Export, ModuleGlobal};
 use wasm_types::{ConstExpr, FuncType, GlobalType, Import, ImportKind, Limits, TableType, ValType};
@@ -45,7 +44,7 @@ impl Gate for Counts {
 }
 
 // The bytes of an image, where its parts lie in the files.
-fn emitted<G: Gate, R: Threads + Sync>(
+fn written<G: Gate, R: Threads + Sync>(
     rt: &R,
     alloc: Global,
     image: &Image,
@@ -65,18 +64,107 @@ fn emitted<G: Gate, R: Threads + Sync>(
     Some(Seq::from_vec(out))
 }
 
-// Whether an image has these bytes, whoever writes them.
-fn is_written<R: Threads + Sync>(
+// The images of these tests.
+#[derive(Clone, Copy)]
+enum Case {
+    Empty,
+    Calls,
+    Kinds,
+    Data,
+    Mixed,
+}
+
+fn image_of(alloc: Global, case: Case) -> Result<Image, OutOfMemory> {
+    let mut image = empty(alloc);
+    fill(alloc, &mut image, case)?;
+    Ok(image)
+}
+
+fn fill(alloc: Global, image: &mut Image, case: Case) -> Result<(), OutOfMemory> {
+    match case {
+        Case::Empty => Ok(()),
+        Case::Calls => add_calls(alloc, image),
+        Case::Kinds => add_kinds(alloc, image),
+        Case::Data => add_data(alloc, image),
+        Case::Mixed => add_mixed(alloc, image),
+    }
+}
+
+fn files_of(alloc: Global, case: Case) -> Result<Seq<Seq<u8>>, OutOfMemory> {
+    let mut files = Seq::new(alloc);
+    add_files(alloc, &mut files, case)?;
+    Ok(files)
+}
+
+fn add_files(alloc: Global, files: &mut Seq<Seq<u8>>, case: Case) -> Result<(), OutOfMemory> {
+    match case {
+        Case::Empty => Ok(()),
+        Case::Calls => {
+            files.push(bytes(alloc, b"\xFF\x00\x41\x07\x0B".as_slice())?)?;
+            files.push(bytes(
+                alloc,
+                b"\xFF\xFF\xFF\x00\x10\x81\x80\x80\x80\x00\x0B\xFF".as_slice(),
+            )?)
+        }
+        Case::Kinds => {
+            files.push(bytes(alloc, b"\xFF".as_slice())?)?;
+            files.push(bytes(
+                alloc,
+                b"\xFF\xFF\x00\x10\x80\x80\x80\x80\x00\x0B\xFF".as_slice(),
+            )?)
+        }
+        Case::Data | Case::Mixed => files.push(bytes(alloc, b"\xFF\x04\x00\x0B".as_slice())?),
+    }
+}
+
+// The bytes of a case's image.
+fn emitted<G: Gate, R: Threads + Sync>(
     rt: &R,
     alloc: Global,
-    image: &Image,
-    files: &[Seq<u8>],
-    bytes: &[u8],
+    case: Case,
+    workers: u32,
+    gate: &G,
+) -> Option<Seq<u8>> {
+    let image = image_of(alloc, case).ok()?;
+    let files = files_of(alloc, case).ok()?;
+    written(rt, alloc, &image, files.as_slice(), workers, gate)
+}
+
+fn together(alloc: Global, parts: &[&[u8]]) -> Result<Seq<u8>, OutOfMemory> {
+    let mut all = Seq::new(alloc);
+    for part in parts {
+        all.extend_from_slice(part)?;
+    }
+    Ok(all)
+}
+
+// Whether bytes are these parts, one behind another.
+fn are_together(alloc: Global, bytes: &[u8], parts: &[&[u8]]) -> bool {
+    match together(alloc, parts) {
+        Ok(all) => bytes == all.as_slice(),
+        Err(_) => false,
+    }
+}
+
+// Whether so many workers write these bytes.
+fn is_written_by<R: Threads + Sync>(
+    rt: &R,
+    alloc: Global,
+    workers: u32,
+    case: Case,
+    parts: &[&[u8]],
 ) -> bool {
+    match emitted(rt, alloc, case, workers, &OpenGate) {
+        Some(out) => are_together(alloc, out.as_slice(), parts),
+        None => false,
+    }
+}
+
+// Whether a case's image has these bytes, whoever writes them.
+fn is_written<R: Threads + Sync>(rt: &R, alloc: Global, case: Case, parts: &[&[u8]]) -> bool {
     for workers in [1u32, 2, 64] {
-        match emitted(rt, alloc, image, files, workers, &OpenGate) {
-            Some(out) if out.as_slice() == bytes => {}
-            _ => return false,
+        if !is_written_by(rt, alloc, workers, case, parts) {
+            return false;
         }
     }
     true
@@ -108,26 +196,24 @@ fn func_type(
     params: &[ValType],
     results: &[ValType],
 ) -> Result<FuncType, OutOfMemory> {
-    Ok(FuncType {
-        params: Seq::from_slice(alloc, params)?,
-        results: Seq::from_slice(alloc, results)?,
-    })
+    let params = Seq::from_slice(alloc, params)?;
+    let results = Seq::from_slice(alloc, results)?;
+    Ok(FuncType { params, results })
 }
 
 fn import(alloc: Global, field: &[u8], kind: ImportKind) -> Result<Import, OutOfMemory> {
+    let module = bytes(alloc, b"env".as_slice())?;
+    let field = bytes(alloc, field)?;
     Ok(Import {
-        module: bytes(alloc, b"env".as_slice())?,
-        field: bytes(alloc, field)?,
+        module,
+        field,
         kind,
     })
 }
 
 fn export(alloc: Global, name: &[u8], kind: u8, index: u32) -> Result<Export, OutOfMemory> {
-    Ok(Export {
-        name: bytes(alloc, name)?,
-        kind,
-        index,
-    })
+    let name = bytes(alloc, name)?;
+    Ok(Export { name, kind, index })
 }
 
 fn element(
@@ -136,10 +222,11 @@ fn element(
     offset: ConstExpr,
     functions: &[u32],
 ) -> Result<Element, OutOfMemory> {
+    let functions = Seq::from_slice(alloc, functions)?;
     Ok(Element {
         table,
         offset,
-        functions: Seq::from_slice(alloc, functions)?,
+        functions,
     })
 }
 
@@ -158,8 +245,7 @@ fn part(file: u32, start: u64, len: u64) -> Source {
 }
 
 // f calls g, which gives 7.
-fn call_image(alloc: Global) -> Result<Image, OutOfMemory> {
-    let mut image = empty(alloc);
+fn add_calls(alloc: Global, image: &mut Image) -> Result<(), OutOfMemory> {
     let only = Limits {
         min: 1,
         max: Some(1),
@@ -176,22 +262,19 @@ fn call_image(alloc: Global) -> Result<Image, OutOfMemory> {
         .push(export(alloc, b"memory".as_slice(), 2, 0)?)?;
     image.exports.push(export(alloc, b"f".as_slice(), 0, 0)?)?;
     image.bodies.push(part(1, 3, 8))?;
-    image.bodies.push(part(0, 1, 4))?;
-    Ok(image)
+    image.bodies.push(part(0, 1, 4))
 }
 
 // Every kind of section but data. Its memories are more than one, so the module is well formed but not valid (Core 3.4.10).
-fn kinds_image(alloc: Global) -> Result<Image, OutOfMemory> {
-    let mut image = empty(alloc);
+fn add_kinds(alloc: Global, image: &mut Image) -> Result<(), OutOfMemory> {
     image.custom = Some(bytes(alloc, b"\x01x\x07".as_slice())?);
-    add_types(alloc, &mut image)?;
-    add_imports(alloc, &mut image)?;
-    add_tables(&mut image)?;
-    add_globals(&mut image)?;
-    add_exports(alloc, &mut image)?;
-    add_elements(alloc, &mut image)?;
-    add_bodies(alloc, &mut image)?;
-    Ok(image)
+    add_types(alloc, image)?;
+    add_imports(alloc, image)?;
+    add_tables(image)?;
+    add_globals(image)?;
+    add_exports(alloc, image)?;
+    add_elements(alloc, image)?;
+    add_bodies(alloc, image)
 }
 
 fn add_types(alloc: Global, image: &mut Image) -> Result<(), OutOfMemory> {
@@ -289,61 +372,46 @@ fn add_globals(image: &mut Image) -> Result<(), OutOfMemory> {
         .push(global(ValType::I64, false, ConstExpr::I64(i64::MIN)))
 }
 
-fn together(alloc: Global, parts: &[&[u8]]) -> Result<Seq<u8>, OutOfMemory> {
-    let mut all = Seq::new(alloc);
-    for part in parts {
-        all.extend_from_slice(part)?;
-    }
-    Ok(all)
-}
-
 // The 65 bytes, a section or entry a line.
-fn call_bytes(alloc: Global) -> Result<Seq<u8>, OutOfMemory> {
-    together(
-        alloc,
-        &[
-            b"\x00asm\x01\x00\x00\x00".as_slice(),
-            b"\x01\x05\x01\x60\x00\x01\x7F".as_slice(),
-            b"\x03\x03\x02\x00\x00".as_slice(),
-            b"\x04\x05\x01\x70\x01\x01\x01".as_slice(),
-            b"\x05\x03\x01\x00\x02".as_slice(),
-            b"\x07\x0E\x02\x06memory\x02\x00\x01f\x00\x00".as_slice(),
-            b"\x0A\x0F\x02\x08\x00\x10\x81\x80\x80\x80\x00\x0B".as_slice(),
-            b"\x04\x00\x41\x07\x0B".as_slice(),
-        ],
-    )
+fn calls_bytes() -> [&'static [u8]; 8] {
+    [
+        b"\x00asm\x01\x00\x00\x00".as_slice(),
+        b"\x01\x05\x01\x60\x00\x01\x7F".as_slice(),
+        b"\x03\x03\x02\x00\x00".as_slice(),
+        b"\x04\x05\x01\x70\x01\x01\x01".as_slice(),
+        b"\x05\x03\x01\x00\x02".as_slice(),
+        b"\x07\x0E\x02\x06memory\x02\x00\x01f\x00\x00".as_slice(),
+        b"\x0A\x0F\x02\x08\x00\x10\x81\x80\x80\x80\x00\x0B".as_slice(),
+        b"\x04\x00\x41\x07\x0B".as_slice(),
+    ]
 }
 
 // The 188 bytes, a section or entry a line.
-fn kinds_bytes(alloc: Global) -> Result<Seq<u8>, OutOfMemory> {
-    together(
-        alloc,
-        &[
-            b"\x00asm\x01\x00\x00\x00".as_slice(),
-            b"\x00\x03\x01x\x07".as_slice(),
-            b"\x01\x0B\x02\x60\x03\x7F\x7E\x7C\x01\x7D\x60\x00\x00".as_slice(),
-            b"\x02\x27\x04\x03env\x01f\x00\x01".as_slice(),
-            b"\x03env\x01t\x01\x70\x00\x03".as_slice(),
-            b"\x03env\x01m\x02\x01\x01\xAC\x02".as_slice(),
-            b"\x03env\x01g\x03\x7F\x00".as_slice(),
-            b"\x03\x03\x02\x01\x01".as_slice(),
-            b"\x04\x08\x02\x70\x01\x02\x02\x6F\x00\x00".as_slice(),
-            b"\x05\x08\x02\x00\x01\x01\x01\x80\x80\x04".as_slice(),
-            b"\x06\x25\x05\x7E\x01\x42\x7F\x0B\x7F\x01\x41\xC0\x00\x0B".as_slice(),
-            b"\x7F\x00\x41\xBF\x7F\x0B\x7F\x00\x23\x00\x0B".as_slice(),
-            b"\x7E\x00\x42\x80\x80\x80\x80\x80\x80\x80\x80\x80\x7F\x0B".as_slice(),
-            b"\x07\x14\x05\x01f\x00\x01\x01t\x01\x01\x01m\x02\x00\x01g\x03\x02\x00\x03\x03".as_slice(),
-            b"\x09\x10\x02\x00\x41\x01\x0B\x02\x01\x02".as_slice(),
-            b"\x02\x01\x23\x00\x0B\x00\x01\x00".as_slice(),
-            b"\x0A\x0F\x02\x08\x00\x10\x80\x80\x80\x80\x00\x0B".as_slice(),
-            b"\x04\x01\x01\x7F\x0B".as_slice(),
-        ],
-    )
+fn kinds_bytes() -> [&'static [u8]; 18] {
+    [
+        b"\x00asm\x01\x00\x00\x00".as_slice(),
+        b"\x00\x03\x01x\x07".as_slice(),
+        b"\x01\x0B\x02\x60\x03\x7F\x7E\x7C\x01\x7D\x60\x00\x00".as_slice(),
+        b"\x02\x27\x04\x03env\x01f\x00\x01".as_slice(),
+        b"\x03env\x01t\x01\x70\x00\x03".as_slice(),
+        b"\x03env\x01m\x02\x01\x01\xAC\x02".as_slice(),
+        b"\x03env\x01g\x03\x7F\x00".as_slice(),
+        b"\x03\x03\x02\x01\x01".as_slice(),
+        b"\x04\x08\x02\x70\x01\x02\x02\x6F\x00\x00".as_slice(),
+        b"\x05\x08\x02\x00\x01\x01\x01\x80\x80\x04".as_slice(),
+        b"\x06\x25\x05\x7E\x01\x42\x7F\x0B\x7F\x01\x41\xC0\x00\x0B".as_slice(),
+        b"\x7F\x00\x41\xBF\x7F\x0B\x7F\x00\x23\x00\x0B".as_slice(),
+        b"\x7E\x00\x42\x80\x80\x80\x80\x80\x80\x80\x80\x80\x7F\x0B".as_slice(),
+        b"\x07\x14\x05\x01f\x00\x01\x01t\x01\x01\x01m\x02\x00\x01g\x03\x02\x00\x03\x03".as_slice(),
+        b"\x09\x10\x02\x00\x41\x01\x0B\x02\x01\x02".as_slice(),
+        b"\x02\x01\x23\x00\x0B\x00\x01\x00".as_slice(),
+        b"\x0A\x0F\x02\x08\x00\x10\x80\x80\x80\x80\x00\x0B".as_slice(),
+        b"\x04\x01\x01\x7F\x0B".as_slice(),
+    ]
 }
 
 // Three bytes at 16 and one at 20: the one byte between is 0.
-fn data_image(alloc: Global) -> Result<Image, OutOfMemory> {
-    let mut image = empty(alloc);
+fn add_data(alloc: Global, image: &mut Image) -> Result<(), OutOfMemory> {
     image.data_offset = ConstExpr::I32(16);
     let own = bytes(alloc, b"\x01\x02\x03".as_slice())?;
     image.blocks.push(PlacedSource {
@@ -353,188 +421,164 @@ fn data_image(alloc: Global) -> Result<Image, OutOfMemory> {
     image.blocks.push(PlacedSource {
         address: 20,
         source: part(0, 1, 1),
-    })?;
-    Ok(image)
+    })
 }
 
 // A body, and three blocks with gaps, of which the last has no bytes.
-fn mixed_image(alloc: Global) -> Result<Image, OutOfMemory> {
-    let mut image = data_image(alloc)?;
+fn add_mixed(alloc: Global, image: &mut Image) -> Result<(), OutOfMemory> {
+    add_data(alloc, image)?;
     image.types.push(func_type(alloc, &[], &[])?)?;
     image.functions.push(0)?;
     image.bodies.push(part(0, 1, 3))?;
     image.blocks.push(PlacedSource {
         address: 23,
         source: part(0, 0, 0),
-    })?;
-    Ok(image)
-}
-
-fn call_files(alloc: Global) -> Result<Seq<Seq<u8>>, OutOfMemory> {
-    let mut files = Seq::new(alloc);
-    files.push(bytes(alloc, b"\xFF\x00\x41\x07\x0B".as_slice())?)?;
-    files.push(bytes(
-        alloc,
-        b"\xFF\xFF\xFF\x00\x10\x81\x80\x80\x80\x00\x0B\xFF".as_slice(),
-    )?)?;
-    Ok(files)
-}
-
-fn kinds_files(alloc: Global) -> Result<Seq<Seq<u8>>, OutOfMemory> {
-    let mut files = Seq::new(alloc);
-    files.push(bytes(alloc, b"\xFF".as_slice())?)?;
-    files.push(bytes(
-        alloc,
-        b"\xFF\xFF\x00\x10\x80\x80\x80\x80\x00\x0B\xFF".as_slice(),
-    )?)?;
-    Ok(files)
-}
-
-fn data_files(alloc: Global) -> Result<Seq<Seq<u8>>, OutOfMemory> {
-    let mut files = Seq::new(alloc);
-    files.push(bytes(alloc, b"\xFF\x04\x00\x0B".as_slice())?)?;
-    Ok(files)
+    })
 }
 
 #[test]
-fn images_have_their_bytes(rt: HostRuntime) -> Result<(), Fail> {
+fn images_have_their_bytes(rt: HostRuntime) {
     let alloc = rt.alloc();
-    let bytes = call_bytes(alloc)?;
-    let files = call_files(alloc)?;
-    assert!(rt;
-        is_written(
-            &rt,
-            alloc,
-            &call_image(alloc)?,
-            files.as_slice(),
-            bytes.as_slice()
-        )
-    );
-    let bytes = kinds_bytes(alloc)?;
-    let files = kinds_files(alloc)?;
-    assert!(rt;
-        is_written(
-            &rt,
-            alloc,
-            &kinds_image(alloc)?,
-            files.as_slice(),
-            bytes.as_slice()
-        )
-    );
-    Ok(())
+    assert!(rt; is_written(&rt, alloc, Case::Calls, &calls_bytes()));
+    assert!(rt; is_written(&rt, alloc, Case::Kinds, &kinds_bytes()));
 }
 
 #[test]
-fn data_has_gaps_of_zeros(rt: HostRuntime) -> Result<(), Fail> {
+fn data_has_gaps_of_zeros(rt: HostRuntime) {
     let alloc = rt.alloc();
-    let files = data_files(alloc)?;
     let data =
         b"\x00asm\x01\x00\x00\x00\x0B\x0B\x01\x00\x41\x10\x0B\x05\x01\x02\x03\x00\x04".as_slice();
-    assert!(rt; is_written(&rt, alloc, &data_image(alloc)?, files.as_slice(), data));
+    assert!(rt; is_written(&rt, alloc, Case::Data, &[data]));
     let head =
         b"\x00asm\x01\x00\x00\x00\x01\x04\x01\x60\x00\x00\x03\x02\x01\x00\x0A\x05\x01\x03\x04\x00\x0B".as_slice();
     let tail = b"\x0B\x0D\x01\x00\x41\x10\x0B\x07\x01\x02\x03\x00\x04\x00\x00".as_slice();
-    let mixed = together(alloc, &[head, tail])?;
-    assert!(rt;
-        is_written(
-            &rt,
-            alloc,
-            &mixed_image(alloc)?,
-            files.as_slice(),
-            mixed.as_slice()
-        )
-    );
+    assert!(rt; is_written(&rt, alloc, Case::Mixed, &[head, tail]));
     let header = b"\x00asm\x01\x00\x00\x00".as_slice();
-    assert!(rt; is_written(&rt, alloc, &empty(alloc), &[], header));
-    Ok(())
+    assert!(rt; is_written(&rt, alloc, Case::Empty, &[header]));
 }
 
-fn places_are(alloc: Global, image: &Image, len: u64, places: &[u64]) -> bool {
+fn are_measured(alloc: Global, image: &Image, len: u64, places: &[u64]) -> bool {
     match measure(alloc, image) {
         Ok(m) => m.len == len && m.places.as_slice() == places,
         Err(_) => false,
     }
 }
 
+// Whether a case's module has this length, and its parts these places.
+fn places_are(alloc: Global, case: Case, len: u64, places: &[u64]) -> bool {
+    match image_of(alloc, case) {
+        Ok(image) => are_measured(alloc, &image, len, places),
+        Err(_) => false,
+    }
+}
+
 #[test]
-fn sources_have_their_places(rt: HostRuntime) -> Result<(), Fail> {
+fn sources_have_their_places(rt: HostRuntime) {
     let alloc = rt.alloc();
-    assert!(rt; places_are(alloc, &call_image(alloc)?, 65, &[52, 61]));
-    assert!(rt; places_are(alloc, &kinds_image(alloc)?, 188, &[175, 184]));
-    assert!(rt; places_are(alloc, &data_image(alloc)?, 21, &[16, 20]));
-    assert!(rt; places_are(alloc, &mixed_image(alloc)?, 40, &[22, 33, 37, 40]));
-    assert!(rt; places_are(alloc, &empty(alloc), 8, &[]));
+    assert!(rt; places_are(alloc, Case::Calls, 65, &[52, 61]));
+    assert!(rt; places_are(alloc, Case::Kinds, 188, &[175, 184]));
+    assert!(rt; places_are(alloc, Case::Data, 21, &[16, 20]));
+    assert!(rt; places_are(alloc, Case::Mixed, 40, &[22, 33, 37, 40]));
+    assert!(rt; places_are(alloc, Case::Empty, 8, &[]));
+}
+
+fn add_lengths(image: &mut Image, lens: &[u64]) -> Result<(), OutOfMemory> {
+    for &len in lens {
+        image.bodies.push(part(0, 0, len))?;
+    }
     Ok(())
+}
+
+// The length that is too long.
+fn told_length(error: LayoutError) -> Option<i64> {
+    match error {
+        LayoutError::Overflow {
+            what: What::OutputLength,
+            needed,
+        } => Some(needed),
+        _ => None,
+    }
+}
+
+// The length of an image that is too long.
+fn long_length(alloc: Global, image: &Image) -> Option<i64> {
+    match measure(alloc, image) {
+        Ok(_) => None,
+        Err(error) => told_length(error),
+    }
 }
 
 // The length that is told for bodies of these lengths, where it is too long.
 fn too_long(alloc: Global, lens: &[u64]) -> Result<Option<i64>, OutOfMemory> {
     let mut image = empty(alloc);
-    for &len in lens {
-        image.bodies.push(part(0, 0, len))?;
-    }
-    match measure(alloc, &image) {
-        Err(
-            LayoutError::Overflow {
-                what: What::OutputLength,
-                needed,
-            },
-        ) => Ok(Some(needed)),
-        _ => Ok(None),
-    }
+    add_lengths(&mut image, lens)?;
+    Ok(long_length(alloc, &image))
 }
 
 #[test]
-fn no_module_has_more_than_2_31_bytes(rt: HostRuntime) -> Result<(), Fail> {
+fn no_module_has_more_than_2_31_bytes(rt: HostRuntime) {
     let alloc = rt.alloc();
-    assert_eq!(rt; too_long(alloc, &[0x8000_0000])?, Some(0x8000_0014));
-    assert_eq!(rt; too_long(alloc, &[0x7FFF_FFEC])?, Some(0x8000_0000));
-    assert_eq!(rt; too_long(alloc, &[0x7FFF_FFEB])?, None);
-    assert_eq!(rt; too_long(alloc, &[u64::MAX, u64::MAX])?, Some(i64::MAX));
-    Ok(())
+    assert_eq!(rt; too_long(alloc, &[0x8000_0000]), Ok(Some(0x8000_0014)));
+    assert_eq!(rt; too_long(alloc, &[0x7FFF_FFEC]), Ok(Some(0x8000_0000)));
+    assert_eq!(rt; too_long(alloc, &[0x7FFF_FFEB]), Ok(None));
+    assert_eq!(rt; too_long(alloc, &[u64::MAX, u64::MAX]), Ok(Some(i64::MAX)));
+}
+
+// Whether a body of this place lies in the files.
+fn lies_in(
+    alloc: Global,
+    files: &[Seq<u8>],
+    file: u32,
+    start: u64,
+    len: u64,
+) -> Result<bool, OutOfMemory> {
+    let mut image = empty(alloc);
+    image.bodies.push(part(file, start, len))?;
+    Ok(lie_in(files, &image))
+}
+
+// Whether it lies in the one file of the data.
+fn lies_in_data(alloc: Global, file: u32, start: u64, len: u64) -> Result<bool, OutOfMemory> {
+    let files = files_of(alloc, Case::Data)?;
+    lies_in(alloc, files.as_slice(), file, start, len)
 }
 
 #[test]
-fn parts_outside_of_files_are_told(rt: HostRuntime) -> Result<(), Fail> {
-    let alloc = rt.alloc();
-    let files = data_files(alloc)?;
+fn parts_outside_of_files_are_told(rt: HostRuntime) {
     for (file, start, len) in [(0u32, 1u64, 4u64), (0, 5, 0), (1, 0, 1), (0, u64::MAX, 2)] {
-        let mut image = empty(alloc);
-        image.bodies.push(part(file, start, len))?;
-        assert!(rt; !lie_in(files.as_slice(), &image));
+        assert_eq!(rt; lies_in_data(rt.alloc(), file, start, len), Ok(false));
     }
-    Ok(())
+}
+
+// How many bytes workers write that wait for each other, and whether none came.
+fn met<R: Threads + Sync>(rt: &R, alloc: Global, workers: u32) -> Option<(usize, u64)> {
+    let gate = Meeting {
+        came: AtomicU64::new(0),
+        late: AtomicU64::new(0),
+    };
+    let out = emitted(rt, alloc, Case::Calls, workers, &gate)?;
+    Some((out.len(), gate.late.load(Ordering::SeqCst)))
 }
 
 #[test]
-fn two_workers_fill_at_once(rt: HostRuntime) -> Result<(), Fail> {
-    let alloc = rt.alloc();
-    let image = call_image(alloc)?;
-    let files = call_files(alloc)?;
+fn two_workers_fill_at_once(rt: HostRuntime) {
     for workers in [2u32, 64] {
-        let gate = Meeting {
-            came: AtomicU64::new(0),
-            late: AtomicU64::new(0),
-        };
-        let out = emitted(&rt, alloc, &image, files.as_slice(), workers, &gate).ok_or("lies")?;
-        assert_eq!(rt; out.len(), 65);
-        assert_eq!(rt; gate.late.load(Ordering::SeqCst), 0);
+        assert_eq!(rt; met(&rt, rt.alloc(), workers), Some((65, 0)));
     }
-    Ok(())
+}
+
+// How many bytes workers write, and the counts of their jobs.
+fn counted<R: Threads + Sync>(rt: &R, alloc: Global, workers: u32) -> Option<(usize, u64)> {
+    let gate = Counts {
+        jobs: AtomicU64::new(0),
+    };
+    let out = emitted(rt, alloc, Case::Mixed, workers, &gate)?;
+    Some((out.len(), gate.jobs.load(Ordering::SeqCst)))
 }
 
 #[test]
-fn each_chunk_passes_the_gate_once(rt: HostRuntime) -> Result<(), Fail> {
-    let alloc = rt.alloc();
-    let image = mixed_image(alloc)?;
-    let files = data_files(alloc)?;
+fn each_chunk_passes_the_gate_once(rt: HostRuntime) {
     for workers in [1u32, 3, 64] {
-        let gate = Counts {
-            jobs: AtomicU64::new(0),
-        };
-        let out = emitted(&rt, alloc, &image, files.as_slice(), workers, &gate).ok_or("lies")?;
-        assert_eq!(rt; out.len(), 40);
-        assert_eq!(rt; gate.jobs.load(Ordering::SeqCst), 0x0101_0101);
+        assert_eq!(rt; counted(&rt, rt.alloc(), workers), Some((40, 0x0101_0101)));
     }
-    Ok(())
 }

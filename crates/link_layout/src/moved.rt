@@ -1,5 +1,5 @@
 //! The windows of all sources.
-ghost use Rattle.std.specs.Prelude.{◌≡◌, ◌==◌, ◌++◌, ◌∷◌, [], false, map, filter, drop, length, slice_index_or, All, IfOk, OnOk};
+ghost use Rattle.std.specs.Prelude.{◌≡◌, ◌∷◌, [], false, map, filter, drop, slice_index_or, IfOk};
 ghost use Rattle.link_program.specs.wl_base.Answers.{Answers};
 ghost use Rattle.link_program.specs.reloc_apply.Windows.{IsSum, patches_of, patched_on, Puts};
 ghost use Rattle.link_program.specs.Moved.{moved_window, moved_windows};

@@ -20,41 +20,55 @@ const COUNTER: GlobalType = GlobalType {
     var: true,
 };
 
+/// Adds the type of a function from these to nothing.
+fn add_type(alloc: Global, types: &mut FuncTypes, params: &[ValType]) -> Result<(), OutOfMemory> {
+    let params = Seq::from_slice(alloc, params)?;
+    let kind = FuncType {
+        params,
+        results: Seq::new(alloc),
+    };
+    types.push(&kind)
+}
+
 /// `() to ()`, and one from an i32.
 fn types(alloc: Global) -> Result<FuncTypes, OutOfMemory> {
-    let none = FuncType {
-        params: Seq::new(alloc),
-        results: Seq::new(alloc),
-    };
-    let one = FuncType {
-        params: Seq::from_slice(alloc, &[ValType::I32])?,
-        results: Seq::new(alloc),
-    };
     let mut types = FuncTypes::new(alloc);
-    types.push(&none)?;
-    types.push(&one)?;
+    add_type(alloc, &mut types, &[])?;
+    add_type(alloc, &mut types, &[ValType::I32])?;
     Ok(types)
 }
 
-/// A table `t`, a global `g`, and functions `f` and `h`.
-fn imports(alloc: Global) -> Result<Imports, OutOfMemory> {
+fn add_import(
+    alloc: Global,
+    imports: &mut Imports,
+    field: &[u8],
+    kind: ImportKind,
+) -> Result<(), OutOfMemory> {
+    let module = Seq::from_slice(alloc, b"env".as_slice())?;
+    let field = Seq::from_slice(alloc, field)?;
+    let import = Import {
+        module,
+        field,
+        kind,
+    };
+    imports.push(&import)
+}
+
+/// Adds a table `t`, a global `g`, and functions `f` and `h`.
+fn add_imports(alloc: Global, imports: &mut Imports) -> Result<(), OutOfMemory> {
     let table = TableType {
         funcref: true,
         limits: Limits { min: 0, max: None },
     };
+    add_import(alloc, imports, b"t", ImportKind::Table(table))?;
+    add_import(alloc, imports, b"g", ImportKind::GlobalVar(COUNTER))?;
+    add_import(alloc, imports, b"f", ImportKind::Function(0))?;
+    add_import(alloc, imports, b"h", ImportKind::Function(1))
+}
+
+fn imports(alloc: Global) -> Result<Imports, OutOfMemory> {
     let mut imports = Imports::new(alloc);
-    for (field, kind) in [
-        (b"t", ImportKind::Table(table)),
-        (b"g", ImportKind::GlobalVar(COUNTER)),
-        (b"f", ImportKind::Function(0)),
-        (b"h", ImportKind::Function(1)),
-    ] {
-        imports.push(&Import {
-            module: Seq::from_slice(alloc, b"env".as_slice())?,
-            field: Seq::from_slice(alloc, field.as_slice())?,
-            kind,
-        })?;
-    }
+    add_imports(alloc, &mut imports)?;
     Ok(imports)
 }
 
@@ -72,11 +86,14 @@ fn functions(alloc: Global) -> Result<Functions, OutOfMemory> {
 }
 
 fn object(alloc: Global, input: InputId) -> Result<Object, OutOfMemory> {
+    let types = types(alloc)?;
+    let imports = imports(alloc)?;
+    let functions = functions(alloc)?;
     Ok(Object {
         input,
-        types: types(alloc)?,
-        imports: imports(alloc)?,
-        functions: functions(alloc)?,
+        types,
+        imports,
+        functions,
         globals: Seq::new(alloc),
         segments: Segments::new(alloc),
         symbols: Symbols::new(alloc),
@@ -96,16 +113,21 @@ fn symbol(kind: SymbolKind, flags: u32, index: u32) -> SymbolRef<'static> {
     }
 }
 
-/// How many arguments a function takes, and 9 for what is no function.
-fn arity(kind: TypeRef<'_>) -> usize {
-    match kind {
+/// How many arguments the function of an index takes, and 9 for what is no function.
+fn arity(from: &Object, places: &ImportPlaces, index: u32) -> usize
+    requires { ArePlaces from.now.imports places.now }
+{
+    match type_in(from, places, symbol(SymbolKind::Function, 0, index)) {
         TypeRef::Function(kind) => kind.params.len(),
         TypeRef::GlobalVar(_) | TypeRef::Untyped => 9,
     }
 }
 
-fn is_counter(kind: TypeRef<'_>) -> bool {
-    match kind {
+/// Whether the global of an index is the counter.
+fn is_counter(from: &Object, places: &ImportPlaces, index: u32) -> bool
+    requires { ArePlaces from.now.imports places.now }
+{
+    match type_in(from, places, symbol(SymbolKind::GlobalVar, 0, index)) {
         TypeRef::GlobalVar(kind) => kind == COUNTER,
         TypeRef::Function(_) | TypeRef::Untyped => false,
     }
@@ -121,47 +143,94 @@ fn field(from: &Object, places: &ImportPlaces, kind: SymbolKind, index: u32) -> 
     }
 }
 
+/// What the indexes of an object name.
+#[derive(Clone, Copy)]
+struct Named {
+    arities: [usize; 4],
+    are_counters: [bool; 2],
+    functions: [u8; 3],
+    others: [u8; 3],
+}
+
+fn look_up(from: &Object, places: &ImportPlaces) -> Named
+    requires { ArePlaces from.now.imports places.now }
+{
+    Named {
+        arities: [
+            arity(from, places, 0),
+            arity(from, places, 1),
+            arity(from, places, 2),
+            arity(from, places, 3),
+        ],
+        are_counters: [is_counter(from, places, 0), is_counter(from, places, 1)],
+        functions: [
+            field(from, places, SymbolKind::Function, 0),
+            field(from, places, SymbolKind::Function, 1),
+            field(from, places, SymbolKind::Function, 2),
+        ],
+        others: [
+            field(from, places, SymbolKind::GlobalVar, 0),
+            field(from, places, SymbolKind::Table, 0),
+            field(from, places, SymbolKind::Datum, 0),
+        ],
+    }
+}
+
+fn look_up_all(alloc: Global, from: &Object) -> Result<Named, OutOfMemory> {
+    let places = places_of(alloc, &from.imports)?;
+    Ok(look_up(from, &places))
+}
+
+fn looked_up(alloc: Global) -> Result<Named, OutOfMemory> {
+    let from = object(alloc, 1)?;
+    look_up_all(alloc, &from)
+}
+
 #[test]
 fn indexes_name_imports_and_then_definitions(rt: HostRuntime) -> Result<(), Fail> {
-    let from = object(rt.alloc(), 1)?;
-    let places = places_of(rt.alloc(), &from.imports)?;
-    for (index, params) in [(0, 0), (1, 1), (2, 1), (3, 0)] {
-        let kind = type_in(&from, &places, symbol(SymbolKind::Function, 0, index));
-        assert_eq!(rt; arity(kind), params);
-    }
-    for (index, counts) in [(0, true), (1, false)] {
-        let kind = type_in(&from, &places, symbol(SymbolKind::GlobalVar, 0, index));
-        assert_eq!(rt; is_counter(kind), counts);
-    }
-    for (kind, index, wanted) in [
-        (SymbolKind::Function, 0, b'f'),
-        (SymbolKind::Function, 1, b'h'),
-        (SymbolKind::Function, 2, 0),
-        (SymbolKind::GlobalVar, 0, b'g'),
-        (SymbolKind::Table, 0, b't'),
-        (SymbolKind::Datum, 0, 0),
-    ] {
-        assert_eq!(rt; field(&from, &places, kind, index), wanted);
-    }
+    let named = looked_up(rt.alloc())?;
+    assert_eq!(rt; named.arities, [0, 1, 1, 0]);
+    assert_eq!(rt; named.are_counters, [true, false]);
+    assert_eq!(rt; named.functions, [b'f', b'h', 0]);
+    assert_eq!(rt; named.others, [b'g', b't', 0]);
     Ok(())
+}
+
+/// A group of function 2 and of segment 0.
+fn group(alloc: Global) -> Result<Group, OutOfMemory> {
+    let function = Member { kind: 1, index: 2 };
+    let segment = Member { kind: 0, index: 0 };
+    let name = Seq::from_slice(alloc, b"c".as_slice())?;
+    let members = Seq::from_slice(alloc, &[function, segment])?;
+    Ok(Group { name, members })
+}
+
+/// What isn't kept of an object that has this group alone, and wins it or not.
+fn dropped(alloc: Global, wins: bool) -> Result<Dropped, OutOfMemory> {
+    let group = group(alloc)?;
+    let mut dropped = Dropped::nothing(alloc);
+    dropped.drop_group(&group, wins)?;
+    Ok(dropped)
+}
+
+fn no_places(alloc: Global) -> Result<ImportPlaces, OutOfMemory> {
+    places_of(alloc, &Imports::new(alloc))
+}
+
+fn parts(alloc: Global, wins: bool) -> Result<ObjectParts, OutOfMemory> {
+    let imports = no_places(alloc)?;
+    let dropped = dropped(alloc, wins)?;
+    Ok(ObjectParts {
+        imports,
+        dropped_functions: Seq::from_vec(dropped.functions),
+        dropped_segments: Seq::from_vec(dropped.segments),
+    })
 }
 
 /// Which symbols of an object define their names: those of its functions 2 and 3 and of its segments 0
 /// and 1, of which it has the first of each in a group.
 fn defining(alloc: Global, wins: bool) -> Result<[bool; 4], OutOfMemory> {
-    let function = Member { kind: 1, index: 2 };
-    let segment = Member { kind: 0, index: 0 };
-    let group = Group {
-        name: Seq::from_slice(alloc, b"c".as_slice())?,
-        members: Seq::from_slice(alloc, &[function, segment])?,
-    };
-    let mut dropped = Dropped::nothing(alloc);
-    dropped.drop_group(&group, wins)?;
-    let parts = ObjectParts {
-        imports: places_of(alloc, &Imports::new(alloc))?,
-        dropped_functions: Seq::from_vec(dropped.functions),
-        dropped_segments: Seq::from_vec(dropped.segments),
-    };
+    let parts = parts(alloc, wins)?;
     Ok([
         parts.defines(symbol(SymbolKind::Function, 0, 2)),
         parts.defines(symbol(SymbolKind::Function, 0, 3)),

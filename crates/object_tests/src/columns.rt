@@ -22,13 +22,15 @@ fn types(alloc: Global) -> Result<FuncTypes, OutOfMemory> {
     Ok(types.shrunk())
 }
 
+fn types_hold(it: &FuncTypes) -> Option<bool> {
+    let kind = it.get(1)?;
+    Some(it.len() == 2 && kind.params.len() == 2 && kind.results.len() == 1 && it.get(2).is_none())
+}
+
 #[test]
 fn types_come_back(rt: HostRuntime) -> Result<(), Fail> {
     let types = types(rt.alloc())?;
-    assert_eq!(rt; types.len(), 2);
-    let kind = types.get(1).ok_or("no type")?;
-    assert_eq!(rt; (kind.params.len(), kind.results.len()), (2, 1));
-    assert!(rt; types.get(2).is_none());
+    assert!(rt; types_hold(&types) == Some(true));
     Ok(())
 }
 
@@ -44,15 +46,16 @@ fn imports(alloc: Global) -> Result<Imports, OutOfMemory> {
     Ok(imports.shrunk())
 }
 
+fn imports_hold(it: &Imports) -> Option<bool> {
+    let import = it.get(1)?;
+    let named = import.module == b"env".as_slice() && import.field == b"f".as_slice();
+    Some(it.len() == 2 && named && import.kind == ImportKind::Function(3) && it.get(2).is_none())
+}
+
 #[test]
 fn imports_come_back(rt: HostRuntime) -> Result<(), Fail> {
     let imports = imports(rt.alloc())?;
-    assert_eq!(rt; imports.len(), 2);
-    let import = imports.get(1).ok_or("no import")?;
-    assert!(rt; import.module == b"env".as_slice());
-    assert!(rt; import.field == b"f".as_slice());
-    assert_eq!(rt; import.kind, ImportKind::Function(3));
-    assert!(rt; imports.get(2).is_none());
+    assert!(rt; imports_hold(&imports) == Some(true));
     Ok(())
 }
 
@@ -75,16 +78,18 @@ fn symbols(alloc: Global) -> Result<Symbols, OutOfMemory> {
     Ok(symbols.shrunk())
 }
 
+fn symbols_hold(it: &Symbols) -> Option<bool> {
+    let symbol = it.get(1)?;
+    let named = symbol.name? == b"d".as_slice() && it.get(0)?.name.is_none();
+    let kept = (symbol.kind, symbol.flags) == (SymbolKind::Datum, 4);
+    let placed = (symbol.index, symbol.offset, symbol.size) == (1, 2, 3);
+    Some(it.len() == 2 && named && kept && placed && it.get(2).is_none())
+}
+
 #[test]
 fn symbols_come_back(rt: HostRuntime) -> Result<(), Fail> {
     let symbols = symbols(rt.alloc())?;
-    assert_eq!(rt; symbols.len(), 2);
-    let symbol = symbols.get(1).ok_or("no symbol")?;
-    assert_eq!(rt; (symbol.kind, symbol.flags), (SymbolKind::Datum, 4));
-    assert!(rt; symbol.name.ok_or("no name")? == b"d".as_slice());
-    assert_eq!(rt; (symbol.index, symbol.offset, symbol.size), (1, 2, 3));
-    assert!(rt; symbols.get(0).ok_or("no symbol")?.name.is_none());
-    assert!(rt; symbols.get(2).is_none());
+    assert!(rt; symbols_hold(&symbols) == Some(true));
     Ok(())
 }
 
@@ -108,19 +113,18 @@ fn segments(alloc: Global) -> Result<Segments, OutOfMemory> {
     Ok(segments.shrunk())
 }
 
+fn segments_hold(it: &Segments) -> Option<bool> {
+    let segment = it.get(1)?;
+    let named = segment.span == SPAN && segment.name == b".data".as_slice();
+    let kept = (segment.align, segment.flags) == (2, 1);
+    let window = segment.windows.get(0).copied()?;
+    Some(it.len() == 2 && named && kept && window.addend == -3 && it.get(2).is_none())
+}
+
 #[test]
 fn segments_come_back(rt: HostRuntime) -> Result<(), Fail> {
     let segments = segments(rt.alloc())?;
-    assert_eq!(rt; segments.len(), 2);
-    let segment = segments.get(1).ok_or("no segment")?;
-    assert_eq!(rt; segment.span, SPAN);
-    assert!(rt; segment.name == b".data".as_slice());
-    assert_eq!(rt; (segment.align, segment.flags), (2, 1));
-    assert_eq!(rt;
-        segment.windows.get(0).copied().ok_or("no window")?.addend,
-        -3
-    );
-    assert!(rt; segments.get(2).is_none());
+    assert!(rt; segments_hold(&segments) == Some(true));
     Ok(())
 }
 
@@ -144,18 +148,19 @@ fn functions(alloc: Global) -> Result<Functions, OutOfMemory> {
     Ok(functions.shrunk())
 }
 
+fn functions_hold(it: &Functions, alloc: Global) -> Option<bool> {
+    let function = it.get(1)?;
+    let kept = (function.type_index, function.span) == (6, SPAN);
+    let named = function.export_name? == b"e".as_slice() && it.get(0)?.export_name.is_none();
+    let list = function.operands.to_list(alloc).ok()?;
+    let listed = list.as_slice()
+        == [Operand::Number, Operand::TableZero, Operand::Number].as_slice();
+    Some(it.len() == 2 && kept && named && listed && it.get(2).is_none())
+}
+
 #[test]
 fn functions_come_back(rt: HostRuntime) -> Result<(), Fail> {
     let functions = functions(rt.alloc())?;
-    assert_eq!(rt; functions.len(), 2);
-    let function = functions.get(1).ok_or("no function")?;
-    assert_eq!(rt; (function.type_index, function.span), (6, SPAN));
-    assert!(rt; function.export_name.ok_or("no name")? == b"e".as_slice());
-    let list = function.operands.to_list(rt.alloc())?;
-    assert!(rt;
-        list.as_slice() == [Operand::Number, Operand::TableZero, Operand::Number].as_slice()
-    );
-    assert!(rt; functions.get(0).ok_or("no function")?.export_name.is_none());
-    assert!(rt; functions.get(2).is_none());
+    assert!(rt; functions_hold(&functions, rt.alloc()) == Some(true));
     Ok(())
 }

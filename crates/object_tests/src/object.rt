@@ -1,13 +1,20 @@
-use object_file::{ObjectError, read_object};
+use object_file::{Object, ObjectError, read_object};
 use object_rules::{Operand, Reloc};
 use std::alloc::Global;
 use wl_base::{Fault, Item, Part, Span};
 
+fn refusal(error: ObjectError) -> Option<Fault> {
+    match error {
+        ObjectError::Refused(fault) => Some(fault),
+        ObjectError::OutOfMemory => None,
+    }
+}
+
 /// The fault of bytes that are no object.
 fn fault_of(alloc: Global, bytes: &[u8]) -> Option<Fault> {
     match read_object(alloc, 1, bytes) {
-        Err(ObjectError::Refused(fault)) => Some(fault),
-        _ => None,
+        Ok(_) => None,
+        Err(error) => refusal(error),
     }
 }
 
@@ -389,92 +396,104 @@ fn whole_object() -> &'static [u8] {
 /// are.
 fn lengths(alloc: Global, bytes: &[u8]) -> Option<[usize; 8]> {
     match read_object(alloc, 1, bytes) {
-        Ok(object) => Some([
-            object.types.len(),
-            object.imports.len(),
-            object.functions.len(),
-            object.globals.len(),
-            object.segments.len(),
-            object.symbols.len(),
-            object.inits.len(),
-            object.groups.len(),
-        ]),
+        Ok(object) => Some(lengths_of(&object)),
         Err(_) => None,
     }
+}
+
+fn lengths_of(object: &Object) -> [usize; 8] {
+    [
+        object.types.len(),
+        object.imports.len(),
+        object.functions.len(),
+        object.globals.len(),
+        object.segments.len(),
+        object.symbols.len(),
+        object.inits.len(),
+        object.groups.len(),
+    ]
 }
 
 /// Whether a symbol has this name.
 fn is_named(alloc: Global, bytes: &[u8], at: usize, name: &[u8]) -> bool {
     match read_object(alloc, 1, bytes) {
-        Ok(object) => match object.symbols.get(at) {
-            Some(symbol) => match symbol.name {
-                Some(own) => own == name,
-                None => false,
-            },
-            None => false,
-        },
+        Ok(object) => name_of(&object, at) == Some(name),
         Err(_) => false,
     }
+}
+
+fn name_of(object: &Object, at: usize) -> Option<&[u8]> {
+    object.symbols.get(at)?.name
 }
 
 /// Where a function's body stands, and whether it is exported.
 fn function(alloc: Global, bytes: &[u8], at: usize) -> Option<(Span, bool)> {
     match read_object(alloc, 1, bytes) {
-        Ok(object) => match object.functions.get(at) {
-            Some(function) => Some((function.span, function.export_name.is_some())),
-            None => None,
-        },
+        Ok(object) => function_of(&object, at),
         Err(_) => None,
     }
+}
+
+fn function_of(object: &Object, at: usize) -> Option<(Span, bool)> {
+    let function = object.functions.get(at)?;
+    Some((function.span, function.export_name.is_some()))
 }
 
 /// Whether a function is exported under this name.
 fn is_exported(alloc: Global, bytes: &[u8], at: usize, name: &[u8]) -> bool {
     match read_object(alloc, 1, bytes) {
-        Ok(object) => match object.functions.get(at) {
-            Some(function) => match function.export_name {
-                Some(own) => own == name,
-                None => false,
-            },
-            None => false,
-        },
+        Ok(object) => export_name_of(&object, at) == Some(name),
         Err(_) => false,
     }
+}
+
+fn export_name_of(object: &Object, at: usize) -> Option<&[u8]> {
+    object.functions.get(at)?.export_name
 }
 
 /// Whether the first function has these operands.
 fn has_operands(alloc: Global, bytes: &[u8], operands: &[Operand]) -> bool {
     match read_object(alloc, 1, bytes) {
-        Ok(object) => match object.functions.get(0) {
-            Some(function) => match function.operands.to_list(alloc) {
-                Ok(list) => list.as_slice() == operands,
-                Err(_) => false,
-            },
-            None => false,
-        },
+        Ok(object) => operands_are(alloc, &object, operands),
         Err(_) => false,
+    }
+}
+
+fn operands_are(alloc: Global, object: &Object, operands: &[Operand]) -> bool {
+    match object.functions.get(0) {
+        Some(function) => match function.operands.to_list(alloc) {
+            Ok(list) => list.as_slice() == operands,
+            Err(_) => false,
+        },
+        None => false,
     }
 }
 
 /// Where a segment stands, how long its name is, and its alignment.
 fn segment(alloc: Global, bytes: &[u8], at: usize) -> Option<(Span, usize, u32)> {
     match read_object(alloc, 1, bytes) {
-        Ok(object) => match object.segments.get(at) {
-            Some(segment) => Some((segment.span, segment.name.len(), segment.align)),
-            None => None,
-        },
+        Ok(object) => segment_of(&object, at),
         Err(_) => None,
     }
+}
+
+fn segment_of(object: &Object, at: usize) -> Option<(Span, usize, u32)> {
+    let segment = object.segments.get(at)?;
+    Some((segment.span, segment.name.len(), segment.align))
 }
 
 /// Whether a segment has these windows.
 fn has_windows(alloc: Global, bytes: &[u8], at: usize, windows: &[Reloc]) -> bool {
     match read_object(alloc, 1, bytes) {
-        Ok(object) => match object.segments.get(at) {
-            Some(segment) => segment.windows == windows,
-            None => false,
-        },
+        Ok(object) => windows_are(&object, at, windows),
         Err(_) => false,
+    }
+}
+
+fn windows_are(object: &Object, at: usize, windows: &[Reloc]) -> bool {
+    match object.segments.get(at) {
+        Some(segment) => segment.windows == windows,
+        None => false,
     }
 }
 

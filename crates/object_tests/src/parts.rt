@@ -16,85 +16,98 @@ fn parts(alloc: Global, bytes: &[u8]) -> Option<Result<Parts, PartsFault>> {
     Some(parts_of(alloc, all.as_slice(), bytes))
 }
 
-/// How many types, functions, bodies, segments and sections of relocations there are.
-fn lengths(alloc: Global, bytes: &[u8]) -> Option<[usize; 5]> {
-    match parts(alloc, bytes) {
-        Some(Ok(parts)) => Some([
+/// What these tests look at in an object's parts.
+#[derive(Clone, Copy)]
+struct Summary {
+    /// How many types, functions, bodies, segments and sections of relocations there are.
+    lengths: [usize; 5],
+    /// How many element segments and exports there are.
+    others: (usize, usize),
+    /// Whether the metadata are there, and in order.
+    metadata: (bool, bool),
+    /// Where the first two bodies stand, and whether their relocations fit them.
+    bodies: [Option<(Span, bool)>; 2],
+    /// Where the value of the first global stands.
+    global_span: Option<Span>,
+    /// The first segment.
+    segment: Option<DataPart>,
+    /// The target and the number of entries of the first section of relocations.
+    relocs: Option<(u32, usize)>,
+}
+
+fn body_of(parts: &Parts, at: usize) -> Option<(Span, bool)> {
+    let body = parts.bodies.get(at)?;
+    Some((body.span, body.windows.is_ok()))
+}
+
+fn global_of(parts: &Parts) -> Option<Span> {
+    Some(parts.globals.get(0)?.span)
+}
+
+fn relocs_of(parts: &Parts) -> Option<(u32, usize)> {
+    let relocs = parts.relocs.get(0)?;
+    Some((relocs.target, relocs.entries.len()))
+}
+
+fn summary_of(parts: &Parts) -> Summary {
+    Summary {
+        lengths: [
             parts.types.len(),
             parts.functions.len(),
             parts.bodies.len(),
             parts.segments.len(),
             parts.relocs.len(),
-        ]),
-        _ => None,
+        ],
+        others: (parts.elements.len(), parts.exports.len()),
+        metadata: (parts.linking.is_some(), parts.in_order),
+        bodies: [body_of(parts, 0), body_of(parts, 1)],
+        global_span: global_of(parts),
+        segment: parts.segments.get(0).copied(),
+        relocs: relocs_of(parts),
     }
 }
 
-/// How many element segments and exports there are.
-fn others(alloc: Global, bytes: &[u8]) -> Option<(usize, usize)> {
-    match parts(alloc, bytes) {
-        Some(Ok(parts)) => Some((parts.elements.len(), parts.exports.len())),
-        _ => None,
+/// What is told of an object; `None` where it is refused.
+fn told(alloc: Global, bytes: &[u8]) -> Option<Summary> {
+    match parts(alloc, bytes)? {
+        Ok(parts) => Some(summary_of(&parts)),
+        Err(_) => None,
     }
 }
 
-/// Whether the metadata are there, and in order.
+fn lengths(alloc: Global, bytes: &[u8]) -> Option<[usize; 5]> {
+    Some(told(alloc, bytes)?.lengths)
+}
+
 fn metadata(alloc: Global, bytes: &[u8]) -> Option<(bool, bool)> {
-    match parts(alloc, bytes) {
-        Some(Ok(parts)) => Some((parts.linking.is_some(), parts.in_order)),
-        _ => None,
-    }
+    Some(told(alloc, bytes)?.metadata)
 }
 
-/// Where a body stands, and whether its relocations fit it.
-fn body(alloc: Global, bytes: &[u8], at: usize) -> Option<(Span, bool)> {
-    match parts(alloc, bytes) {
-        Some(Ok(parts)) => match parts.bodies.get(at) {
-            Some(body) => Some((body.span, body.windows.is_ok())),
-            None => None,
-        },
-        _ => None,
-    }
+fn bodies(alloc: Global, bytes: &[u8]) -> Option<[Option<(Span, bool)>; 2]> {
+    Some(told(alloc, bytes)?.bodies)
 }
 
-/// Where the value of the first global stands.
 fn global_span(alloc: Global, bytes: &[u8]) -> Option<Span> {
-    match parts(alloc, bytes) {
-        Some(Ok(parts)) => match parts.globals.get(0) {
-            Some(global) => Some(global.span),
-            None => None,
-        },
-        _ => None,
-    }
+    told(alloc, bytes)?.global_span
 }
 
-/// The first segment.
 fn segment(alloc: Global, bytes: &[u8]) -> Option<DataPart> {
-    match parts(alloc, bytes) {
-        Some(Ok(parts)) => match parts.segments.get(0) {
-            Some(segment) => Some(*segment),
-            None => None,
-        },
-        _ => None,
-    }
+    told(alloc, bytes)?.segment
 }
 
-/// The target and the number of entries of the first section of relocations.
+fn others(alloc: Global, bytes: &[u8]) -> Option<(usize, usize)> {
+    Some(told(alloc, bytes)?.others)
+}
+
 fn relocs(alloc: Global, bytes: &[u8]) -> Option<(u32, usize)> {
-    match parts(alloc, bytes) {
-        Some(Ok(parts)) => match parts.relocs.get(0) {
-            Some(relocs) => Some((relocs.target, relocs.entries.len())),
-            None => None,
-        },
-        _ => None,
-    }
+    told(alloc, bytes)?.relocs
 }
 
 /// The section that isn't spelled whole.
 fn fault(alloc: Global, bytes: &[u8]) -> Option<PartsFault> {
-    match parts(alloc, bytes) {
-        Some(Err(fault)) => Some(fault),
-        _ => None,
+    match parts(alloc, bytes)? {
+        Ok(_) => None,
+        Err(fault) => Some(fault),
     }
 }
 
@@ -112,8 +125,8 @@ fn sections_are_read_in_file_order(rt: HostRuntime) {
     assert_eq!(rt; lengths(alloc, bytes), Some([1, 2, 2, 0, 1]));
     assert_eq!(rt; metadata(alloc, bytes), Some((true, true)));
     let spans = [Span { start: 24, len: 8 }, Span { start: 33, len: 4 }];
-    assert_eq!(rt; body(alloc, bytes, 0), Some((spans[0], true)));
-    assert_eq!(rt; body(alloc, bytes, 1), Some((spans[1], true)));
+    let both = [Some((spans[0], true)), Some((spans[1], true))];
+    assert_eq!(rt; bodies(alloc, bytes), Some(both));
     assert_eq!(rt; relocs(alloc, bytes), Some((2, 1)));
     // relocations before the section linking, and a second one of those
     let bytes = b"\0asm\x01\0\0\0\0\x0d\x0areloc.CODE\x02\0\0\x09\x07linking\x02".as_slice();

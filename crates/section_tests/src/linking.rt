@@ -13,6 +13,14 @@ fn name(alloc: Global, text: &str) -> Result<Name, OutOfMemory> {
     Seq::from_slice(alloc, text.as_bytes())
 }
 
+/// The name of this text, where there is one.
+fn name_of(alloc: Global, text: Option<&str>) -> Result<Option<Name>, OutOfMemory> {
+    match text {
+        Some(text) => Ok(Some(name(alloc, text)?)),
+        None => Ok(None),
+    }
+}
+
 /// A function's symbol with this name.
 fn function(
     alloc: Global,
@@ -20,10 +28,7 @@ fn function(
     text: Option<&str>,
     index: u32,
 ) -> Result<Symbol, OutOfMemory> {
-    let name = match text {
-        Some(text) => Some(name(alloc, text)?),
-        None => None,
-    };
+    let name = name_of(alloc, text)?;
     Ok(Symbol {
         kind: SymbolKind::Function,
         flags,
@@ -32,6 +37,17 @@ fn function(
         offset: 0,
         size: 0,
     })
+}
+
+fn info(alloc: Global, text: &str, align: u32, flags: u32) -> Result<SegmentInfo, OutOfMemory> {
+    let name = name(alloc, text)?;
+    Ok(SegmentInfo { name, align, flags })
+}
+
+fn group(alloc: Global, text: &str, members: &[Member]) -> Result<Group, OutOfMemory> {
+    let name = name(alloc, text)?;
+    let members = Seq::from_slice(alloc, members)?;
+    Ok(Group { name, members })
 }
 
 /// A section that says nothing.
@@ -44,40 +60,58 @@ fn silent(alloc: Global) -> Linking {
     }
 }
 
+/// Whether this is the payload of a section that says what is wanted.
+fn is_read(alloc: Global, payload: &[u8], want: &Linking) -> Result<bool, LinkingFault> {
+    let linking = read(alloc, payload)?;
+    Ok(linking == *want)
+}
+
+fn add_functions(alloc: Global, symbols: &mut Seq<Symbol>) -> Result<(), OutOfMemory> {
+    symbols.push(function(alloc, 0, Some("f"), 0)?)?;
+    symbols.push(function(alloc, 0, Some("g"), 1)?)
+}
+
+/// Two functions.
+fn two_symbols(alloc: Global) -> Result<Linking, OutOfMemory> {
+    let mut linking = silent(alloc);
+    add_functions(alloc, &mut linking.symbols)?;
+    Ok(linking)
+}
+
 #[test]
 fn the_symbols_of_a_small_object_are_read(rt: HostRuntime) -> Result<(), Fail> {
     let alloc = rt.alloc();
     let payload = [
         0x02, 0x08, 0x0b, 0x02, 0x00, 0x00, 0x00, 0x01, 0x66, 0x00, 0x00, 0x01, 0x01, 0x67,
     ];
-    let mut want = silent(alloc);
-    want.symbols.push(function(alloc, 0, Some("f"), 0)?)?;
-    want.symbols.push(function(alloc, 0, Some("g"), 1)?)?;
-    assert_eq!(rt; read(alloc, &payload), Ok(want));
+    let want = two_symbols(alloc)?;
+    assert_eq!(rt; is_read(alloc, &payload, &want), Ok(true));
     Ok(())
+}
+
+fn add_one_of_each(alloc: Global, linking: &mut Linking) -> Result<(), OutOfMemory> {
+    let member = |kind, index| Member { kind, index };
+    let members = [member(1, 3), member(0, 2), member(5, 130)];
+    let init = InitFunc {
+        priority: 65535,
+        symbol: 0,
+    };
+    linking.segments.push(info(alloc, ".data", 2, RETAIN)?)?;
+    linking.inits.push(init)?;
+    linking.groups.push(group(alloc, "w", &members)?)?;
+    linking.symbols.push(function(alloc, UNDEFINED, None, 3)?)
+}
+
+/// A segment, an init function, a group and a symbol.
+fn one_of_each(alloc: Global) -> Result<Linking, OutOfMemory> {
+    let mut linking = silent(alloc);
+    add_one_of_each(alloc, &mut linking)?;
+    Ok(linking)
 }
 
 #[test]
 fn subsections_come_in_any_order(rt: HostRuntime) -> Result<(), Fail> {
     let alloc = rt.alloc();
-    let mut want = silent(alloc);
-    want.segments.push(SegmentInfo {
-        name: name(alloc, ".data")?,
-        align: 2,
-        flags: RETAIN,
-    })?;
-    want.inits.push(InitFunc {
-        priority: 65535,
-        symbol: 0,
-    })?;
-    let kinds = [(1, 3), (0, 2), (5, 130)];
-    let mut members = Seq::new(alloc);
-    for (kind, index) in kinds {
-        members.push(Member { kind, index })?;
-    }
-    let w = name(alloc, "w")?;
-    want.groups.push(Group { name: w, members })?;
-    want.symbols.push(function(alloc, UNDEFINED, None, 3)?)?;
     let payload = [
         0x02, 0x08, 0x04, 0x01, 0x00, 0x10, 0x03, // symbols
         0x09, 0x02, 0x05, 0x05, // an unknown one
@@ -86,8 +120,14 @@ fn subsections_come_in_any_order(rt: HostRuntime) -> Result<(), Fail> {
         0x06, 0x05, 0x01, 0xff, 0xff, 0x03, 0x00, // init functions
         0x05, 0x09, 0x01, 0x05, 0x2e, 0x64, 0x61, 0x74, 0x61, 0x02, 0x04, // segment info
     ];
-    assert_eq!(rt; read(alloc, &payload), Ok(want));
+    let want = one_of_each(alloc)?;
+    assert_eq!(rt; is_read(alloc, &payload, &want), Ok(true));
     Ok(())
+}
+
+/// Whether this is the payload of a section that says nothing.
+fn is_silent(alloc: Global, payload: &[u8]) -> Result<bool, LinkingFault> {
+    is_read(alloc, payload, &silent(alloc))
 }
 
 #[test]
@@ -100,56 +140,91 @@ fn empty_lists_are_read(rt: HostRuntime) {
         &[2, 5, 1, 0, 7, 1, 0, 6, 1, 0, 8, 0x81, 0x00, 0],
         &[2, 0, 1, 0xff, 1, 0, 9, 0, 255, 0],
     ] {
-        assert_eq!(rt; read(alloc, payload), Ok(silent(alloc)), "at {payload:?}");
+        assert_eq!(rt; is_silent(alloc, payload), Ok(true), "at {payload:?}");
     }
 }
 
-#[test]
-fn symbols_are_read_by_their_kinds(rt: HostRuntime) -> Result<(), Fail> {
-    let alloc = rt.alloc();
-    let place = |kind, flags, name, index| Symbol {
+/// Whether the symbol at the front has this kind, flags and name, and this index, offset and size,
+/// with these bytes after it.
+fn symbol_is(
+    alloc: Global,
+    bytes: &[u8],
+    (kind, flags, text): (SymbolKind, u32, Option<&str>),
+    [index, offset, size]: [u32; 3],
+    after: &[u8],
+) -> Result<bool, ReadFault> {
+    let name = name_of(alloc, text)?;
+    let want = Symbol {
         kind,
         flags,
         name,
         index,
-        offset: 0,
-        size: 0,
+        offset,
+        size,
     };
-    let x = name(alloc, "x")?;
-    let want = place(SymbolKind::GlobalVar, 0x14, None, 130);
-    assert_eq!(rt;
-        symbol_at(alloc, 10, &[2, 0x14, 0x82, 0x01]),
-        Ok((want, [].as_slice()))
-    );
-    let want = place(SymbolKind::Table, 0x50, Some(x), 0);
-    assert_eq!(rt;
-        symbol_at(alloc, 10, &[5, 0x50, 0, 1, 0x78, 9]),
-        Ok((want, [9].as_slice()))
-    );
-    let want = place(SymbolKind::Section, 0x12, None, 4);
-    assert_eq!(rt;
-        symbol_at(alloc, 10, &[3, 0x12, 4, 9]),
-        Ok((want, [9].as_slice()))
-    );
-    let want = place(SymbolKind::Datum, 0x11, Some(name(alloc, "d")?), 0);
-    assert_eq!(rt;
-        symbol_at(alloc, 10, &[1, 0x11, 1, 0x64, 9]),
-        Ok((want, [9].as_slice()))
-    );
-    let want = Symbol {
-        kind: SymbolKind::Datum,
-        flags: 0x86,
-        name: Some(name(alloc, "")?),
-        index: 1,
-        offset: 8,
-        size: 300,
-    };
-    let bytes = [1, 0x86, 0x01, 0, 1, 8, 0xac, 0x02, 9];
-    assert_eq!(rt; symbol_at(alloc, 10, &bytes), Ok((want, [9].as_slice())));
-    let want = function(alloc, 0xf6, Some("é"), 7)?;
-    let bytes = [0, 0xf6, 0x01, 7, 2, 0xc3, 0xa9];
-    assert_eq!(rt; symbol_at(alloc, 10, &bytes), Ok((want, [].as_slice())));
-    Ok(())
+    let (symbol, rest) = symbol_at(alloc, 10, bytes)?;
+    Ok(symbol == want && rest == after)
+}
+
+#[test]
+fn symbols_are_read_by_their_kinds(rt: HostRuntime) {
+    for (bytes, kind, place, after) in [
+        (
+            [2, 0x14, 0x82, 0x01].as_slice(),
+            (SymbolKind::GlobalVar, 0x14, None),
+            [130, 0, 0],
+            [].as_slice(),
+        ),
+        (
+            &[5, 0x50, 0, 1, 0x78, 9],
+            (SymbolKind::Table, 0x50, Some("x")),
+            [0, 0, 0],
+            &[9],
+        ),
+        (
+            &[3, 0x12, 4, 9],
+            (SymbolKind::Section, 0x12, None),
+            [4, 0, 0],
+            &[9],
+        ),
+        (
+            &[1, 0x11, 1, 0x64, 9],
+            (SymbolKind::Datum, 0x11, Some("d")),
+            [0, 0, 0],
+            &[9],
+        ),
+        (
+            &[1, 0x86, 0x01, 0, 1, 8, 0xac, 0x02, 9],
+            (SymbolKind::Datum, 0x86, Some("")),
+            [1, 8, 300],
+            &[9],
+        ),
+        (
+            &[0, 0xf6, 0x01, 7, 2, 0xc3, 0xa9],
+            (SymbolKind::Function, 0xf6, Some("é")),
+            [7, 0, 0],
+            &[],
+        ),
+    ] {
+        let read = symbol_is(rt.alloc(), bytes, kind, place, after);
+        assert_eq!(rt; read, Ok(true), "at {bytes:?}");
+    }
+}
+
+/// The fault of a payload that isn't that of a section.
+fn fault_of(alloc: Global, payload: &[u8]) -> Option<LinkingFault> {
+    match read(alloc, payload) {
+        Ok(_) => None,
+        Err(fault) => Some(fault),
+    }
+}
+
+/// The same, with its place.
+fn placed_fault_of(alloc: Global, payload: &[u8]) -> Option<ReadFault> {
+    match linking_at(alloc, payload.len(), payload) {
+        Ok(_) => None,
+        Err(fault) => Some(fault),
+    }
 }
 
 #[test]
@@ -173,8 +248,8 @@ fn foreign_items_are_named(rt: HostRuntime) {
         (&[2, 5, 4, 1, 0, 0, 8], Item::SegmentFlags(8)),
         (&[2, 5, 5, 2, 0, 0, 6, 0x80], Item::SegmentFlags(6)),
     ] {
-        let want = Err(LinkingFault::Foreign(item));
-        assert_eq!(rt; read(alloc, payload), want, "at {payload:?}");
+        let want = Some(LinkingFault::Foreign(item));
+        assert_eq!(rt; fault_of(alloc, payload), want, "at {payload:?}");
     }
 }
 
@@ -206,88 +281,132 @@ fn broken_payloads_have_places(rt: HostRuntime) {
         (&[2, 6, 1, 0, 6], 4),
         (&[2, 7, 1, 0, 7], 4),
     ] {
-        let want = Err(ReadFault::Stopped(Stop::Broken(place)));
-        assert_eq!(rt;
-            linking_at(alloc, payload.len(), payload),
-            want,
-            "at {payload:?}"
-        );
-        let want = Err(LinkingFault::NotLinking);
-        assert_eq!(rt; read(alloc, payload), want, "at {payload:?}");
+        let want = Some(ReadFault::Stopped(Stop::Broken(place)));
+        assert_eq!(rt; placed_fault_of(alloc, payload), want, "at {payload:?}");
+        let want = Some(LinkingFault::NotLinking);
+        assert_eq!(rt; fault_of(alloc, payload), want, "at {payload:?}");
     }
 }
 
+/// Whether a symbol is weak, local, hidden, undefined, exported, named though a reference, and kept.
+fn marks(symbol: &Symbol) -> [bool; 7] {
+    [
+        symbol.is_weak(),
+        symbol.is_local(),
+        symbol.is_hidden(),
+        symbol.is_undefined(),
+        symbol.is_exported(),
+        symbol.is_explicit(),
+        symbol.is_no_strip(),
+    ]
+}
+
+/// Whether it is a definition that others see, one that they don't, and a strong reference.
+fn roles(symbol: &Symbol) -> [bool; 3] {
+    [
+        symbol.is_definition(),
+        symbol.is_local_definition(),
+        symbol.is_strong_reference(),
+    ]
+}
+
+/// What these flags say of a function `f`.
+fn said(alloc: Global, flags: u32) -> Result<([bool; 7], [bool; 3]), OutOfMemory> {
+    let symbol = function(alloc, flags, Some("f"), 0)?;
+    Ok((marks(&symbol), roles(&symbol)))
+}
+
 #[test]
-fn flags_say_what_a_symbol_is(rt: HostRuntime) -> Result<(), Fail> {
-    let alloc = rt.alloc();
-    let weak = function(alloc, WEAK | HIDDEN, Some("f"), 0)?;
-    assert_eq!(rt;
-        (weak.is_weak(), weak.is_local(), weak.is_hidden()),
-        (true, false, true)
-    );
-    assert_eq!(rt;
-        (weak.is_definition(), weak.is_local_definition()),
-        (true, false)
-    );
-    assert_eq!(rt; weak.is_strong_reference(), false);
-    let local = function(alloc, LOCAL | NO_STRIP, Some("f"), 0)?;
-    assert_eq!(rt;
-        (local.is_weak(), local.is_local(), local.is_no_strip()),
-        (false, true, true)
-    );
-    assert_eq!(rt;
-        (local.is_definition(), local.is_local_definition()),
-        (false, true)
-    );
-    let flags = UNDEFINED | EXPLICIT_NAME | EXPORTED;
-    let wanted = function(alloc, flags, Some("f"), 0)?;
-    assert_eq!(rt; (wanted.is_undefined(), wanted.is_explicit()), (true, true));
-    assert_eq!(rt;
-        (wanted.is_exported(), wanted.is_definition()),
-        (true, false)
-    );
-    assert_eq!(rt; wanted.is_strong_reference(), true);
-    let maybe = function(alloc, UNDEFINED | EXPLICIT_NAME | WEAK, Some("f"), 0)?;
-    assert_eq!(rt; maybe.is_strong_reference(), false);
+fn flags_say_what_a_symbol_is(rt: HostRuntime) {
+    for (flags, marks, roles) in [
+        (
+            WEAK | HIDDEN,
+            [true, false, true, false, false, false, false],
+            [true, false, false],
+        ),
+        (
+            LOCAL | NO_STRIP,
+            [false, true, false, false, false, false, true],
+            [false, true, false],
+        ),
+        (
+            UNDEFINED | EXPLICIT_NAME | EXPORTED,
+            [false, false, false, true, true, true, false],
+            [false, false, true],
+        ),
+        (
+            UNDEFINED | EXPLICIT_NAME | WEAK,
+            [true, false, false, true, false, true, false],
+            [false, false, false],
+        ),
+    ] {
+        assert_eq!(rt; said(rt.alloc(), flags), Ok((marks, roles)));
+    }
     assert_eq!(rt;
         (SymbolKind::Section.code(), SymbolKind::Table.code()),
         (3, 5)
     );
-    Ok(())
+}
+
+/// Whether the list at the front has just these members, with these bytes after it.
+fn members_are(
+    alloc: Global,
+    bytes: &[u8],
+    want: &[Member],
+    after: &[u8],
+) -> Result<bool, ReadFault> {
+    let (members, rest) = vector_at::<Member>(alloc, 10, bytes)?;
+    Ok(members.as_slice() == want && rest == after)
+}
+
+/// The same of init functions.
+fn inits_are(
+    alloc: Global,
+    bytes: &[u8],
+    want: &[InitFunc],
+    after: &[u8],
+) -> Result<bool, ReadFault> {
+    let (inits, rest) = Seq::<InitFunc>::form_at(alloc, 10, bytes)?;
+    Ok(inits.as_slice() == want && rest == after)
+}
+
+/// Whether the segment's info at the front has this name, alignment and flags, with these bytes
+/// after it.
+fn info_is(
+    alloc: Global,
+    bytes: &[u8],
+    (text, align, flags): (&str, u32, u32),
+    after: &[u8],
+) -> Result<bool, ReadFault> {
+    let want = info(alloc, text, align, flags)?;
+    let (info, rest) = segment_at(alloc, 10, bytes)?;
+    Ok(info == want && rest == after)
+}
+
+/// Whether the group at the front has this name and no members, with these bytes after it.
+fn group_is(alloc: Global, bytes: &[u8], text: &str, after: &[u8]) -> Result<bool, ReadFault> {
+    let want = group(alloc, text, &[])?;
+    let (group, rest) = group_at(alloc, 10, bytes)?;
+    Ok(group == want && rest == after)
 }
 
 #[test]
-fn items_stand_in_vectors(rt: HostRuntime) -> Result<(), Fail> {
+fn items_stand_in_vectors(rt: HostRuntime) {
     let alloc = rt.alloc();
     let member = Member { kind: 5, index: 2 };
-    let want = Seq::from_slice(alloc, &[member])?;
-    let read = vector_at::<Member>(alloc, 10, &[1, 5, 2, 9]);
-    assert_eq!(rt; read, Ok((want, [9].as_slice())));
+    assert_eq!(rt;
+        members_are(alloc, &[1, 5, 2, 9], &[member], &[9]),
+        Ok(true)
+    );
     let init = InitFunc {
         priority: 1,
         symbol: 2,
     };
-    let want = Seq::from_slice(alloc, &[init])?;
+    assert_eq!(rt; inits_are(alloc, &[1, 1, 2], &[init], &[]), Ok(true));
+    let info = ("s", 3, STRINGS);
+    assert_eq!(rt; info_is(alloc, &[1, 0x73, 3, 1, 9], info, &[9]), Ok(true));
     assert_eq!(rt;
-        Seq::form_at(alloc, 10, &[1, 1, 2]),
-        Ok((want, [].as_slice()))
+        group_is(alloc, &[1, 0x67, 0x80, 0x00, 0], "g", &[]),
+        Ok(true)
     );
-    let info = SegmentInfo {
-        name: name(alloc, "s")?,
-        align: 3,
-        flags: STRINGS,
-    };
-    assert_eq!(rt;
-        segment_at(alloc, 10, &[1, 0x73, 3, 1, 9]),
-        Ok((info, [9].as_slice()))
-    );
-    let group = Group {
-        name: name(alloc, "g")?,
-        members: Seq::new(alloc),
-    };
-    assert_eq!(rt;
-        group_at(alloc, 10, &[1, 0x67, 0x80, 0x00, 0]),
-        Ok((group, [].as_slice()))
-    );
-    Ok(())
 }

@@ -1,9 +1,8 @@
 use std::alloc::Global;
-use std::test::Fail;
 use wasm_grammar::{ReadFault, Stop};
 use wasm_instr::Body;
 use wasm_module::{
-    DataSegment, Element, Export, ModuleFault, ModuleGlobal, data_segment_at, element_at,
+    DataSegment, Element, Module, ModuleFault, ModuleGlobal, data_segment_at, element_at,
     export_at, global_at, init_at, lent_name_at, lent_segment_at, read, write,
 };
 use wasm_types::{ConstExpr, GlobalType, Limits, TableType, ValType};
@@ -23,47 +22,65 @@ fn table(funcref: bool, min: u32, max: u32) -> TableType {
     TableType { funcref, limits }
 }
 
-#[test]
-fn a_module_is_read_and_written_as_short_as_can_be(rt: HostRuntime) -> Result<(), Fail> {
-    let alloc = rt.alloc();
-    let text =
-        b"\0asm\x01\0\0\0\x01\x05\x01\x60\x00\x01\x7f\x03\x03\x02\x00\x00\x04\x05\x01\x70\x01\x01\x01\x05\x03\x01\x00\x02\x07\x0e\x02\x06memory\x02\x00\x01f\x00\x00\x0a\x0f\x02\x08\x00\x10\x81\x80\x80\x80\x00\x0b\x04\x00\x41\x07\x0b";
-    let m = read(alloc, text.as_slice())?;
-    assert_eq!(rt; m.functions.as_slice(), [0, 0].as_slice());
-    assert_eq!(rt; m.tables.as_slice(), [table(true, 1, 1)].as_slice());
-    assert_eq!(rt;
-        m.memories.as_slice(),
-        [Limits { min: 2, max: None }].as_slice()
-    );
-    assert_eq!(rt; m.data_count, None);
-    assert_eq!(rt; (m.types.len(), m.exports.len(), m.bodies.len()), (1, 2, 2));
-    // the call has its shortest spelling, and the section is four bytes shorter
-    let short =
-        b"\0asm\x01\0\0\0\x01\x05\x01\x60\x00\x01\x7f\x03\x03\x02\x00\x00\x04\x05\x01\x70\x01\x01\x01\x05\x03\x01\x00\x02\x07\x0e\x02\x06memory\x02\x00\x01f\x00\x00\x0a\x0b\x02\x04\x00\x10\x01\x0b\x04\x00\x41\x07\x0b";
-    let written = write(alloc, &m)?;
-    assert_eq!(rt; written.as_slice(), short.as_slice());
-    Ok(())
-}
-
-#[test]
-fn places_are_counted_from_a_body(rt: HostRuntime) -> Result<(), Fail> {
-    let text =
-        b"\0asm\x01\0\0\0\x01\x04\x01\x60\x00\x00\x03\x02\x01\x00\x0a\x09\x01\x07\x00\x10\x80\x80\x00\x1a\x0b";
-    let m = read(rt.alloc(), text.as_slice())?;
-    if let [body] = m.bodies.as_slice() {
-        assert_eq!(rt; end_of(body), Some(7));
+/// Whether these bytes are a module that is written as the others.
+fn is_written(alloc: Global, text: &[u8], short: &[u8]) -> Result<bool, ModuleFault> {
+    let m = read(alloc, text)?;
+    match write(alloc, &m) {
+        Ok(written) => Ok(written.as_slice() == short),
+        Err(_) => Err(ModuleFault::OutOfMemory),
     }
-    assert_eq!(rt; m.bodies.len(), 1);
-    Ok(())
 }
 
 /// Whether these bytes are a module that is written again just so.
 fn stays(alloc: Global, text: &[u8]) -> Result<bool, ModuleFault> {
+    is_written(alloc, text, text)
+}
+
+/// Whether a module has two functions of one type, a table, a memory and two exports.
+fn calls_hold(m: &Module) -> bool {
+    let functions = m.functions.as_slice() == [0, 0].as_slice();
+    let tables = m.tables.as_slice() == [table(true, 1, 1)].as_slice();
+    let memories = m.memories.as_slice() == [Limits { min: 2, max: None }].as_slice();
+    let lengths = (m.types.len(), m.exports.len(), m.bodies.len());
+    functions && tables && memories && m.data_count.is_none() && lengths == (1, 2, 2)
+}
+
+fn calls_are_read(alloc: Global, text: &[u8]) -> Result<bool, ModuleFault> {
     let m = read(alloc, text)?;
-    match write(alloc, &m) {
-        Ok(written) => Ok(written.as_slice() == text),
-        Err(_) => Err(ModuleFault::OutOfMemory),
+    Ok(calls_hold(&m))
+}
+
+#[test]
+fn a_module_is_read_and_written_as_short_as_can_be(rt: HostRuntime) {
+    let alloc = rt.alloc();
+    let text =
+        b"\0asm\x01\0\0\0\x01\x05\x01\x60\x00\x01\x7f\x03\x03\x02\x00\x00\x04\x05\x01\x70\x01\x01\x01\x05\x03\x01\x00\x02\x07\x0e\x02\x06memory\x02\x00\x01f\x00\x00\x0a\x0f\x02\x08\x00\x10\x81\x80\x80\x80\x00\x0b\x04\x00\x41\x07\x0b";
+    assert_eq!(rt; calls_are_read(alloc, text.as_slice()), Ok(true));
+    // the call has its shortest spelling, and the section is four bytes shorter
+    let short =
+        b"\0asm\x01\0\0\0\x01\x05\x01\x60\x00\x01\x7f\x03\x03\x02\x00\x00\x04\x05\x01\x70\x01\x01\x01\x05\x03\x01\x00\x02\x07\x0e\x02\x06memory\x02\x00\x01f\x00\x00\x0a\x0b\x02\x04\x00\x10\x01\x0b\x04\x00\x41\x07\x0b";
+    assert_eq!(rt;
+        is_written(alloc, text.as_slice(), short.as_slice()),
+        Ok(true)
+    );
+}
+
+/// Where the last instruction of a module's only body ends.
+fn end_of_only(alloc: Global, text: &[u8]) -> Option<u32> {
+    match read(alloc, text) {
+        Ok(m) => match m.bodies.as_slice() {
+            [body] => end_of(body),
+            _ => None,
+        },
+        Err(_) => None,
     }
+}
+
+#[test]
+fn places_are_counted_from_a_body(rt: HostRuntime) {
+    let text =
+        b"\0asm\x01\0\0\0\x01\x04\x01\x60\x00\x00\x03\x02\x01\x00\x0a\x09\x01\x07\x00\x10\x80\x80\x00\x1a\x0b";
+    assert_eq!(rt; end_of_only(rt.alloc(), text.as_slice()), Some(7));
 }
 
 #[test]
@@ -80,72 +97,100 @@ fn modules_of_no_padding_are_written_byte_for_byte(rt: HostRuntime) {
     assert_eq!(rt; stays(alloc, of_f64.as_slice()), Ok(true));
 }
 
+fn globals_hold(globals: &[ModuleGlobal]) -> bool {
+    match globals {
+        [first, second] => {
+            (first.value, second.value) == (ConstExpr::Get(0), ConstExpr::I64(-1))
+        }
+        _ => false,
+    }
+}
+
+fn elements_hold(elements: &[Element]) -> bool {
+    match elements {
+        [first, second] => {
+            (first.table, first.offset) == (None, ConstExpr::I32(0))
+                && first.functions.as_slice() == [0].as_slice()
+                && (second.table, second.offset) == (Some(0), ConstExpr::Get(0))
+        }
+        _ => false,
+    }
+}
+
+fn segments_hold(segments: &[DataSegment]) -> bool {
+    match segments {
+        [first, second] => {
+            (first.memory, first.offset) == (None, ConstExpr::I32(0))
+                && first.bytes.as_slice() == [0xaa].as_slice()
+                && (second.memory, second.offset) == (Some(0), ConstExpr::I32(1))
+        }
+        _ => false,
+    }
+}
+
+/// Whether a module has what is said of it in each section.
+fn sections_hold(m: &Module) -> bool {
+    let lengths = (
+        m.types.len(),
+        m.imports.len(),
+        m.exports.len(),
+        m.bodies.len(),
+    );
+    let functions = m.functions.as_slice() == [1].as_slice();
+    let tables = m.tables.as_slice() == [table(false, 1, 2)].as_slice();
+    let globals = globals_hold(m.globals.as_slice());
+    let elements = elements_hold(m.elements.as_slice());
+    let segments = segments_hold(m.data_segments.as_slice());
+    let counted = lengths == (2, 2, 2, 1) && m.data_count == Some(2);
+    counted && functions && tables && globals && elements && segments
+}
+
+fn sections_are_read(alloc: Global, text: &[u8]) -> Result<bool, ModuleFault> {
+    let m = read(alloc, text)?;
+    Ok(sections_hold(&m))
+}
+
 #[test]
-fn each_section_is_read_and_written(rt: HostRuntime) -> Result<(), Fail> {
+fn each_section_is_read_and_written(rt: HostRuntime) {
     let alloc = rt.alloc();
     let text =
         b"\0asm\x01\0\0\0\x01\x0a\x02\x60\x02\x7f\x7e\x01\x7d\x60\x00\x00\x02\x0e\x02\x01m\x01f\x00\x01\x01m\x01g\x03\x7f\x01\x03\x02\x01\x01\x04\x05\x01\x6f\x01\x01\x02\x05\x03\x01\x00\x01\x06\x0b\x02\x7f\x00\x23\x00\x0b\x7e\x01\x42\x7f\x0b\x07\x09\x02\x01a\x03\x00\x01b\x01\x00\x09\x0e\x02\x00\x41\x00\x0b\x01\x00\x02\x00\x23\x00\x0b\x00\x00\x0c\x01\x02\x0a\x05\x01\x03\x00\x01\x0b\x0b\x0d\x02\x00\x41\x00\x0b\x01\xaa\x02\x00\x41\x01\x0b\x00";
     assert_eq!(rt; stays(alloc, text.as_slice()), Ok(true));
-    let m = read(alloc, text.as_slice())?;
-    assert_eq!(rt;
-        (
-            m.types.len(),
-            m.imports.len(),
-            m.exports.len(),
-            m.bodies.len()
-        ),
-        (2, 2, 2, 1)
-    );
-    assert_eq!(rt; m.functions.as_slice(), [1].as_slice());
-    assert_eq!(rt; m.tables.as_slice(), [table(false, 1, 2)].as_slice());
-    if let [first, second] = m.globals.as_slice() {
-        assert_eq!(rt;
-            (first.value, second.value),
-            (ConstExpr::Get(0), ConstExpr::I64(-1))
-        );
-    }
-    if let [first, second] = m.elements.as_slice() {
-        assert_eq!(rt; (first.table, first.offset), (None, ConstExpr::I32(0)));
-        assert_eq!(rt; first.functions.as_slice(), [0].as_slice());
-        assert_eq!(rt; (second.table, second.offset), (Some(0), ConstExpr::Get(0)));
-    }
-    assert_eq!(rt; m.data_count, Some(2));
-    if let [first, second] = m.data_segments.as_slice() {
-        assert_eq!(rt; (first.memory, first.offset), (None, ConstExpr::I32(0)));
-        assert_eq!(rt; first.bytes.as_slice(), [0xaa].as_slice());
-        assert_eq!(rt;
-            (second.memory, second.offset),
-            (Some(0), ConstExpr::I32(1))
-        );
-    }
-    Ok(())
+    assert_eq!(rt; sections_are_read(alloc, text.as_slice()), Ok(true));
 }
 
 #[test]
-fn custom_sections_and_padding_are_read_and_not_written(rt: HostRuntime) -> Result<(), Fail> {
-    let alloc = rt.alloc();
+fn custom_sections_and_padding_are_read_and_not_written(rt: HostRuntime) {
     let text =
         b"\0asm\x01\0\0\0\x00\x04\x01a\xff\xfe\x00\x01\x00\x03\x81\x00\x00\x00\x02\x01b\x04\x06\x81\x00\x70\x00\x85\x00\x07\x01\x00\x00\x04\x03\xc3\xa9x";
-    let m = read(alloc, text.as_slice())?;
-    let written = write(alloc, &m)?;
     let short = b"\0asm\x01\0\0\0\x04\x04\x01\x70\x00\x05";
-    assert_eq!(rt; written.as_slice(), short.as_slice());
-    Ok(())
+    assert_eq!(rt;
+        is_written(rt.alloc(), text.as_slice(), short.as_slice()),
+        Ok(true)
+    );
+}
+
+/// Whether these sections behind the header are no module.
+fn is_refused(alloc: Global, sections: &[u8]) -> Result<bool, OutOfMemory> {
+    let mut text = Seq::from_slice(alloc, b"\0asm\x01\0\0\0".as_slice())?;
+    text.extend_from_slice(sections)?;
+    match read(alloc, text.as_slice()) {
+        Ok(_) => Ok(false),
+        Err(fault) => Ok(fault == ModuleFault::NotModule),
+    }
 }
 
 /// Whether each of these sections behind the header is no module.
 fn are_refused(alloc: Global, cases: &[&[u8]]) -> Result<bool, OutOfMemory> {
     let mut all = true;
     for sections in cases {
-        let mut text = Seq::from_slice(alloc, b"\0asm\x01\0\0\0".as_slice())?;
-        text.extend_from_slice(sections)?;
-        all &= read(alloc, text.as_slice()) == Err(ModuleFault::NotModule);
+        all &= is_refused(alloc, sections)?;
     }
     Ok(all)
 }
 
 #[test]
-fn sections_out_of_place_are_refused(rt: HostRuntime) -> Result<(), Fail> {
+fn sections_out_of_place_are_refused(rt: HostRuntime) {
     let alloc = rt.alloc();
     let fault = Err(ModuleFault::NotModule);
     assert_eq!(rt; stays(alloc, &[]), fault);
@@ -167,14 +212,16 @@ fn sections_out_of_place_are_refused(rt: HostRuntime) -> Result<(), Fail> {
         b"\x00\x02\x02a".as_slice(),
         b"\x00\x02\x01\xff".as_slice(),
     ];
-    assert_eq!(rt; are_refused(alloc, &cases)?, true);
+    assert_eq!(rt; are_refused(alloc, &cases), Ok(true));
     // and a module that isn't refused
-    assert_eq!(rt; are_refused(alloc, &[b"\x00\x01\x00".as_slice()])?, false);
-    Ok(())
+    assert_eq!(rt;
+        are_refused(alloc, &[b"\x00\x01\x00".as_slice()]),
+        Ok(false)
+    );
 }
 
 #[test]
-fn contents_of_another_form_are_refused(rt: HostRuntime) -> Result<(), Fail> {
+fn contents_of_another_form_are_refused(rt: HostRuntime) {
     let alloc = rt.alloc();
     let cases = [
         // a function with no body, a body with no function, and a data count that is another
@@ -194,8 +241,7 @@ fn contents_of_another_form_are_refused(rt: HostRuntime) -> Result<(), Fail> {
         // an export of kind 4
         b"\x07\x05\x01\x01a\x04\x00".as_slice(),
     ];
-    assert_eq!(rt; are_refused(alloc, &cases)?, true);
-    Ok(())
+    assert_eq!(rt; are_refused(alloc, &cases), Ok(true));
 }
 
 #[test]
@@ -250,44 +296,57 @@ fn segments_and_names_are_lent(rt: HostRuntime) {
     assert_eq!(rt; lent_name_at(10, &[0x01, 0xff, 9]), Err(Stop::Broken(7)));
 }
 
+/// Whether the export at the front is named so, its kind and its index, and the bytes after it.
+fn export_parts<'a>(
+    alloc: Global,
+    bytes: &'a [u8],
+    name: &[u8],
+) -> Result<(bool, u8, u32, &'a [u8]), ReadFault> {
+    let (export, rest) = export_at(alloc, 10, bytes)?;
+    let named = export.name.as_slice() == name;
+    Ok((named, export.kind, export.index, rest))
+}
+
+/// The table and the offset of the element segment at the front, how many functions it has, and
+/// the bytes after it.
+fn element_parts(
+    alloc: Global,
+    get: bool,
+    bytes: &[u8],
+) -> Result<(Option<u32>, ConstExpr, usize, &[u8]), ReadFault> {
+    let (element, rest) = element_at(alloc, get, 10, bytes)?;
+    Ok((element.table, element.offset, element.functions.len(), rest))
+}
+
+/// The memory and the offset of the data segment at the front, how many bytes it has, and the bytes
+/// after it.
+fn segment_parts(
+    alloc: Global,
+    bytes: &[u8],
+) -> Result<(Option<u32>, ConstExpr, usize, &[u8]), ReadFault> {
+    let (segment, rest) = data_segment_at(alloc, false, 10, bytes)?;
+    Ok((segment.memory, segment.offset, segment.bytes.len(), rest))
+}
+
 #[test]
-fn exports_and_segments_are_kept(rt: HostRuntime) -> Result<(), Fail> {
+fn exports_and_segments_are_kept(rt: HostRuntime) {
     let alloc = rt.alloc();
     let broken = |at| ReadFault::Stopped(Stop::Broken(at));
-    let name = Seq::from_slice(alloc, b"f".as_slice())?;
-    let of_function = Export {
-        name,
-        kind: 0,
-        index: 3,
-    };
     let rest = [9].as_slice();
     assert_eq!(rt;
-        export_at(alloc, 10, &[0x01, 0x66, 0x00, 0x03, 9]),
-        Ok((of_function, rest))
+        export_parts(alloc, &[0x01, 0x66, 0x00, 0x03, 9], b"f".as_slice()),
+        Ok((true, 0, 3, rest))
     );
     assert_eq!(rt;
-        export_at(alloc, 10, &[0x01, 0x66, 0x04, 0x03, 9]),
+        export_parts(alloc, &[0x01, 0x66, 0x04, 0x03, 9], b"f".as_slice()),
         Err(broken(7))
     );
     let foreign = ReadFault::Stopped(Stop::Foreign(Item::SegmentForm(1)));
-    assert_eq!(rt; element_at(alloc, true, 10, &[0x01, 9]), Err(foreign));
+    assert_eq!(rt; element_parts(alloc, true, &[0x01, 9]), Err(foreign));
     let no_kind = [0x02, 0x00, 0x41, 0x00, 0x0b, 0x01];
-    assert_eq!(rt; element_at(alloc, true, 10, &no_kind), Err(broken(9)));
-    let element = Element {
-        table: None,
-        offset: ConstExpr::I32(7),
-        functions: Seq::new(alloc),
-    };
+    assert_eq!(rt; element_parts(alloc, true, &no_kind), Err(broken(9)));
     let text = [0x00, 0x41, 0x07, 0x0b, 0x00, 9];
-    assert_eq!(rt; element_at(alloc, false, 10, &text), Ok((element, rest)));
-    let segment = DataSegment {
-        memory: None,
-        offset: ConstExpr::I32(7),
-        bytes: Seq::new(alloc),
-    };
-    assert_eq!(rt;
-        data_segment_at(alloc, false, 10, &text),
-        Ok((segment, rest))
-    );
-    Ok(())
+    let parts = Ok((None, ConstExpr::I32(7), 0, rest));
+    assert_eq!(rt; element_parts(alloc, false, &text), parts);
+    assert_eq!(rt; segment_parts(alloc, &text), parts);
 }

@@ -1,118 +1,147 @@
 use super::*;
+use std::alloc::Global;
 use std::test::Fail;
 use wl_base::{Item, OutOfMemory, Seq};
 
-#[test]
-fn bytes_and_numbers_are_read_with_places(rt: HostRuntime) {
-    let nothing = [].as_slice();
-    assert_eq!(rt; byte_at(10, &[7, 9]), Ok((7, [9].as_slice())));
-    assert_eq!(rt; byte_at(10, &[]), Err(Stop::Broken(10)));
-    assert_eq!(rt; tag_at(0x60, 10, &[0x60, 9]), Ok([9].as_slice()));
-    assert_eq!(rt; tag_at(0x60, 10, &[0x61, 9]), Err(Stop::Broken(8)));
-    assert_eq!(rt; tag_at(0x60, 10, &[]), Err(Stop::Broken(10)));
-    assert_eq!(rt; u32_at(10, &[0x7f, 9]), Ok((127, [9].as_slice())));
-    assert_eq!(rt; u32_at(10, &[0x80, 0x01, 9]), Ok((128, [9].as_slice())));
-    assert_eq!(rt;
-        u32_at(10, &[0x81, 0x80, 0x80, 0x80, 0x00]),
-        Ok((1, nothing))
-    );
-    assert_eq!(rt;
-        u32_at(10, &[0x80, 0x80, 0x80, 0x80, 0x10]),
-        Err(Stop::Broken(5))
-    );
-    assert_eq!(rt; u32_at(10, &[0x80, 0x80]), Err(Stop::Broken(8)));
-    assert_eq!(rt; s32_at(10, &[0x3f]), Ok((63, nothing)));
-    assert_eq!(rt; s32_at(10, &[0xc0, 0x00, 9]), Ok((64, [9].as_slice())));
-    assert_eq!(rt; s32_at(10, &[0x70, 9]), Ok((-16, [9].as_slice())));
-    assert_eq!(rt;
-        s32_at(10, &[0xff, 0xff, 0xff, 0xff, 0x0f]),
-        Err(Stop::Broken(5))
-    );
-    assert_eq!(rt;
-        s33_at(10, &[0xff, 0xff, 0xff, 0xff, 0x0f]),
-        Ok((4_294_967_295, nothing))
-    );
-    assert_eq!(rt; s33_at(10, &[0x40, 9]), Ok((-64, [9].as_slice())));
-    assert_eq!(rt; s64_at(10, &[0x80, 0x7f]), Ok((-128, nothing)));
-    assert_eq!(rt; s64_at(10, &[0x80]), Err(Stop::Broken(9)));
-    assert_eq!(rt; place(10, &[1, 2, 3]), 7);
+const NINE: &[u8] = &[9];
+
+const NOTHING: &[u8] = &[];
+
+fn bytes_have_places() -> bool {
+    byte_at(10, &[7, 9]) == Ok((7, NINE))
+        && byte_at(10, &[]) == Err(Stop::Broken(10))
+        && tag_at(0x60, 10, &[0x60, 9]) == Ok(NINE)
+        && tag_at(0x60, 10, &[0x61, 9]) == Err(Stop::Broken(8))
+        && tag_at(0x60, 10, &[]) == Err(Stop::Broken(10))
+        && place(10, &[1, 2, 3]) == 7
+}
+
+fn unsigned_numbers_have_places() -> bool {
+    u32_at(10, &[0x7f, 9]) == Ok((127, NINE))
+        && u32_at(10, &[0x80, 0x01, 9]) == Ok((128, NINE))
+        && u32_at(10, &[0x81, 0x80, 0x80, 0x80, 0x00]) == Ok((1, NOTHING))
+        && u32_at(10, &[0x80, 0x80, 0x80, 0x80, 0x10]) == Err(Stop::Broken(5))
+        && u32_at(10, &[0x80, 0x80]) == Err(Stop::Broken(8))
+}
+
+fn short_signed_numbers_have_places() -> bool {
+    s32_at(10, &[0x3f]) == Ok((63, NOTHING))
+        && s32_at(10, &[0xc0, 0x00, 9]) == Ok((64, NINE))
+        && s32_at(10, &[0x70, 9]) == Ok((-16, NINE))
+        && s32_at(10, &[0xff, 0xff, 0xff, 0xff, 0x0f]) == Err(Stop::Broken(5))
+}
+
+fn long_signed_numbers_have_places() -> bool {
+    s33_at(10, &[0xff, 0xff, 0xff, 0xff, 0x0f]) == Ok((4_294_967_295, NOTHING))
+        && s33_at(10, &[0x40, 9]) == Ok((-64, NINE))
+        && s64_at(10, &[0x80, 0x7f]) == Ok((-128, NOTHING))
+        && s64_at(10, &[0x80]) == Err(Stop::Broken(9))
 }
 
 #[test]
-fn parts_names_and_vectors_are_read_with_places(rt: HostRuntime) -> Result<(), Fail> {
-    let alloc = rt.alloc();
-    assert_eq!(rt;
-        front_at(2, 10, &[1, 2, 3]),
-        Ok(([1, 2].as_slice(), [3].as_slice()))
-    );
-    assert_eq!(rt; front_at(4, 10, &[1, 2, 3]), Err(Stop::Broken(10)));
-    assert_eq!(rt;
-        bytes_at(10, &[1, 2, 3]),
-        Ok(([2].as_slice(), [3].as_slice()))
-    );
-    assert_eq!(rt; bytes_at(10, &[3, 2, 3]), Err(Stop::Broken(10)));
-    assert_eq!(rt;
-        part_at(10, &[1, 2, 3]),
-        Ok(([2].as_slice(), [3].as_slice()))
-    );
-    assert_eq!(rt; part_at(10, &[3, 2, 3]), Err(Stop::Broken(7)));
-    assert_eq!(rt; none_at(10, &[]), Ok(()));
-    assert_eq!(rt; none_at(10, &[1, 2]), Err(Stop::Broken(8)));
-    let text = Seq::from_slice(alloc, b"f".as_slice())?;
-    assert_eq!(rt;
-        blob_at(alloc, 10, &[1, 0x66, 9]),
-        Ok((text, [9].as_slice()))
-    );
-    let name = Seq::from_slice(alloc, "é".as_bytes())?;
-    assert_eq!(rt;
-        name_at(alloc, 10, &[2, 0xc3, 0xa9, 9]),
-        Ok((name, [9].as_slice()))
-    );
-    let broken = |at| ReadFault::Stopped(Stop::Broken(at));
-    assert_eq!(rt; name_at(alloc, 10, &[2, 0xc3, 0x29, 9]), Err(broken(6)));
-    let numbers = Seq::from_slice(alloc, &[1u32, 300])?;
-    let read = vector_at::<u32>(alloc, 10, &[2, 1, 0xac, 0x02, 9]);
-    assert_eq!(rt; read, Ok((numbers, [9].as_slice())));
-    assert_eq!(rt; vector_at::<u32>(alloc, 10, &[3, 1, 2]), Err(broken(10)));
-    assert_eq!(rt;
-        many_at::<u32>(alloc, 0, 10, &[3]),
-        Ok((Seq::new(alloc), [3].as_slice()))
-    );
-    assert_eq!(rt; whole::<u32>(alloc, 10, &[3]), Ok(3));
-    assert_eq!(rt; whole::<u32>(alloc, 10, &[3, 4]), Err(broken(9)));
-    assert_eq!(rt;
-        sized_at::<u32>(alloc, 10, &[1, 3, 4]),
-        Ok((3, [4].as_slice()))
-    );
-    assert_eq!(rt; sized_at::<u32>(alloc, 10, &[2, 3, 4, 5]), Err(broken(8)));
-    assert_eq!(rt; sized_at::<u32>(alloc, 10, &[1, 0x83, 4]), Err(broken(8)));
-    assert_eq!(rt; sized_at::<u32>(alloc, 10, &[3, 4, 5]), Err(broken(7)));
-    assert_eq!(rt; read_front::<u32>(alloc, &[0x83, 4, 5]), Ok((515, 2)));
+fn bytes_and_numbers_are_read_with_places(rt: HostRuntime) {
+    assert!(rt; bytes_have_places());
+    assert!(rt; unsigned_numbers_have_places());
+    assert!(rt; short_signed_numbers_have_places());
+    assert!(rt; long_signed_numbers_have_places());
+}
+
+fn parts_have_places() -> bool {
+    let rest = [3].as_slice();
+    front_at(2, 10, &[1, 2, 3]) == Ok(([1, 2].as_slice(), rest))
+        && front_at(4, 10, &[1, 2, 3]) == Err(Stop::Broken(10))
+        && bytes_at(10, &[1, 2, 3]) == Ok(([2].as_slice(), rest))
+        && bytes_at(10, &[3, 2, 3]) == Err(Stop::Broken(10))
+        && part_at(10, &[1, 2, 3]) == Ok(([2].as_slice(), rest))
+        && part_at(10, &[3, 2, 3]) == Err(Stop::Broken(7))
+        && none_at(10, &[]) == Ok(())
+        && none_at(10, &[1, 2]) == Err(Stop::Broken(8))
+}
+
+fn broken(at: usize) -> ReadFault {
+    ReadFault::Stopped(Stop::Broken(at))
+}
+
+/// Whether these bytes were read, and the 9 behind them was not.
+fn is_text(read: Result<(Seq<u8>, &[u8]), ReadFault>, text: &[u8]) -> bool {
+    match read {
+        Ok((found, rest)) => found.as_slice() == text && rest == NINE,
+        Err(_) => false,
+    }
+}
+
+/// Whether these numbers were read, and these bytes behind them were not.
+fn are_numbers(read: Result<(Seq<u32>, &[u8]), ReadFault>, numbers: &[u32], behind: &[u8]) -> bool {
+    match read {
+        Ok((found, rest)) => found.as_slice() == numbers && rest == behind,
+        Err(_) => false,
+    }
+}
+
+fn names_have_places(alloc: Global) -> bool {
+    is_text(blob_at(alloc, 10, &[1, 0x66, 9]), b"f")
+        && is_text(name_at(alloc, 10, &[2, 0xc3, 0xa9, 9]), "é".as_bytes())
+        && name_at(alloc, 10, &[2, 0xc3, 0x29, 9]).err() == Some(broken(6))
+}
+
+fn vectors_have_places(alloc: Global) -> bool {
+    let two = vector_at::<u32>(alloc, 10, &[2, 1, 0xac, 0x02, 9]);
+    let none = many_at::<u32>(alloc, 0, 10, &[3]);
+    are_numbers(two, &[1, 300], &[9])
+        && are_numbers(none, &[], &[3])
+        && vector_at::<u32>(alloc, 10, &[3, 1, 2]).err() == Some(broken(10))
+}
+
+fn whole_values_have_places(alloc: Global) -> bool {
+    whole::<u32>(alloc, 10, &[3]) == Ok(3)
+        && whole::<u32>(alloc, 10, &[3, 4]) == Err(broken(9))
+        && sized_at::<u32>(alloc, 10, &[1, 3, 4]) == Ok((3, [4].as_slice()))
+        && sized_at::<u32>(alloc, 10, &[2, 3, 4, 5]) == Err(broken(8))
+        && sized_at::<u32>(alloc, 10, &[1, 0x83, 4]) == Err(broken(8))
+        && sized_at::<u32>(alloc, 10, &[3, 4, 5]) == Err(broken(7))
+        && read_front::<u32>(alloc, &[0x83, 4, 5]) == Ok((515, 2))
+}
+
+#[test]
+fn parts_names_and_vectors_are_read_with_places(rt: HostRuntime) {
+    assert!(rt; parts_have_places());
+    assert!(rt; names_have_places(rt.alloc()));
+    assert!(rt; vectors_have_places(rt.alloc()));
+    assert!(rt; whole_values_have_places(rt.alloc()));
     assert_eq!(rt;
         ReadFault::from(Stop::Foreign(Item::TagImport)),
         ReadFault::Stopped(Stop::Foreign(Item::TagImport))
     );
-    Ok(())
+}
+
+const WRITTEN: [u8; 16] = [
+    7, 0x80, 0x01, 0xc0, 0x00, 0x80, 0x7f, 3, 2, 0x61, 0x62, 0x63, 2, 1, 0xac, 0x02,
+];
+
+fn put_each(to: &mut Seq<u8>) -> Result<(), OutOfMemory> {
+    put_byte(to, 7)?;
+    put_u32(to, 128)?;
+    put_s32(to, &64)?;
+    put_s64(to, &-128)?;
+    put_count(to, 3)?;
+    put_bytes(to, b"ab")?;
+    put_itself(to, b"c")?;
+    put_vector(to, &[1u32, 300])
+}
+
+/// Whether what was written stays where its writer has not failed, and else is cut.
+fn is_cut_back(to: &mut Seq<u8>) -> bool {
+    cut_back(to, 3, Ok(())) == Ok(())
+        && to.as_slice() == WRITTEN.as_slice()
+        && cut_back(to, 3, Err(OutOfMemory)) == Err(OutOfMemory)
+        && to.as_slice() == [7, 0x80, 0x01].as_slice()
 }
 
 #[test]
 fn what_is_written_is_as_short_as_can_be(rt: HostRuntime) -> Result<(), Fail> {
     let mut to = Seq::new(rt.alloc());
-    put_byte(&mut to, 7)?;
-    put_u32(&mut to, 128)?;
-    put_s32(&mut to, &64)?;
-    put_s64(&mut to, &-128)?;
-    put_count(&mut to, 3)?;
-    put_bytes(&mut to, b"ab")?;
-    put_itself(&mut to, b"c")?;
-    put_vector(&mut to, &[1u32, 300])?;
-    let want = [
-        7, 0x80, 0x01, 0xc0, 0x00, 0x80, 0x7f, 3, 2, 0x61, 0x62, 0x63, 2, 1, 0xac, 0x02,
-    ];
-    assert_eq!(rt; to.as_slice(), want.as_slice());
-    assert_eq!(rt; cut_back(&mut to, 3, Ok(())), Ok(()));
-    assert_eq!(rt; to.as_slice(), want.as_slice());
-    assert_eq!(rt; cut_back(&mut to, 3, Err(OutOfMemory)), Err(OutOfMemory));
-    assert_eq!(rt; to.as_slice(), [7, 0x80, 0x01].as_slice());
+    put_each(&mut to)?;
+    assert_eq!(rt; to.as_slice(), WRITTEN.as_slice());
+    assert!(rt; is_cut_back(&mut to));
     Ok(())
 }

@@ -42,106 +42,176 @@ fn two_files(alloc: Global) -> Result<Seq<Held>, OutOfMemory> {
     Ok(files)
 }
 
+/// Whether a load of the name gives these bytes.
+fn loads<F: Shelf>(alloc: Global, shelf: &mut F, name: &str, bytes: &[u8]) -> bool {
+    match load(alloc, shelf, name) {
+        Ok(found) => found.as_slice() == bytes,
+        Err(_) => false,
+    }
+}
+
+/// Whether a load of the name fails, and not for want of memory.
+fn holds_nothing<F: Shelf>(alloc: Global, shelf: &mut F, name: &str) -> bool {
+    load(alloc, shelf, name).err() == Some(LoadFault::Failed)
+}
+
+/// Whether the bytes are saved under the name, and then loaded.
+fn keeps<F: Shelf>(alloc: Global, shelf: &mut F, name: &str, bytes: &[u8]) -> bool {
+    save(shelf, name, bytes).is_ok() && loads(alloc, shelf, name, bytes)
+}
+
+/// Whether the names of two files differ, those of these and one more, and those of no file.
+fn differences(alloc: Global) -> Result<[bool; 3], OutOfMemory> {
+    let mut files = two_files(alloc)?;
+    let of_two = names_differ(files.as_slice());
+    files.push(file(alloc, "a.o", &[9])?)?;
+    let of_three = names_differ(files.as_slice());
+    let of_none = names_differ(Seq::<Held>::new(alloc).as_slice());
+    Ok([of_two, of_three, of_none])
+}
+
 #[test]
 fn names_are_compared(rt: HostRuntime) -> Result<(), Fail> {
-    let alloc = rt.alloc();
-    let mut files = two_files(alloc)?;
-    assert!(rt; names_differ(files.as_slice()));
-    files.push(file(alloc, "a.o", &[9])?)?;
-    assert!(rt; !names_differ(files.as_slice()));
-    assert!(rt; names_differ(Seq::<Held>::new(alloc).as_slice()));
+    assert_eq!(rt; differences(rt.alloc())?, [true, false, true]);
     Ok(())
+}
+
+/// The two files on a shelf of which the listed calls fail.
+fn failing_shelf(alloc: Global, failing: &[u32]) -> Option<MemShelf> {
+    let files = two_files(alloc).ok()?;
+    let failing = Seq::from_slice(alloc, failing).ok()?;
+    if !names_differ(files.as_slice()) {
+        return None;
+    }
+    Some(MemShelf::new(alloc, files, failing))
+}
+
+fn begins_with_two_files(alloc: Global, shelf: &mut MemShelf) -> bool {
+    loads(alloc, shelf, "a.o", &[1, 2])
+        && loads(alloc, shelf, "b.o", &[])
+        && holds_nothing(alloc, shelf, "c.o")
+        && shelf.held("c.o").is_none()
+}
+
+fn replaces(alloc: Global, shelf: &mut MemShelf) -> bool {
+    for bytes in [[7u8, 8].as_slice(), &[9], &[]] {
+        if !keeps(alloc, shelf, "out", bytes) || shelf.held("out") != Some(bytes) {
+            return false;
+        }
+    }
+    keeps(alloc, shelf, "a.o", &[5, 6, 7]) && shelf.held("b.o") == Some([].as_slice())
 }
 
 #[test]
 fn a_shelf_in_memory_holds_and_replaces(rt: HostRuntime) -> Result<(), Fail> {
     let alloc = rt.alloc();
-    let files = two_files(alloc)?;
-    assert!(rt; names_differ(files.as_slice()));
-    let mut shelf = MemShelf::new(alloc, files, Seq::new(alloc));
-    assert_eq!(rt; load(alloc, &mut shelf, "a.o")?, seq(alloc, &[1, 2])?);
-    assert_eq!(rt; load(alloc, &mut shelf, "b.o")?, seq(alloc, &[])?);
-    assert!(rt; load(alloc, &mut shelf, "c.o").err() == Some(LoadFault::Failed));
-    assert!(rt; shelf.held("c.o").is_none());
-    for bytes in [[7u8, 8].as_slice(), &[9], &[]] {
-        save(&mut shelf, "out", bytes)?;
-        assert_eq!(rt; load(alloc, &mut shelf, "out")?, seq(alloc, bytes)?);
-        assert_eq!(rt; shelf.held("out").ok_or("nothing")?, bytes);
-    }
-    save(&mut shelf, "a.o", &[5, 6, 7])?;
-    assert_eq!(rt; load(alloc, &mut shelf, "a.o")?, seq(alloc, &[5, 6, 7])?);
-    assert_eq!(rt; shelf.held("b.o").ok_or("nothing")?, [].as_slice());
+    let mut shelf = failing_shelf(alloc, &[]).ok_or("no shelf")?;
+    assert!(rt; begins_with_two_files(alloc, &mut shelf));
+    assert!(rt; replaces(alloc, &mut shelf));
     Ok(())
 }
 
+/// Which of a load, a save, a load and a save succeed where the call of this number is listed, and
+/// whether the shelf then holds this byte as its output, and the input as it was.
+fn calls(alloc: Global, failing: u32, last: u8) -> Option<([bool; 4], bool)> {
+    let mut shelf = failing_shelf(alloc, &[failing, 9])?;
+    let answers = [
+        load(alloc, &mut shelf, "a.o").is_ok(),
+        save(&mut shelf, "out", &[3]).is_ok(),
+        load(alloc, &mut shelf, "a.o").is_ok(),
+        save(&mut shelf, "out", &[4]).is_ok(),
+    ];
+    let is_saved = shelf.held("out") == Some([last].as_slice());
+    let is_kept = shelf.held("a.o") == Some([1, 2].as_slice());
+    Some((answers, is_saved && is_kept))
+}
+
 #[test]
-fn the_listed_calls_of_a_shelf_fail(rt: HostRuntime) -> Result<(), Fail> {
-    let alloc = rt.alloc();
-    for failing in 0..5u32 {
-        let files = two_files(alloc)?;
-        assert!(rt; names_differ(files.as_slice()));
-        let mut shelf = MemShelf::new(alloc, files, Seq::from_slice(alloc, &[failing, 9])?);
-        let answers = [
-            load(alloc, &mut shelf, "a.o").is_ok(),
-            save(&mut shelf, "out", &[3]).is_ok(),
-            load(alloc, &mut shelf, "a.o").is_ok(),
-            save(&mut shelf, "out", &[4]).is_ok(),
-        ];
-        for (answer, call) in answers.into_iter().zip(1..5u32) {
-            assert_eq!(rt; answer, call != failing, "call {call} of {failing}");
-        }
-        let last = if failing == 4 { 3 } else { 4 };
-        assert_eq!(rt; shelf.held("out").ok_or("nothing")?, [last].as_slice());
-        assert_eq!(rt; shelf.held("a.o").ok_or("nothing")?, [1, 2].as_slice());
+fn the_listed_calls_of_a_shelf_fail(rt: HostRuntime) {
+    for (failing, answers, last) in [
+        (0, [true, true, true, true], 4),
+        (1, [false, true, true, true], 4),
+        (2, [true, false, true, true], 4),
+        (3, [true, true, false, true], 4),
+        (4, [true, true, true, false], 3),
+    ] {
+        let found = calls(rt.alloc(), failing, last);
+        assert!(rt; found == Some((answers, true)), "call {failing}");
     }
-    Ok(())
+}
+
+/// The two files on a shelf that has room for an output.
+fn roomy_shelf(alloc: Global, output: &str, room: u32) -> Option<NeverFails> {
+    let files = two_files(alloc).ok()?;
+    let output = Text::new(alloc, output).ok()?;
+    if !names_differ(files.as_slice()) {
+        return None;
+    }
+    NeverFails::new(alloc, files, output, room).ok()
+}
+
+fn begins_without_output(alloc: Global, shelf: &mut NeverFails) -> bool {
+    loads(alloc, shelf, "a.o", &[1, 2])
+        && holds_nothing(alloc, shelf, "out")
+        && save(shelf, "out", &[1, 2, 3, 4]).is_err()
+        && shelf.held("out").is_none()
+}
+
+fn has_room_for_three(alloc: Global, shelf: &mut NeverFails) -> bool {
+    for bytes in [[7u8, 8, 9].as_slice(), &[5], &[]] {
+        let is_kept = keeps(alloc, shelf, "out", bytes);
+        let is_full = save(shelf, "out", &[1, 2, 3, 4]).is_err();
+        if !is_kept || !is_full || shelf.held("out") != Some(bytes) {
+            return false;
+        }
+    }
+    save(shelf, "a.o", &[5]).is_err() && shelf.held("a.o") == Some([1, 2].as_slice())
 }
 
 #[test]
 fn a_shelf_with_room_fails_beyond_it_alone(rt: HostRuntime) -> Result<(), Fail> {
     let alloc = rt.alloc();
-    let files = two_files(alloc)?;
-    assert!(rt; names_differ(files.as_slice()));
-    let mut shelf = NeverFails::new(alloc, files, Text::new(alloc, "out")?, 3)?;
-    assert_eq!(rt; load(alloc, &mut shelf, "a.o")?, seq(alloc, &[1, 2])?);
-    assert!(rt; load(alloc, &mut shelf, "out").err() == Some(LoadFault::Failed));
-    assert!(rt; save(&mut shelf, "out", &[1, 2, 3, 4]).is_err());
-    assert!(rt; shelf.held("out").is_none());
-    for bytes in [[7u8, 8, 9].as_slice(), &[5], &[]] {
-        save(&mut shelf, "out", bytes)?;
-        assert_eq!(rt; load(alloc, &mut shelf, "out")?, seq(alloc, bytes)?);
-        assert!(rt; save(&mut shelf, "out", &[1, 2, 3, 4]).is_err());
-        assert_eq!(rt; shelf.held("out").ok_or("nothing")?, bytes);
-    }
-    assert!(rt; save(&mut shelf, "a.o", &[5]).is_err());
-    assert_eq!(rt; shelf.held("a.o").ok_or("nothing")?, [1, 2].as_slice());
+    let mut shelf = roomy_shelf(alloc, "out", 3).ok_or("no shelf")?;
+    assert!(rt; begins_without_output(alloc, &mut shelf));
+    assert!(rt; has_room_for_three(alloc, &mut shelf));
     Ok(())
+}
+
+fn stands_under_an_input(alloc: Global, shelf: &mut NeverFails) -> bool {
+    save(shelf, "a.o", &[8, 9]).is_err()
+        && loads(alloc, shelf, "a.o", &[1, 2])
+        && keeps(alloc, shelf, "a.o", &[8])
 }
 
 #[test]
 fn an_output_may_stand_under_an_input(rt: HostRuntime) -> Result<(), Fail> {
     let alloc = rt.alloc();
-    let files = two_files(alloc)?;
-    assert!(rt; names_differ(files.as_slice()));
-    let mut shelf = NeverFails::new(alloc, files, Text::new(alloc, "a.o")?, 1)?;
-    assert!(rt; save(&mut shelf, "a.o", &[8, 9]).is_err());
-    assert_eq!(rt; load(alloc, &mut shelf, "a.o")?, seq(alloc, &[1, 2])?);
-    save(&mut shelf, "a.o", &[8])?;
-    assert_eq!(rt; load(alloc, &mut shelf, "a.o")?, seq(alloc, &[8])?);
+    let mut shelf = roomy_shelf(alloc, "a.o", 1).ok_or("no shelf")?;
+    assert!(rt; stands_under_an_input(alloc, &mut shelf));
     Ok(())
+}
+
+/// Which of five writes succeed to a sink of which two are listed, and whether it is empty before them
+/// and holds the others' bytes behind them.
+fn writes(alloc: Global) -> Result<([bool; 5], bool), OutOfMemory> {
+    let mut sink = MemSink::new(alloc, Seq::from_slice(alloc, &[2, 4])?);
+    let is_empty = sink.bytes() == [].as_slice();
+    let answers = [
+        write(&mut sink, b"one").is_ok(),
+        write(&mut sink, b"two").is_ok(),
+        write(&mut sink, b"").is_ok(),
+        write(&mut sink, b"four").is_ok(),
+        write(&mut sink, b"five").is_ok(),
+    ];
+    let is_kept = sink.bytes() == b"onefive".as_slice();
+    Ok((answers, is_empty && is_kept))
 }
 
 #[test]
 fn the_listed_calls_of_a_sink_fail(rt: HostRuntime) -> Result<(), Fail> {
-    let alloc = rt.alloc();
-    let mut sink = MemSink::new(alloc, Seq::from_slice(alloc, &[2, 4])?);
-    assert_eq!(rt; sink.bytes(), [].as_slice());
-    let pieces = ["one", "two", "", "four", "five"];
-    for (piece, call) in pieces.into_iter().zip(1..6u32) {
-        let is_ok = write(&mut sink, piece.as_bytes()).is_ok();
-        assert_eq!(rt; is_ok, call != 2 && call != 4, "call {call}");
-    }
-    assert_eq!(rt; sink.bytes(), b"onefive".as_slice());
+    let (answers, holds) = writes(rt.alloc())?;
+    assert_eq!(rt; answers, [true, false, true, false, true]);
+    assert!(rt; holds);
     Ok(())
 }
 
