@@ -44,6 +44,7 @@ f=(--no-entry --export=f)
 cp a.o given.o
 expect "an object is linked" ends 0 "" a.o -o b.wasm "${f[@]}"
 expect "the module is the expected one" cmp b.wasm "$module"
+expect "and may be run" test -x b.wasm
 expect "the input stays as it was" cmp a.o given.o
 expect "the words may stand in another order" ends 0 "" --export f -o b.wasm --threads=64 --no-entry -- a.o
 expect "and give the same module" cmp b.wasm "$module"
@@ -83,7 +84,7 @@ expect "a bad number" ends 2 "wasmld: usage: BadNumber at word 0" --global-base=
 expect "a bad number of workers" ends 2 "wasmld: usage: BadThreads at word 1" a.o --threads=65 -o c.wasm
 expect "an open group" ends 2 "wasmld: usage: OpenGroup at word 0" --start-lib a.o -o c.wasm
 expect "a generated case and an input" ends 2 "wasmld: usage: CaseAndInput" --make-case=2 a.o
-expect "a word that isn't UTF-8" ends 2 "" $'a\xff.o' -o c.wasm "${f[@]}"
+expect "a word that isn't UTF-8" ends 2 "wasmld: usage: a word is not UTF-8" $'a\xff.o' -o c.wasm "${f[@]}"
 
 # Files.
 expect "an input that isn't there" ends 3 "wasmld: cannot read word 2" -o c.wasm absent.o "${f[@]}"

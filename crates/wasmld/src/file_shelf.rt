@@ -5,8 +5,9 @@ ghost use Rattle.std.specs.Prelude.{◌≡◌, ◌≤◌};
 use crate::writing::write_all;
 use std::alloc::{AllocError, Global};
 use std::fs;
-use std::fs::OpenFile;
+use std::fs::{OpenFile, OpenOptions};
 use std::io::Read;
+use std::os::unix::fs::OpenOptionsExt;
 use std::rt::Files;
 use wl_base::Seq;
 use wl_outside::{Failed, LoadFault, Shelf};
@@ -18,6 +19,9 @@ const MAX_LEN: usize = 1 << 32;
 const LEAST_PIECE: usize = 1 << 12;
 
 const PIECE: usize = 1 << 17;
+
+// A new output may be run, as far as the process's mask lets it.
+const OUTPUT_MODE: u32 = 0o777;
 
 /// Files by their paths.
 #[derive(Drop)]
@@ -103,7 +107,13 @@ fn read_all<R: Read>(alloc: Global, len: usize, file: &mut R) -> Result<Vec<u8>,
 }
 
 fn write_file<R: Files>(rt: &R, name: &str, bytes: &[u8]) -> Result<(), Failed> {
-    let Ok(mut file) = fs::create(rt, name) else {
+    let mut options = OpenOptions::new();
+    options
+        .write(true)
+        .create(true)
+        .truncate(true)
+        .mode(OUTPUT_MODE);
+    let Ok(mut file) = options.open(rt, name) else {
         return Err(Failed);
     };
     write_all(&mut file, bytes)
