@@ -4,6 +4,7 @@ pub mod Offers
 pub mod Picked
 pub mod Lean
 pub mod Rising
+pub mod Same
 pub mod Slots
 pub mod Groups
 pub mod Offering

@@ -11,6 +11,7 @@ ghost use Rattle.lib_rounds.specs.Inputs.{members_of, AreCandidates, IsRead};
 ghost use Rattle.lib_rounds.specs.State.{World, Hold, Defines};
 ghost use Rattle.lib_rounds.specs.Begin.{IsPut, KnowsGiven, PutsAll, KnowsMembers, LoadsAll, Begins, input_count};
 
+use crate::early::Early;
 use crate::given::{Given, LibraryFile, RoundError};
 use crate::loading::load;
 use crate::offer::{Inputs, Offer};
@@ -45,7 +46,7 @@ fn count_inputs(given: usize, libraries: &[LibraryFile]) -> usize
 }
 
 /// So many slots of inputs that aren't read.
-fn empty_slots(alloc: Global, count: usize) -> Result<Vec<Slot>, OutOfMemory>
+fn empty_slots<'a>(alloc: Global, count: usize) -> Result<Vec<Slot<'a>>, OutOfMemory>
     ensures { IfOk result (λ slots. slots.items ≡ replicate count absent) }
 {
     let mut slots = Vec::with_capacity(alloc, count)?;
@@ -55,11 +56,37 @@ fn empty_slots(alloc: Global, count: usize) -> Result<Vec<Slot>, OutOfMemory>
     Ok(slots)
 }
 
+/// Keeps the members that are read early.
+fn put_early<'a>(slots: &mut Vec<Slot<'a>>, early: Vec<Early<'a>>)
+    ensures { slots.new.items ≡ slots.old.items }
+{
+    let mut left = early.into_iter();
+    while let Some(member) = left.next() {
+        let at = (member.input() as usize).saturating_sub(1);
+        if at < slots.len() {
+            slots[at].expect(member);
+        }
+    }
+}
+
+/// So many slots of inputs that aren't loaded, with the members that are read early.
+fn slots_for<'a>(
+    alloc: Global,
+    count: usize,
+    early: Vec<Early<'a>>,
+) -> Result<Vec<Slot<'a>>, OutOfMemory>
+    ensures { IfOk result (λ slots. slots.items ≡ replicate count absent) }
+{
+    let mut slots = empty_slots(alloc, count)?;
+    put_early(&mut slots, early);
+    Ok(slots)
+}
+
 /// Puts an object of the words into its slot.
 fn put_one(
     alloc: Global,
     given: Given,
-    slots: &mut Vec<Slot>,
+    slots: &mut Vec<Slot<'_>>,
     lazies: &mut Table,
     definers: &mut Table,
 ) -> Result<(), OutOfMemory>
@@ -81,7 +108,7 @@ fn put_one(
 fn put_given(
     alloc: Global,
     given: Seq<Given>,
-    slots: &mut Vec<Slot>,
+    slots: &mut Vec<Slot<'_>>,
     lazies: &mut Table,
     definers: &mut Table,
 ) -> Result<(), OutOfMemory>
@@ -102,7 +129,7 @@ fn put_given(
 /// Loads the members of a library that aren't loaded.
 fn load_library(
     inputs: Inputs<'_>,
-    slots: &mut Vec<Slot>,
+    slots: &mut Vec<Slot<'_>>,
     definers: &mut Table,
     at: usize,
 ) -> Result<(), RoundError>
@@ -132,7 +159,7 @@ fn load_library(
 /// Loads the members of all libraries that are loaded whole.
 fn load_whole(
     inputs: Inputs<'_>,
-    slots: &mut Vec<Slot>,
+    slots: &mut Vec<Slot<'_>>,
     definers: &mut Table,
 ) -> Result<(), RoundError>
     ghost w: { World }
@@ -151,9 +178,9 @@ fn load_whole(
 
 /// What is kept before the first round.
 #[derive(Drop)]
-pub struct Start {
+pub struct Start<'a> {
     /// A slot for each input, from input 1 on.
-    pub slots: Vec<Slot>,
+    pub slots: Vec<Slot<'a>>,
     /// An input for each name that is defined; 0 is the linker.
     pub definers: Table,
     /// The least lazy object for each name that one offers.
@@ -161,8 +188,13 @@ pub struct Start {
 }
 
 /// Loads what is loaded at once: the objects of the words that aren't lazy, and the members of whole
-/// libraries.
-pub fn begin(inputs: Inputs<'_>, given: Seq<Given>, mode: Mode) -> Result<Start, RoundError>
+/// libraries. The members that are read early are kept.
+pub fn begin<'a>(
+    inputs: Inputs<'_>,
+    given: Seq<Given>,
+    early: Vec<Early<'a>>,
+    mode: Mode,
+) -> Result<Start<'a>, RoundError>
     ghost w: { World }
     requires same { w.mode ≡ mode }
     requires are { AreCandidates w.all given inputs.libraries.now inputs.files.now }
@@ -171,7 +203,11 @@ pub fn begin(inputs: Inputs<'_>, given: Seq<Given>, mode: Mode) -> Result<Start,
 {
     let mut definers = made_names(inputs.alloc, mode)?;
     let mut lazies: Table = IndexMap::new(inputs.alloc);
-    let mut slots = empty_slots(inputs.alloc, count_inputs(given.len(), inputs.libraries))?;
+    let mut slots = slots_for(
+        inputs.alloc,
+        count_inputs(given.len(), inputs.libraries),
+        early,
+    )?;
     put_given(inputs.alloc, given, &mut slots, &mut lazies, &mut definers)?;
     load_whole(inputs, &mut slots, &mut definers)?;
     Ok(Start {

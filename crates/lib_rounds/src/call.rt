@@ -6,6 +6,8 @@ ghost use Rattle.lib_rounds.specs.Inputs.{AreCandidates, IsRead};
 ghost use Rattle.lib_rounds.specs.State.{World, Knows, Shows, Defines, Answers};
 
 use crate::begin::{Start, begin};
+use crate::early::Early;
+use crate::foresight::read_early;
 use crate::gather::{Sight, first_adds};
 use crate::given::{Given, LibraryFile, RoundError};
 use crate::loaded::Loaded;
@@ -13,10 +15,12 @@ use crate::offer::Inputs;
 use crate::running::run;
 use made_symbols::Mode;
 use std::alloc::Global;
+use std::thread::Threads;
 use wl_base::{Name, Seq};
+use wl_fan::Workers;
 
 /// Loads what is needed from the start on.
-fn load_needed(inputs: Inputs<'_>, start: Start, wanted: &[Name]) -> Result<Loaded, RoundError>
+fn load_needed(inputs: Inputs<'_>, start: Start<'_>, wanted: &[Name]) -> Result<Loaded, RoundError>
     ghost w: { World }
     requires knows { Knows w.all inputs.libraries.now inputs.files.now (shown start.lazies) }
     requires shows { Shows w.all start.slots.items (at_once w.all) }
@@ -45,6 +49,7 @@ fn load_needed(inputs: Inputs<'_>, start: Start, wanted: &[Name]) -> Result<Load
 fn load_all(
     inputs: Inputs<'_>,
     given: Seq<Given>,
+    early: Vec<Early<'_>>,
     wanted: &[Name],
     mode: Mode,
 ) -> Result<Loaded, RoundError>
@@ -54,7 +59,7 @@ fn load_all(
     requires read { All (IsRead inputs.files.now) inputs.libraries.now }
     ensures { Answers (λ l. l) result (load mode wanted.now w.all) }
 {
-    let start = begin(inputs, given, mode)?;
+    let start = begin(inputs, given, early, mode)?;
     load_needed(inputs, start, wanted)
 }
 
@@ -68,13 +73,18 @@ fn load_all(
 /// object; else, of the first round that has any, that of the least input that the round adds, which
 /// is no object, or doesn't define a name for which it is added (`IndexLies`, with the least such
 /// name). `all` are the inputs as candidates, by which the call is defined.
-pub fn load_rounds(
+///
+/// Where there are several workers they first read the members that will probably be needed, by what
+/// these import and by the data that they don't define.
+pub fn load_rounds<R: Threads + Sync>(
+    rt: &R,
     alloc: Global,
     given: Seq<Given>,
     libraries: &[LibraryFile],
     files: &[Seq<u8>],
     wanted: &[Name],
     mode: Mode,
+    workers: Workers,
 ) -> Result<Loaded, RoundError>
     ghost all: { List Candidate }
     requires are { AreCandidates all given libraries.now files.now }
@@ -86,5 +96,6 @@ pub fn load_rounds(
         libraries,
         files,
     };
-    load_all(inputs, given, wanted, mode)
+    let early = read_early(rt, inputs, given.as_slice(), wanted, workers)?;
+    load_all(inputs, given, early, wanted, mode)
 }

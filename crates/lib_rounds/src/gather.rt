@@ -23,7 +23,7 @@ pub struct Sight<'a> {
     pub inputs: Inputs<'a>,
     pub lazies: &'a Table,
     pub definers: &'a Table,
-    pub slots: &'a [Slot],
+    pub slots: &'a [Slot<'a>],
 }
 
 /// Adds what offers the name for it.
@@ -80,7 +80,7 @@ fn look_object(sight: Sight<'_>, object: &Object, adds: &mut Adds) -> Result<(),
 }
 
 /// The object of an input, where it is read.
-fn object_at(slots: &[Slot], input: InputId) -> Option<&Object>
+fn object_at<'a>(slots: &'a [Slot<'_>], input: InputId) -> Option<&'a Object>
     ensures { option_copied result ≡ object_held (slot_at slots.now input) }
 {
     match slots.get((input as usize).saturating_sub(1)) {

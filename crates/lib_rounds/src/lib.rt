@@ -4,13 +4,17 @@
 mod adds;
 mod begin;
 mod call;
+mod early;
+mod foresight;
 mod gather;
 mod given;
 pub mod laws;
 mod lies;
 mod loaded;
 mod loading;
+mod needs;
 mod offer;
+mod reading;
 mod running;
 mod slot;
 mod table;

@@ -32,8 +32,8 @@ impl Loaded {
     }
 
     /// The objects of the slots that are loaded.
-    pub(crate) fn of(alloc: Global, slots: Vec<Slot>) -> Result<Loaded, OutOfMemory>
-        ensures { IfOk result (λ l. l ≡ loaded_objects slots.items) }
+    pub(crate) fn of(alloc: Global, slots: Vec<Slot<'_>>) -> Result<Loaded, OutOfMemory>
+        ensures { IfOk result (λ l. l ≡ loaded_objects slots.entry.items) }
     {
         let mut objects = Seq::new(alloc);
         let mut left = slots.into_iter();

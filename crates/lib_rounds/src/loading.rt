@@ -22,15 +22,19 @@ use object_file::{Object, ObjectError, read_object};
 use std::alloc::Global;
 use wl_base::{Fault, InputId, Seq};
 
-/// The object of a library's member.
-fn read_member(inputs: Inputs<'_>, offer: Offer) -> Result<Object, RoundError>
+/// The object of a library's member, which was read early or is read now.
+fn read_member(inputs: Inputs<'_>, slot: &mut Slot<'_>, offer: Offer) -> Result<Object, RoundError>
     requires { (read : Result Read Why) × IsMember inputs.libraries.now inputs.files.now offer read }
-    ensures { (read : Result Read Why) → IsMember inputs.entry.libraries.now inputs.entry.files.now offer read → Answers (λ x. x) result read }
+    ensures same { slot.new ≡ slot.old }
+    ensures is { (read : Result Read Why) → IsMember inputs.entry.libraries.now inputs.entry.files.now offer read → Answers (λ x. x) result read }
 {
     let library = &inputs.libraries[offer.library];
     let span = library.library.member(offer.member);
     let bytes = inputs.files[library.file as usize].as_slice();
     let member = &bytes[span.start as usize..][..span.len as usize];
+    if let Some(object) = slot.take_early(offer.input, member) {
+        return Ok(object);
+    }
     match read_object(inputs.alloc, offer.input, member) {
         Ok(object) => Ok(object),
         Err(ObjectError::Refused(fault)) => Err(RoundError::Refused(fault)),
@@ -39,7 +43,7 @@ fn read_member(inputs: Inputs<'_>, offer: Offer) -> Result<Object, RoundError>
 }
 
 /// Fills the slot of an input that isn't loaded.
-fn fill(inputs: Inputs<'_>, slots: &mut Vec<Slot>, offer: Offer) -> Result<(), RoundError>
+fn fill(inputs: Inputs<'_>, slots: &mut Vec<Slot<'_>>, offer: Offer) -> Result<(), RoundError>
     ghost c: { Candidate }
     requires offer { IsOffer inputs.libraries.now inputs.files.now offer c }
     requires input { 0 < offer.input }
@@ -51,7 +55,7 @@ fn fill(inputs: Inputs<'_>, slots: &mut Vec<Slot>, offer: Offer) -> Result<(), R
         slots[at].load();
         return Ok(());
     }
-    let object = read_member(inputs, offer)?;
+    let object = read_member(inputs, &mut slots[at], offer)?;
     slots[at] = Slot::holding(inputs.alloc, object, true)?;
     Ok(())
 }
@@ -59,7 +63,7 @@ fn fill(inputs: Inputs<'_>, slots: &mut Vec<Slot>, offer: Offer) -> Result<(), R
 /// Loads an input that isn't loaded.
 pub fn load(
     inputs: Inputs<'_>,
-    slots: &mut Vec<Slot>,
+    slots: &mut Vec<Slot<'_>>,
     definers: &mut Table,
     offer: Offer,
 ) -> Result<(), RoundError>
@@ -89,7 +93,7 @@ fn lies(alloc: Global, input: InputId, name: &[u8]) -> RoundError
 /// Loads an input for the names that are wanted of it.
 fn add(
     inputs: Inputs<'_>,
-    slots: &mut Vec<Slot>,
+    slots: &mut Vec<Slot<'_>>,
     definers: &mut Table,
     wanted: &Wanted,
 ) -> Result<(), RoundError>
@@ -111,7 +115,7 @@ fn add(
 /// Loads what a round adds, and answers its inputs.
 pub fn add_all(
     inputs: Inputs<'_>,
-    slots: &mut Vec<Slot>,
+    slots: &mut Vec<Slot<'_>>,
     definers: &mut Table,
     adds: &mut Adds,
 ) -> Result<Seq<InputId>, RoundError>

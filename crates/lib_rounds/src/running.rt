@@ -17,7 +17,7 @@ use crate::table::Table;
 /// Loads what a round adds, and answers what the next one adds.
 fn round(
     inputs: Inputs<'_>,
-    slots: &mut Vec<Slot>,
+    slots: &mut Vec<Slot<'_>>,
     definers: &mut Table,
     lazies: &Table,
     adds: &mut Adds,
@@ -44,7 +44,7 @@ fn round(
 /// Does one round after another, up to the one that adds nothing.
 pub fn run(
     inputs: Inputs<'_>,
-    slots: &mut Vec<Slot>,
+    slots: &mut Vec<Slot<'_>>,
     definers: &mut Table,
     lazies: &Table,
     adds: Adds,

@@ -1,20 +1,24 @@
 //! What is kept of an input.
-ghost use Rattle.std.specs.Prelude.{◌≡◌, Bool, option_copied, IfOk};
+ghost use Rattle.std.specs.Prelude.{◌≡◌, Bool, Ok, option_copied, IfOk, IfSome};
+ghost use Rattle.object_file.specs.ObjectOf.{object_of};
 ghost use Rattle.lib_rounds.specs.Held.{absent, holding, is_loaded_slot, is_waiting_slot, object_held, loaded_in, as_loaded};
 
+use crate::early::Early;
 use object_file::Object;
 use std::alloc::Global;
 use std::marker::Model;
-use wl_base::OutOfMemory;
+use wl_base::{InputId, OutOfMemory};
 
-/// The object of an input, where it is read, and whether the input is loaded.
+/// The object of an input, where it is read, and whether the input is loaded. What is read early isn't
+/// told of.
 #[derive(Drop)]
-pub struct Slot {
+pub struct Slot<'a> {
     object: Option<Box<Object>>,
     loaded: bool,
+    early: Option<Early<'a>>,
 }
 
-impl Model for Slot {
+impl<'a> Model for Slot<'a> {
     ghost use Rattle.lib_rounds.specs.Held.{Held, held_seen};
 
     ghost Value = { Held };
@@ -22,25 +26,43 @@ impl Model for Slot {
     ghost view = { λ s. held_seen s.loaded s.object };
 }
 
-impl Slot {
+impl<'a> Slot<'a> {
     /// The slot of an input that isn't read.
-    pub fn absent() -> Slot
+    pub fn absent() -> Slot<'a>
         ensures { result ≡ absent }
     {
         Slot {
             object: None,
             loaded: false,
+            early: None,
         }
     }
 
     /// The slot of an input that is read.
-    pub fn holding(alloc: Global, object: Object, loaded: bool) -> Result<Slot, OutOfMemory>
+    pub fn holding(alloc: Global, object: Object, loaded: bool) -> Result<Slot<'a>, OutOfMemory>
         ensures { IfOk result (λ s. s ≡ holding loaded object) }
     {
         Ok(Slot {
             object: Some(Box::new(alloc, object)?),
             loaded,
+            early: None,
         })
+    }
+
+    /// Keeps the input as it was read early.
+    pub fn expect(&mut self, early: Early<'a>)
+        ensures { self.new ≡ self.old }
+    {
+        self.early = Some(early);
+    }
+
+    /// The object that these bytes are as this input, where it was read early. It isn't kept.
+    pub fn take_early(&mut self, input: InputId, bytes: &[u8]) -> Option<Object>
+        ensures same { self.new ≡ self.old }
+        ensures is { IfSome result (λ o. object_of input bytes.now ≡ Ok o) }
+    {
+        let early = self.early.take()?;
+        early.object_of(input, bytes)
     }
 
     /// Whether the input is loaded.
@@ -86,9 +108,9 @@ impl Slot {
 
     /// The object, where the input is loaded.
     pub fn into_loaded(self) -> Option<Object>
-        ensures { result ≡ loaded_in self }
+        ensures { result ≡ loaded_in self.entry }
     {
-        let Slot { object, loaded } = self;
+        let Slot { object, loaded, .. } = self;
         match object {
             Some(object) if loaded => Some(Box::into_inner(object)),
             _ => None,

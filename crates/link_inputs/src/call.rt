@@ -24,10 +24,12 @@ use made_symbols::Mode;
 use std::alloc::Global;
 use std::thread::Threads;
 use wl_base::Seq;
+use wl_fan::Workers;
 use wl_outside::Gate;
 
 /// Loads what is needed, where all objects of the words are read.
-fn load_given(
+fn load_given<R: Threads + Sync>(
+    rt: &R,
     alloc: Global,
     plan: &Plan,
     files: &[Seq<u8>],
@@ -35,18 +37,24 @@ fn load_given(
     libraries: &[LibraryFile],
 ) -> Result<Loaded, InputError>
     ghost all: { List Candidate }
+    requires workers { (1 ≤ plan.now.threads) × (plan.now.threads ≤ 64) }
     requires are { AreCandidates all given libraries.now files.now }
     requires read { All (IsRead files.now) libraries.now }
     ensures { Answers (λ l. l) result (load Plain (asked_names plan.now) all) }
 {
     let wanted = asked_names(alloc, plan)?;
+    let Some(workers) = Workers::new(plan.threads) else {
+        unreachable!()
+    };
     match load_rounds(
+        rt,
         alloc,
         given,
         libraries,
         files,
         wanted.as_slice(),
         Mode::Plain,
+        workers,
     ) {
         Ok(loaded) => Ok(loaded),
         Err(RoundError::Refused(fault)) => Err(InputError::Refused(fault)),
@@ -74,7 +82,7 @@ fn load_sources<R: Threads + Sync, G: Gate>(
     } = sources;
     match read_given(rt, alloc, files, objects.as_slice(), plan.threads, gate) {
         Ok(given) => {
-            let loaded = load_given(alloc, plan, files, given, libraries.as_slice())?;
+            let loaded = load_given(rt, alloc, plan, files, given, libraries.as_slice())?;
             Ok(Inputs { loaded, homes })
         }
         Err(first) => {
@@ -88,7 +96,8 @@ fn load_sources<R: Threads + Sync, G: Gate>(
 ///
 /// A file that begins with a magic of `ar` is a library, which is read by its index; any other is an
 /// object. The objects of the words are read by as many workers as the plan says, who pass the gate
-/// before each; then the needed members are loaded, round after round.
+/// before each; then the needed members are loaded, round after round, of which as many workers read
+/// ahead what they can.
 ///
 /// It is `Refused` by the first fault of these: too much input, the first library that can't be read,
 /// too many inputs, the fault of the least input that is read at once, and what `load_rounds` says.

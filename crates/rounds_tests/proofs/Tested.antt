@@ -95,3 +95,7 @@ are_candidates given l files numbered first few =
 pub one_is_read : (files : List (List ℕ)) (l : LibraryFile) → IsRead files l → (k : ℕ) (d : LibraryFile) → k < 1 → IsRead files (slice_index_or (l ∷ []) k d)
 one_is_read files l h zero d small = h
 one_is_read files l h (suc k) d small = absurd (omega (arith, small))
+
+-- nothing at all
+pub none_given : AreCandidates [] [] [] []
+none_given = record { numbered = λ i c e. absurd cc; few = omega arith; objects = tt; members = refl }

@@ -9,18 +9,39 @@ use made_symbols::Mode;
 use object_file::read_object;
 use std::alloc::Global;
 use std::test::*;
+use std::thread::Threads;
 use wl_base::{Fault, Seq};
+use wl_fan::Workers;
+
+/// The call with nothing.
+fn called_with_nothing<R: Threads + Sync>(
+    rt: &R,
+    alloc: Global,
+    workers: Workers,
+) -> Result<Loaded, RoundError> {
+    load_rounds(
+        rt,
+        alloc,
+        Seq::new(alloc),
+        &[],
+        &[],
+        &[],
+        Mode::Plain,
+        workers,
+    )
+}
+
+/// How many objects are loaded of nothing.
+fn count_of_nothing<R: Threads + Sync>(rt: &R, alloc: Global) -> Option<usize> {
+    let workers = Workers::new(2)?;
+    let loaded = called_with_nothing(rt, alloc, workers).ok()?;
+    Some(loaded.objects().len())
+}
 
 /// Nothing is loaded where nothing is given.
 #[test]
 fn nothing_is_loaded(rt: HostRuntime) {
-    let alloc = rt.alloc();
-    let loaded = load_rounds(alloc, Seq::new(alloc), &[], &[], &[], Mode::Plain);
-    let count = match loaded {
-        Ok(loaded) => loaded.objects().len(),
-        Err(_) => 1,
-    };
-    assert_eq!(rt; count, 0);
+    assert_eq!(rt; count_of_nothing(&rt, rt.alloc()), Some(0));
 }
 
 /// An object that refers to `a`.
@@ -135,11 +156,13 @@ fn told(answer: Result<Loaded, RoundError>) -> Outcome {
 }
 
 /// The call with these objects and one library.
-fn called(
+fn called<R: Threads + Sync>(
+    rt: &R,
     alloc: Global,
     given: Seq<Given>,
     library: LibraryFile,
     file: Seq<u8>,
+    workers: Workers,
 ) -> Result<Loaded, RoundError>
     requires numbered { (k : ℕ) (g : GivenObject) → slice_get given k ≡ Some g → g.object.input ≡ k + 1 }
     requires first { library.first ≡ length given + 1 }
@@ -148,11 +171,28 @@ fn called(
 {
     let libraries = [library];
     let files = [file];
-    load_rounds(alloc, given, &libraries, &files, &[], Mode::Plain)
+    load_rounds(
+        rt,
+        alloc,
+        given,
+        &libraries,
+        &files,
+        &[],
+        Mode::Plain,
+        workers,
+    )
 }
 
-/// What is loaded of these objects and this library.
-fn what_is_loaded(alloc: Global, plain: &[u8], lazy: &[u8], library: &[u8]) -> Option<Outcome> {
+/// What is loaded of these objects and this library, by so many workers.
+fn what_is_loaded<R: Threads + Sync>(
+    rt: &R,
+    alloc: Global,
+    workers: u32,
+    plain: &[u8],
+    lazy: &[u8],
+    library: &[u8],
+) -> Option<Outcome> {
+    let workers = Workers::new(workers)?;
     let given = given(alloc, plain, lazy)?;
     let file = Seq::from_slice(alloc, library).ok()?;
     let library = read_library(alloc, file.as_slice())?;
@@ -163,7 +203,7 @@ fn what_is_loaded(alloc: Global, plain: &[u8], lazy: &[u8], library: &[u8]) -> O
     {
         return None;
     }
-    Some(told(called(alloc, given, library, file)))
+    Some(told(called(rt, alloc, given, library, file, workers)))
 }
 
 #[test]
@@ -199,9 +239,11 @@ fn what_is_needed_is_loaded(rt: HostRuntime) {
         ),
     ];
     for (plain, lazy, library, answer) in cases {
-        assert_eq!(rt;
-            what_is_loaded(rt.alloc(), plain, lazy, library),
-            Some(answer)
-        );
+        for workers in [1, 2, 64] {
+            assert_eq!(rt;
+                what_is_loaded(&rt, rt.alloc(), workers, plain, lazy, library),
+                Some(answer)
+            );
+        }
     }
 }

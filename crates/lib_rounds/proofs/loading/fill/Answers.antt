@@ -1,10 +1,11 @@
-use Rattle.std.proofs.Common.{◌≡◌, ◌∙◌, ◌-◌, Bool, true, false, Result, Ok, ap, sym}
+use Rattle.std.proofs.Common.{◌≡◌, ◌∙◌, ◌-◌, Bool, true, false, Result, Ok, List, ap, sym, subst}
 use Rattle.std.specs.Prelude.{slice_set, MatchBool}
 use Rattle.std.proofs.lemmas.Option.{get_or_from_slice_get}
 use Rattle.object_file.specs.wl_base.declared.fault.Fault.{Fault}
 use Rattle.object_file.specs.declared.object.Object.{Object}
 use Rattle.lib_rounds.specs.Held.{Held, held_as, is_waiting_slot}
 use Rattle.lib_rounds.specs.State.{IsMember}
+use Rattle.lib_rounds.proofs.Same.{set_same}
 use Rattle.lib_rounds.proofs.loading.fill.Goals as goal
 
 -- what is read and isn't waiting is a member
@@ -20,9 +21,12 @@ returns g c =
     = c.index.ensures ∙ get_or_from_slice_get c.args.slots.now.items (c.args.offer.input - 1)
     (held_as false g.c.is_member g.c.object) c.index.result.now c.requires.1.1 in
     let member = member_of (IsMember c.args.inputs.libraries.now c.args.inputs.files.now c.args.offer g.c.object) g.c.is_member g.c.object
-    c.index.result.now c.requires.0.from is (sym c.is_waiting.ensures ∙ c.if-is_waiting.false) in (
+    c.index.result.now c.requires.0.from is (sym c.is_waiting.ensures ∙ c.if-is_waiting.false) in
+    let slots = c.args.slots.now.items in
+    let at = c.args.offer.input - 1 in
+    let kept = subst (λ (h : Held). slice_set slots at h ≡ slots) (sym c.in_ok-object.ensures.same)
+    (set_same slots at c.index_mut-2.result.now c.index_mut-2.ensures.value) in (
       c.in_ok-object.object,
-      c.in_ok-object.ensures g.c.object member,
-      ap (slice_set c.args.slots.now.items
-          (c.args.offer.input - 1)) c.in_ok-slots.ensures,
+      c.in_ok-object.ensures.is g.c.object member,
+      ap (λ (hs : List Held). slice_set hs at c.in_ok-slots.field-0) kept ∙ ap (slice_set slots at) c.in_ok-slots.ensures,
     )

@@ -1,3 +1,4 @@
+use Rattle.std.proofs.Common.{rules}
 use Rattle.link_program.specs.made_symbols.declared.mode.Mode.TheVariants.{Plain}
 use Rattle.link_program.specs.link_rules.LinkOf.{asked_names}
 use Rattle.link_inputs.proofs.Sourced.{fits, candidates, all_read, all_few, homes_all, refused_by}
@@ -7,15 +8,12 @@ pub read_given-requires-clause-fit : goal.read_given-requires-clause-fit
 read_given-requires-clause-fit g c κs within =
     fits c.args.plan.now c.args.files.now c.args.sources c.requires.sources c.as_slice.result.now c.as_slice.ensures
 
-pub load_given-requires : goal.load_given-requires
-load_given-requires g c =
-    let plan = c.args.plan.now in
-    let files = c.args.files.now in
-    let h = c.requires.sources in (
-      candidates plan files c.args.sources h c.in-Ok.given c.as_slice.result.now c.as_slice-in-Ok.result.now c.as_slice.ensures c.as_slice-in-Ok.ensures
-          c.in-Ok.ensures,
-      all_read plan files c.args.sources h c.as_slice-in-Ok.result.now c.as_slice-in-Ok.ensures,
-    )
+pub load_given-requires-sync-R : goal.load_given-requires-sync-R
+load_given-requires-sync-R g c κs within =
+    let are = candidates c.args.plan.now c.args.files.now c.args.sources c.requires.sources c.in-Ok.given c.as_slice.result.now
+    c.as_slice-in-Ok.result.now c.as_slice.ensures c.as_slice-in-Ok.ensures c.in-Ok.ensures in
+    let read = all_read c.args.plan.now c.args.files.now c.args.sources c.requires.sources c.as_slice-in-Ok.result.now c.as_slice-in-Ok.ensures in
+    search (rules, are, read)
 
 pub returns-in-Ok : goal.returns-in-Ok
 returns-in-Ok g c = (c.in_ok-loaded-in-Ok.ensures, homes_all c.args.plan.now c.args.files.now c.args.sources c.requires.sources)

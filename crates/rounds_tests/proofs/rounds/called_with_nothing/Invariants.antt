@@ -1,5 +1,5 @@
 use Rattle.rounds_tests.proofs.Tested.{candidates}
-use Rattle.rounds_tests.proofs.rounds.nothing_is_loaded.Given as goal
+use Rattle.rounds_tests.proofs.rounds.called_with_nothing.Given as goal
 
 abbrev pub ghost-load_rounds : goal.ghost-load_rounds
 ghost-load_rounds g a = candidates a.given a.libraries.now a.files.now
