@@ -112,6 +112,11 @@ fn plan_of(alloc: Global, inputs: Seq<InputWord>, case: Option<u32>, threads: u3
         max_memory: None,
         threads,
         make_case: case,
+        shared: false,
+        partial: false,
+        validate: false,
+        keep_debug: false,
+        like_lld: false,
     }
 }
 

@@ -2,9 +2,11 @@
 use Rattle.std.specs.Prelude.{ℕ, List, [], ◌∷◌, ◌++◌, codes, decimal}
 use Rattle.std.specs.Fmt.{signed_decimal}
 use Rattle.wl_base.specs.declared.fault.Fault.{Fault}
-use Rattle.wl_base.specs.declared.fault.Fault.TheVariants.{TooMuchInput, Library, TooManyInputs, TooLong, Malformed, Unsupported, IndexLies, TooManyNames, Clash, Duplicate, NotPic, Unresolved, Overflow}
+use Rattle.wl_base.specs.declared.fault.Fault.TheVariants.{TooMuchInput, Library, TooManyInputs, TooLong, Malformed, Unsupported, IndexLies, TooManyNames, Clash, Duplicate, NotPic, Unresolved, Overflow, Invalid, BadDebug, DebugTooLong, NotPartial, PartialTooLong}
 use Rattle.wl_base.specs.declared.fault.Part.{Part}
 use Rattle.wl_base.specs.declared.fault.Part.TheVariants.{Frame, Section, Cross}
+use Rattle.wl_base.specs.declared.fault.InvalidAt.{InvalidAt}
+use Rattle.wl_base.specs.declared.fault.InvalidAt.TheVariants.{Module, Body}
 use Rattle.link_lines.specs.Pieces.{printed, joined}
 use Rattle.link_lines.specs.Labels.{library_label, item_label, what_name}
 
@@ -42,6 +44,10 @@ part_line input Frame = number_line (codes "wasmld: input ") (decimal input) (co
 part_line input (Section place) = input_line input (codes ": malformed: section ") (decimal place) (codes "\n")
 part_line input (Cross rule) = input_line input (codes ": malformed: rule ") (decimal rule) (codes "\n")
 
+abbrev pub invalid_line : InvalidAt → List ℕ
+invalid_line Module = codes "wasmld: invalid output: module\n"
+invalid_line (Body function) = number_line (codes "wasmld: invalid output: body ") (decimal function) (codes "\n")
+
 abbrev pub fault_line : Fault → List ℕ
 fault_line (TooMuchInput len) = number_line (codes "wasmld: too much input: ") (decimal len) (codes " bytes\n")
 fault_line (Library file fault) = label_line (codes "wasmld: file ") file (codes ": bad library: ") (library_label fault)
@@ -56,3 +62,8 @@ fault_line (Duplicate name first other) = pair_line (codes "wasmld: duplicate ")
 fault_line (NotPic input symbol kind) = not_pic_line input symbol kind
 fault_line (Unresolved name input) = input_line input (codes ": unresolved ") (printed name) (codes "\n")
 fault_line (Overflow what needed) = overflow_line (what_name what) (signed_decimal needed)
+fault_line (Invalid at) = invalid_line at
+fault_line (BadDebug input section) = input_line input (codes ": bad debug section ") (decimal section) (codes "\n")
+fault_line (DebugTooLong needed) = number_line (codes "wasmld: debug sections need ") (decimal needed) (codes " bytes\n")
+fault_line (NotPartial file) = number_line (codes "wasmld: file ") (decimal file) (codes ": not an object for a partial link\n")
+fault_line (PartialTooLong needed) = number_line (codes "wasmld: partial link needs ") (decimal needed) (codes " bytes\n")

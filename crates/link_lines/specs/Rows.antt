@@ -1,12 +1,13 @@
 -- Lines, letter for letter.
 use Rattle.std.specs.Prelude.{◌≡◌, refl, ℕ, List, [], ◌∷◌, codes, pos, negsuc}
 use Rattle.std.specs.Fmt.{digits}
-use Rattle.wl_base.specs.declared.fault.Fault.TheVariants.{TooMuchInput, Library, TooManyInputs, TooLong, Malformed, Unsupported, IndexLies, TooManyNames, Clash, Duplicate, NotPic, Unresolved, Overflow}
+use Rattle.wl_base.specs.declared.fault.Fault.TheVariants.{TooMuchInput, Library, TooManyInputs, TooLong, Malformed, Unsupported, IndexLies, TooManyNames, Clash, Duplicate, NotPic, Unresolved, Overflow, Invalid, BadDebug, DebugTooLong, NotPartial, PartialTooLong}
 use Rattle.wl_base.specs.declared.fault.Part.TheVariants.{Frame, Section, Cross}
 use Rattle.wl_base.specs.declared.fault.LibFault.TheVariants.{Thin, BadIndex}
 use Rattle.wl_base.specs.declared.fault.What.TheVariants.{OutputLength}
+use Rattle.wl_base.specs.declared.fault.InvalidAt.TheVariants.{Module, Body}
 use Rattle.wl_base.specs.declared.item.Item.TheVariants.{TagSection, ValueType, Opcode}
-use Rattle.wl_base.specs.declared.usage.Usage.TheVariants.{MissingValue, NoOutput}
+use Rattle.wl_base.specs.declared.usage.Usage.TheVariants.{MissingValue, NoOutput, PartialClash}
 use Rattle.link_lines.specs.Pieces.{printed}
 use Rattle.link_lines.specs.Faults.{fault_line, number_line, input_line, pair_line, label_line, not_pic_line, overflow_line}
 use Rattle.link_lines.specs.Usages.{usage_line}
@@ -88,12 +89,38 @@ pub a_positive_number : fault_line (Overflow OutputLength (pos 2147483648)) ≡ 
 unfolding overflow_line digits
 a_positive_number = refl
 
+pub an_invalid_module : fault_line (Invalid Module) ≡ codes "wasmld: invalid output: module\n"
+an_invalid_module = refl
+
+pub an_invalid_body : fault_line (Invalid (Body 17)) ≡ codes "wasmld: invalid output: body 17\n"
+unfolding number_line digits
+an_invalid_body = refl
+
+pub a_bad_debug_section : fault_line (BadDebug 2 11) ≡ codes "wasmld: input 2: bad debug section 11\n"
+unfolding input_line digits
+a_bad_debug_section = refl
+
+pub debug_too_long : fault_line (DebugTooLong 2147483648) ≡ codes "wasmld: debug sections need 2147483648 bytes\n"
+unfolding number_line digits
+debug_too_long = refl
+
+pub not_partial : fault_line (NotPartial 3) ≡ codes "wasmld: file 3: not an object for a partial link\n"
+unfolding number_line digits
+not_partial = refl
+
+pub partial_too_long : fault_line (PartialTooLong 1073741825) ≡ codes "wasmld: partial link needs 1073741825 bytes\n"
+unfolding number_line digits
+partial_too_long = refl
+
 pub a_missing_value : usage_line (MissingValue 3) ≡ codes "wasmld: usage: MissingValue at word 3\n"
 unfolding digits
 a_missing_value = refl
 
 pub no_output : usage_line NoOutput ≡ codes "wasmld: usage: NoOutput\n"
 no_output = refl
+
+pub partial_clash : usage_line PartialClash ≡ codes "wasmld: usage: PartialClash\n"
+partial_clash = refl
 
 pub an_unread_word : read_fault_line 0 ≡ codes "wasmld: cannot read word 0\n"
 unfolding digits

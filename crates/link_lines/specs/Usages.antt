@@ -1,7 +1,7 @@
 -- The line of each usage: its name, and the place of its word where it is a word's.
 use Rattle.std.specs.Prelude.{ℕ, List, [], ◌∷◌, codes, decimal, Option, Some, None}
 use Rattle.wl_base.specs.declared.usage.Usage.{Usage}
-use Rattle.wl_base.specs.declared.usage.Usage.TheVariants.{UnknownOption, MissingValue, BadNumber, BadThreads, OpenGroup, CaseAndInput, NoInput, NoOutput}
+use Rattle.wl_base.specs.declared.usage.Usage.TheVariants.{UnknownOption, MissingValue, BadNumber, BadThreads, OpenGroup, CaseAndInput, NoInput, NoOutput, PartialClash}
 use Rattle.link_lines.specs.Pieces.{joined}
 
 abbrev pub usage_name : Usage → List ℕ
@@ -13,6 +13,7 @@ usage_name (OpenGroup at) = codes "OpenGroup"
 usage_name CaseAndInput = codes "CaseAndInput"
 usage_name NoInput = codes "NoInput"
 usage_name NoOutput = codes "NoOutput"
+usage_name PartialClash = codes "PartialClash"
 
 abbrev pub usage_place : Usage → Option ℕ
 usage_place (UnknownOption at) = Some at
@@ -23,6 +24,7 @@ usage_place (OpenGroup at) = Some at
 usage_place CaseAndInput = None
 usage_place NoInput = None
 usage_place NoOutput = None
+usage_place PartialClash = None
 
 abbrev pub placed_line : List ℕ → Option ℕ → List ℕ
 placed_line name (Some at) = joined (codes "wasmld: usage: " ∷ name ∷ codes " at word " ∷ decimal at ∷ codes "\n" ∷ [])

@@ -2,14 +2,14 @@
 ghost use Rattle.std.specs.Prelude.{codes};
 ghost use Rattle.std.specs.Fmt.{signed_decimal};
 ghost use Rattle.wl_outside.specs.Sink.{Wrote};
-ghost use Rattle.link_lines.specs.Faults.{fault_line as line_of_fault, number_line, input_line, part_line, pair_line, label_line, not_pic_line, overflow_line};
+ghost use Rattle.link_lines.specs.Faults.{fault_line as line_of_fault, number_line, input_line, part_line, pair_line, label_line, not_pic_line, overflow_line, invalid_line};
 ghost use Rattle.link_lines.specs.Pieces.{piece_bytes};
 ghost use Rattle.link_lines.specs.Labels.{label_texts, item_label, library_label, what_name};
 
 use crate::Piece::{self, Byte, Index, Name, Number, Text};
 use crate::label::{Label, label_of_item, label_of_library, name_of_what};
 use crate::print;
-use wl_base::{Fault, Item, LibFault, Name as SymbolName, Part, What};
+use wl_base::{Fault, InvalidAt, Item, LibFault, Name as SymbolName, Part, What};
 use wl_outside::{Failed, Sink};
 
 /// Prints the line of a link that is refused. It takes no memory.
@@ -77,6 +77,32 @@ pub fn say_fault<E: Sink>(fault: &Fault, say: &mut E) -> Result<(), Failed>
             say,
         ),
         Fault::Overflow { what, needed } => say_overflow(*what, *needed, say),
+        Fault::Invalid { at } => say_invalid(*at, say),
+        Fault::BadDebug { input, section } => say_input(
+            *input,
+            ": bad debug section ",
+            Index(*section),
+            "\n",
+            say,
+        ),
+        Fault::DebugTooLong { needed } => say_number(
+            "wasmld: debug sections need ",
+            Number(*needed),
+            " bytes\n",
+            say,
+        ),
+        Fault::NotPartial { file } => say_number(
+            "wasmld: file ",
+            Index(*file),
+            ": not an object for a partial link\n",
+            say,
+        ),
+        Fault::PartialTooLong { needed } => say_number(
+            "wasmld: partial link needs ",
+            Number(*needed),
+            " bytes\n",
+            say,
+        ),
     }
 }
 
@@ -148,6 +174,20 @@ fn say_malformed<E: Sink>(input: u32, part: Part, say: &mut E) -> Result<(), Fai
         Part::Frame => say_number("wasmld: input ", Index(input), ": malformed: frame\n", say),
         Part::Section(place) => say_input(input, ": malformed: section ", Index(place), "\n", say),
         Part::Cross(rule) => say_input(input, ": malformed: rule ", Byte(rule), "\n", say),
+    }
+}
+
+fn say_invalid<E: Sink>(at: InvalidAt, say: &mut E) -> Result<(), Failed>
+    ensures { Wrote result (invalid_line at) (E.told say.old) (E.told say.new) }
+{
+    match at {
+        InvalidAt::Module => print(&[Text("wasmld: invalid output: module\n")], say),
+        InvalidAt::Body(function) => say_number(
+            "wasmld: invalid output: body ",
+            Index(function),
+            "\n",
+            say,
+        ),
     }
 }
 

@@ -3,7 +3,7 @@
 use crate::{CaseSummary, say_case, say_fault, say_read_fault, say_usage};
 use std::alloc::Global;
 use std::test::Fail;
-use wl_base::{Fault, OutOfMemory, Seq, Usage};
+use wl_base::{Fault, InvalidAt, OutOfMemory, Seq, Usage};
 use wl_outside::{Failed, MemSink, Sink};
 
 // A line of each kind, up to the first write that fails.
@@ -37,6 +37,33 @@ fn lines_come_letter_for_letter(rt: HostRuntime) -> Result<(), Fail> {
     assert_eq!(rt;
         sink.bytes(),
         b"wasmld: duplicate f\\x5C\\x20\\xFF: input 2 and input 5\nwasmld: usage: MissingValue at word 3\nwasmld: cannot read word 0\ncase 2: functions 3 segments 2 bytes 124 sum 5691\n".as_slice()
+    );
+    Ok(())
+}
+
+// The lines of what only the words that are to come can answer.
+fn say_later<E: Sink>(say: &mut E) -> Result<(), Failed> {
+    let at = InvalidAt::Body(4294967295);
+    say_fault(&Fault::Invalid { at }, say)?;
+    let at = InvalidAt::Module;
+    say_fault(&Fault::Invalid { at }, say)?;
+    let [input, section] = [2, 11];
+    say_fault(&Fault::BadDebug { input, section }, say)?;
+    let needed = 2147483648;
+    say_fault(&Fault::DebugTooLong { needed }, say)?;
+    say_fault(&Fault::NotPartial { file: 3 }, say)?;
+    say_fault(&Fault::PartialTooLong { needed }, say)?;
+    say_usage(Usage::PartialClash, say)
+}
+
+#[test]
+fn lines_of_later_words_come_letter_for_letter(rt: HostRuntime) -> Result<(), Fail> {
+    let alloc = rt.alloc();
+    let mut sink = MemSink::new(alloc, Seq::new(alloc));
+    say_later(&mut sink)?;
+    assert_eq!(rt;
+        sink.bytes(),
+        b"wasmld: invalid output: body 4294967295\nwasmld: invalid output: module\nwasmld: input 2: bad debug section 11\nwasmld: debug sections need 2147483648 bytes\nwasmld: file 3: not an object for a partial link\nwasmld: partial link needs 2147483648 bytes\nwasmld: usage: PartialClash\n".as_slice()
     );
     Ok(())
 }

@@ -41,7 +41,7 @@ fn place_of_usage(usage: Usage) -> Option<u32>
         | Usage::BadNumber { at }
         | Usage::BadThreads { at }
         | Usage::OpenGroup { at } => Some(at),
-        Usage::CaseAndInput | Usage::NoInput | Usage::NoOutput => None,
+        Usage::CaseAndInput | Usage::NoInput | Usage::NoOutput | Usage::PartialClash => None,
     }
 }
 
@@ -57,5 +57,6 @@ fn name_of_usage(usage: Usage) -> &'static str
         Usage::CaseAndInput => "CaseAndInput",
         Usage::NoInput => "NoInput",
         Usage::NoOutput => "NoOutput",
+        Usage::PartialClash => "PartialClash",
     }
 }

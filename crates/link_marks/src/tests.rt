@@ -48,6 +48,11 @@ fn plan(alloc: Global) -> Result<Plan, OutOfMemory> {
         max_memory: None,
         threads: 1,
         make_case: None,
+        shared: false,
+        partial: false,
+        validate: false,
+        keep_debug: false,
+        like_lld: false,
     })
 }
 

@@ -50,4 +50,14 @@ pub struct Plan {
     pub threads: u32,
     /// `--make-case`: how many objects are generated in place of inputs.
     pub make_case: Option<u32>,
+    /// A position-independent output, which a loader places at run time. No word sets it yet.
+    pub shared: bool,
+    /// A partial link: the output is one relocatable object. No word sets it yet.
+    pub partial: bool,
+    /// The output is checked by the standard's rules of validation. No word sets it yet.
+    pub validate: bool,
+    /// The objects' debug sections are joined behind the module. No word sets it yet.
+    pub keep_debug: bool,
+    /// The link is a compiler driver's: where the two differ it does as wasm-ld does. No word sets it.
+    pub like_lld: bool,
 }

@@ -65,6 +65,11 @@ plan_of inputs = record {
   max_memory = None;
   threads = 1;
   make_case = None;
+  shared = false;
+  partial = false;
+  validate = false;
+  keep_debug = false;
+  like_lld = false;
 }
 
 -- the same with `--export` of each of these names

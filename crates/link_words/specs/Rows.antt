@@ -80,6 +80,11 @@ case : plan_of (codes "--export=g" ∷ codes "-z" ∷ codes "stack-size=0x20" �
       max_memory = None;
       threads = 4;
       make_case = Some 2;
+      shared = false;
+      partial = false;
+      validate = false;
+      keep_debug = false;
+      like_lld = false;
     })
 unfolding plan_of plan_from first_fault
 case = refl
@@ -107,6 +112,11 @@ link : plan_of (codes "a.o" ∷ codes "--start-lib" ∷ codes "b.o" ∷ codes "-
       max_memory = Some 4294967296;
       threads = 64;
       make_case = None;
+      shared = false;
+      partial = false;
+      validate = false;
+      keep_debug = false;
+      like_lld = false;
     })
 unfolding plan_of plan_from first_fault
 link = refl

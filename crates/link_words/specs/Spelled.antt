@@ -1,7 +1,7 @@
 -- How items are spelled by words, and words are cut into items: each word is of exactly one item.
 use Rattle.std.specs.Prelude.{◌≡◌, ◌⊎◌, ℕ, ◌+◌, Bool, true, false, ◌||◌, List, [], ◌∷◌, ◌++◌, length, codes, IsSome, Option, Some, None}
 use Rattle.wl_base.specs.declared.usage.Usage.{Usage}
-use Rattle.wl_base.specs.declared.usage.Usage.TheVariants.{UnknownOption, MissingValue, BadNumber, BadThreads, OpenGroup, CaseAndInput, NoInput, NoOutput}
+use Rattle.wl_base.specs.declared.usage.Usage.TheVariants.{UnknownOption, MissingValue, BadNumber, BadThreads, OpenGroup, CaseAndInput, NoInput, NoOutput, PartialClash}
 use Rattle.link_words.specs.declared.kind.Kind.TheVariants as kinds
 use Rattle.link_words.specs.declared.options.Form.{Form}
 use Rattle.link_words.specs.declared.options.Form.TheVariants.{Text, Machine, Number, StackSize}
@@ -62,6 +62,7 @@ place_of (OpenGroup at) = Some at
 place_of CaseAndInput = None
 place_of NoInput = None
 place_of NoOutput = None
+place_of PartialClash = None
 
 -- The words from a place on are those of the items, and behind them words that no item begins. The fault names the place of the first of these.
 abbrev pub Stops : Bool → ℕ → List Said → Usage → List (List ℕ) → Type 0

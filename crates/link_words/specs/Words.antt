@@ -32,6 +32,11 @@ plan_from items = record {
   max_memory = numeral MaxMemory Memory items;
   threads = unwrap_or (numeral Threads Workers items) 4;
   make_case = case items;
+  shared = false;
+  partial = false;
+  validate = false;
+  keep_debug = false;
+  like_lld = false;
 }
 
 -- the plan of the words, or the first fault

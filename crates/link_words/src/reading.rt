@@ -70,6 +70,11 @@ fn plan(alloc: Global, items: &[Item<'_>]) -> Result<Plan, OutOfMemory>
         max_memory: numeral(items, Kind::MaxMemory, Range::Memory),
         threads: threads(items),
         make_case: case(items),
+        shared: false,
+        partial: false,
+        validate: false,
+        keep_debug: false,
+        like_lld: false,
     })
 }
 

@@ -55,6 +55,16 @@ pub enum What {
     Reference,
 }
 
+/// The part of a module that isn't valid.
+#[derive(Clone, Copy, Debug, PartialEq, Eq)]
+pub enum InvalidAt {
+    /// A rule that isn't one body's: an index outside the bodies, limits, a constant expression, a
+    /// segment or an export.
+    Module,
+    /// The body of the function of this number among all functions, imported ones first.
+    Body(u32),
+}
+
 /// Why a link is refused: the first of these that applies, in this order.
 #[derive(Debug, PartialEq, Eq, Drop)]
 pub enum Fault {
@@ -120,5 +130,27 @@ pub enum Fault {
     Overflow {
         what: What,
         needed: i64,
+    },
+    /// The output isn't valid by the rules of the standard (Core 3).
+    Invalid {
+        at: InvalidAt,
+    },
+    /// The relocations of the debug section at this place among the object's sections are broken. Judged
+    /// with `--keep-debug` alone.
+    BadDebug {
+        input: InputId,
+        section: u32,
+    },
+    /// The output has more than 2^31 - 1 bytes with its debug sections, which need `needed`.
+    DebugTooLong {
+        needed: u64,
+    },
+    /// The file at this place among the input words is a library or lazy, and the link is partial.
+    NotPartial {
+        file: u32,
+    },
+    /// The object of a partial link has more than 2^30 bytes.
+    PartialTooLong {
+        needed: u64,
     },
 }

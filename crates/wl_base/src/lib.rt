@@ -15,7 +15,7 @@ mod tests;
 mod text;
 mod usage;
 
-pub use fault::{Fault, InputId, LibFault, Part, What};
+pub use fault::{Fault, InputId, InvalidAt, LibFault, Part, What};
 pub use item::Item;
 pub use layout_error::LayoutError;
 pub use memory::OutOfMemory;

@@ -20,4 +20,6 @@ pub enum Usage {
     NoInput,
     /// There is no output.
     NoOutput,
+    /// A partial link stands beside a shared output or a generated case.
+    PartialClash,
 }

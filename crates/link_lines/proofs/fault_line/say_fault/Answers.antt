@@ -15,3 +15,15 @@ returns-in-IndexLies g c = at _ _ _ _ _ c.in-IndexLies.is c.say_input-in-IndexLi
 
 pub returns-in-Duplicate : goal.returns-in-Duplicate
 returns-in-Duplicate g c = at _ _ _ _ _ c.in-Duplicate.is c.say_pair-in-Duplicate.ensures
+
+pub returns-in-BadDebug : goal.returns-in-BadDebug
+returns-in-BadDebug g c = at _ _ _ _ _ c.in-BadDebug.is c.say_input-in-BadDebug.ensures
+
+pub returns-in-DebugTooLong : goal.returns-in-DebugTooLong
+returns-in-DebugTooLong g c = at _ _ _ _ _ c.in-DebugTooLong.is c.say_number-in-DebugTooLong.ensures
+
+pub returns-in-NotPartial : goal.returns-in-NotPartial
+returns-in-NotPartial g c = at _ _ _ _ _ c.in-NotPartial.is c.say_number-in-NotPartial.ensures
+
+pub returns-in-PartialTooLong : goal.returns-in-PartialTooLong
+returns-in-PartialTooLong g c = at _ _ _ _ _ c.in-PartialTooLong.is c.say_number-in-PartialTooLong.ensures
