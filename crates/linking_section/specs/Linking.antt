@@ -1,7 +1,8 @@
 -- The section `linking`: which bytes spell it (tool conventions, Linking.md, 'Linking Metadata
 -- Section').
 use Rattle.std.specs.Prelude.{◌≡◌, ℕ, Bool, true, false, not, ◌==◌, ◌||◌, IsTrue, List, [], ◌∷◌, Option, Some, None, if◌then◌else◌}
-use Rattle.wasm_grammar.specs.Grammar.{SpellsNothing, SpellsByte, SpellsU32, SpellsBytes, SpellsName, SpellsMany, SpellsVector, Then}
+use Rattle.wasm_grammar.specs.Grammar.{SpellsNothing, SpellsByte, SpellsU32, SpellsName, SpellsMany, SpellsVector, Then}
+use Rattle.wasm_grammar.specs.Subsections.{Subsection, SpellsSubsection, payloads_of}
 use Rattle.linking_section.specs.declared.symbol.Symbol.{Symbol}
 use Rattle.linking_section.specs.declared.symbol.Extent.{Extent}
 use Rattle.linking_section.specs.declared.symbol.SymbolKind.{SymbolKind}
@@ -79,20 +80,6 @@ abbrev pub SpellsSymbol : Symbol → List ℕ → Type 0
 SpellsSymbol s = Then (SpellsByte (kind_code s.kind)) (Then (SpellsUnless is_foreign_symbol s.flags) (SpellsBody s.kind s))
 
 -- ---- the section
-
--- A subsection, as it stands.
-pub record Subsection : Type 0 where
-  pub kind : ℕ
-  pub payload : List ℕ
-
--- The byte of its type, and the bytes of its payload with their u32 number before them.
-abbrev pub SpellsSubsection : Subsection → List ℕ → Type 0
-SpellsSubsection s = Then (SpellsByte s.kind) (SpellsBytes s.payload)
-
--- The payloads of the subsections of a type.
-abbrev pub payloads_of : ℕ → List Subsection → List (List ℕ)
-payloads_of kind [] = []
-payloads_of kind (s ∷ others) = if s.kind == kind then s.payload ∷ payloads_of kind others else payloads_of kind others
 
 -- These payloads say this list: one is its vector, none is the empty list, and more there may not
 -- be.

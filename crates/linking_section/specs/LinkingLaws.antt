@@ -16,7 +16,8 @@ use Rattle.linking_section.specs.declared.group.Group.{Group}
 use Rattle.linking_section.specs.declared.symbol.Symbol.{Symbol}
 use Rattle.linking_section.specs.declared.linking.Linking.{Linking}
 use Rattle.linking_section.specs.declared.linking.Found.{Found}
-use Rattle.linking_section.specs.Linking.{SpellsSegmentInfo, SpellsInit, SpellsGroup, SpellsSymbol, Subsection, SpellsSubsection, payloads_of, IsSaid, SpellsLinking}
+use Rattle.linking_section.specs.Linking.{SpellsSegmentInfo, SpellsInit, SpellsGroup, SpellsSymbol, IsSaid, SpellsLinking}
+use Rattle.wasm_grammar.specs.Subsections.{Subsection, SpellsSubsection, payloads_of}
 use Rattle.linking_section.specs.Reading.{segment_at, init_at, group_at, symbol_at, none_found, came, with_part, first_time, subsection_at, subsections_at, list_of, linking_of, versioned, linking_at}
 use Rattle.linking_section.specs.ItemLaws.{segment_reader, init_reader, group_reader, symbol_reader}
 

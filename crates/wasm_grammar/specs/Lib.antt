@@ -1,5 +1,6 @@
 pub mod Fault
 pub mod Grammar
+pub mod Subsections
 pub mod Reading
 pub mod Readers
 pub mod ReaderLaws
