@@ -12,8 +12,6 @@ mod operands;
 mod overlap;
 mod reading;
 mod scanning;
-#[cfg(test)]
-mod tests;
 
 pub use fault::{Mismatch, WindowFault};
 pub use immediate::{Immediate, ImmediateKind};

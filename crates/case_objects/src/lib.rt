@@ -11,8 +11,6 @@ mod made;
 mod object;
 mod parts;
 mod sum;
-#[cfg(test)]
-mod tests;
 
 pub use functions::count_functions;
 pub use laws::module_functions_are_counted;

@@ -3,8 +3,6 @@
 
 mod laws;
 mod numbers;
-#[cfg(test)]
-mod tests;
 
 pub use laws::numbered_by_code;
 pub use numbers::{Numbers, number};

@@ -9,8 +9,6 @@ mod list_jobs;
 mod party;
 mod race;
 mod rule;
-#[cfg(test)]
-mod tests;
 
 pub use jobs::Jobs;
 pub use list_jobs::ListJobs;

@@ -9,8 +9,6 @@ mod fault;
 mod form;
 pub mod number_laws;
 mod reading;
-#[cfg(test)]
-mod tests;
 mod writing;
 
 pub use fault::LebFault;

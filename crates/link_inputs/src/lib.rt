@@ -14,8 +14,6 @@ mod numbering;
 mod opening;
 mod parts;
 mod reading;
-#[cfg(test)]
-mod tests;
 mod whole;
 mod words;
 

@@ -8,8 +8,6 @@ mod fault_line;
 mod label;
 mod piece;
 mod printing;
-#[cfg(test)]
-mod tests;
 mod usage_line;
 
 pub use case_line::{CaseSummary, say_case};

@@ -4,7 +4,5 @@
 
 mod build;
 mod names;
-#[cfg(test)]
-mod tests;
 
 pub use names::Names;

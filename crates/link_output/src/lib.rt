@@ -3,8 +3,6 @@
 
 pub mod laws;
 mod measuring;
-#[cfg(test)]
-mod tests;
 mod writing;
 
 pub use measuring::measured;

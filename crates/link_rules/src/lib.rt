@@ -1,5 +1,2 @@
-//! The whole link. So far the crate has its definition, `link_of`, in `specs/`; `first_link` links one kind of object.
+//! The whole link, as a definition: `link_of` in `specs/`, from files and a plan to the first fault or the bytes of the output.
 #![tactic(auto)]
-
-#[cfg(test)]
-mod tests;

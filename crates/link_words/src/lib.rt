@@ -12,8 +12,6 @@ mod numeral;
 mod options;
 mod range;
 mod reading;
-#[cfg(test)]
-mod tests;
 
 pub use error::WordError;
 pub use link_plan::{InputWord, Plan};

@@ -7,8 +7,6 @@ mod laws;
 mod plan;
 mod rounds;
 mod share;
-#[cfg(test)]
-mod tests;
 mod work;
 
 pub use edges::Edges;

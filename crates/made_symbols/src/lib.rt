@@ -3,8 +3,6 @@
 
 mod mode;
 mod table;
-#[cfg(test)]
-mod tests;
 
 pub use mode::Mode;
 pub use table::{changes, class, count, kind, name};

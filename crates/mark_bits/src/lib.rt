@@ -11,8 +11,6 @@ pub mod laws;
 mod party;
 mod rule;
 mod set;
-#[cfg(test)]
-mod tests;
 
 pub use bits::{MarkBits, MarkSeat};
 pub use chunk::Chunk;

@@ -4,8 +4,6 @@
 mod laws;
 mod placing;
 mod rules;
-#[cfg(test)]
-mod tests;
 
 pub use laws::{segments_stand_in_order, the_next_multiple};
 pub use placing::place;

@@ -6,8 +6,6 @@ mod by_group;
 mod by_name;
 pub mod laws;
 mod runs;
-#[cfg(test)]
-mod tests;
 
 pub use by_group::GroupJobs;
 pub use by_name::NameJobs;

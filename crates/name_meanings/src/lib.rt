@@ -6,8 +6,6 @@ mod imports;
 mod naming;
 mod resolution;
 mod resolving;
-#[cfg(test)]
-mod tests;
 
 pub use imports::ImportType;
 pub use resolution::Resolution;

@@ -5,7 +5,5 @@ pub mod laws;
 mod order;
 mod piece;
 mod search;
-#[cfg(test)]
-mod tests;
 
 pub use search::first_unresolved;

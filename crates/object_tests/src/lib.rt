@@ -9,3 +9,5 @@ mod object;
 mod parts;
 #[cfg(test)]
 mod rules;
+#[cfg(test)]
+mod windows;

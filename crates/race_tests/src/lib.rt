@@ -5,6 +5,10 @@
 #[cfg(test)]
 mod counted;
 #[cfg(test)]
+mod least;
+#[cfg(test)]
 mod meeting;
+#[cfg(test)]
+mod ranks;
 #[cfg(test)]
 mod tests;

@@ -9,8 +9,6 @@ mod cuts;
 mod filling;
 pub mod laws;
 mod sharing;
-#[cfg(test)]
-mod tests;
 mod values_each;
 mod window;
 mod writing;

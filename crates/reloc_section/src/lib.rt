@@ -8,8 +8,6 @@ mod fault;
 pub mod kinds;
 mod laws;
 mod section;
-#[cfg(test)]
-mod tests;
 
 pub use entry::{Reloc, reloc_at};
 pub use fault::RelocFault;

@@ -2,8 +2,18 @@
 #![tactic(auto)]
 
 #[cfg(test)]
+mod grammar;
+#[cfg(test)]
+mod instructions;
+#[cfg(test)]
 mod library;
 #[cfg(test)]
 mod linking;
 #[cfg(test)]
 mod module;
+#[cfg(test)]
+mod relocations;
+#[cfg(test)]
+mod sections;
+#[cfg(test)]
+mod types;

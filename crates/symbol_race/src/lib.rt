@@ -4,8 +4,6 @@
 pub mod laws;
 mod ranks;
 mod runs;
-#[cfg(test)]
-mod tests;
 
 pub use ranks::rank;
 pub use runs::{Winners, race};

@@ -3,8 +3,6 @@
 
 mod giving;
 mod taken;
-#[cfg(test)]
-mod tests;
 
 pub use giving::slots;
 pub use taken::Slots;

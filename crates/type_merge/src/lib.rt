@@ -3,8 +3,6 @@
 
 mod laws;
 mod table;
-#[cfg(test)]
-mod tests;
 
 pub use laws::{added_in_turn, numbers_stay};
 pub use table::TypeTable;

@@ -8,8 +8,6 @@ mod laws;
 mod names;
 mod parts;
 mod sized;
-#[cfg(test)]
-mod tests;
 mod vector;
 mod writing;
 

@@ -12,8 +12,6 @@ mod instr;
 mod laws;
 mod outline;
 mod skim;
-#[cfg(test)]
-mod tests;
 mod writing;
 
 pub use body::{Body, BodyFault, LocalRun, Placed, body_at, read_body};

@@ -9,8 +9,6 @@ mod fault;
 mod laws;
 mod reading;
 mod section;
-#[cfg(test)]
-mod tests;
 
 pub use fault::FrameFault;
 pub use laws::{frame_is_unambiguous, sections_are_read, sections_lie_in_order};

@@ -11,8 +11,6 @@ mod function;
 mod import;
 mod laws;
 mod table;
-#[cfg(test)]
-mod tests;
 mod val_byte;
 mod value;
 

@@ -10,8 +10,6 @@ mod name_table;
 mod seq;
 mod seq_same;
 mod span;
-#[cfg(test)]
-mod tests;
 mod text;
 mod usage;
 

@@ -2,7 +2,5 @@
 #![tactic(auto)]
 
 mod lists;
-#[cfg(test)]
-mod tests;
 
 pub use lists::{Lists, shrunk};

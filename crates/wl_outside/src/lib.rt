@@ -10,8 +10,6 @@ mod mem_sink;
 mod never_fails;
 mod shelf;
 mod sink;
-#[cfg(test)]
-mod tests;
 
 pub use gate::{Gate, OpenGate, Phase};
 pub use held::{Held, names_differ};
