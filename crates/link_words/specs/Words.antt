@@ -1,5 +1,5 @@
 -- The plan of the words, or why they have none.
-use Rattle.std.specs.Prelude.{◌≡◌, ℕ, true, unwrap_or, slice_index_or, List, [], Result, Ok, Err}
+use Rattle.std.specs.Prelude.{◌≡◌, ℕ, true, false, unwrap_or, slice_index_or, List, [], Result, Ok, Err}
 use Rattle.wl_base.specs.Choice.{unless}
 use Rattle.wl_base.specs.declared.usage.Usage.{Usage}
 use Rattle.link_plan.specs.declared.plan.Plan.{Plan}
