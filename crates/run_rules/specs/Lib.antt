@@ -1,0 +1,11 @@
+pub mod Numbers
+pub mod Memory
+pub mod Control
+pub mod Own
+pub mod Steps
+pub mod Runs
+pub mod Ops
+pub mod Modules
+pub mod Worked
+pub mod Rows
+pub mod MemoryRows
