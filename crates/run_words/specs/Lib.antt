@@ -1,0 +1,4 @@
+pub mod Words
+pub mod Matched
+pub mod Reads
+pub mod Rows
