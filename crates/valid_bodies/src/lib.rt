@@ -1,0 +1,19 @@
+//! Whether the bodies of functions have a typing in their context (Core 3.3 and 3.4.1).
+//!
+//! An instruction's shape is what typing sees of it: its index is looked up first (`meanings`), then
+//! its opcode (`shapes`, `numeric`, `accesses`). The shapes are read once, by the validation
+//! algorithm of Core, appendix A.3 (`frames`, `operands`).
+#![tactic(auto)]
+
+mod accesses;
+mod bodies;
+mod frames;
+mod meanings;
+mod numeric;
+mod opcodes;
+mod operands;
+mod shapes;
+mod types;
+
+pub use bodies::first_untyped;
+pub use types::{Context, Meaning};

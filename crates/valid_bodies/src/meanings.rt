@@ -1,0 +1,73 @@
+//! What the indices of instructions name (Core 3.3.5 and 3.3.8).
+
+ghost use Rattle.std.specs.Prelude.{◌≡◌, IfOk, MatchOption, Some, None};
+ghost use Rattle.valid_bodies.specs.Meanings.{block_type, meaning, type_at};
+
+use crate::frames::copied;
+use crate::types::{Context, Meaning};
+use std::alloc::Global;
+use wasm_instr::{BlockKind, Instr};
+use wasm_types::FuncType;
+use wl_base::{OutOfMemory, Seq};
+
+/// The type of a block, where it is there (Core 3.2.2).
+fn block_kind(
+    alloc: Global,
+    types: &Seq<FuncType>,
+    kind: &BlockKind,
+) -> Result<Option<FuncType>, OutOfMemory>
+    ensures { IfOk result (λ found. found ≡ block_type types.now kind.now) }
+{
+    match kind {
+        BlockKind::Empty => Ok(Some(FuncType {
+            params: Seq::new(alloc),
+            results: Seq::new(alloc),
+        })),
+        BlockKind::Value(of) => Ok(Some(FuncType {
+            params: Seq::new(alloc),
+            results: Seq::from_slice(alloc, &[*of])?,
+        })),
+        BlockKind::Index(index) => match types.get(*index as usize) {
+            None => Ok(None),
+            Some(found) => Ok(Some(copied(alloc, found)?)),
+        },
+    }
+}
+
+/// The type of a function, where both are there.
+fn type_at(context: &Context, function: u32) -> Option<&FuncType>
+    ensures { MatchOption result (type_at context.now function ≡ None) (λ kind. type_at context.now function ≡ Some kind.now) }
+{
+    match context.functions.get(function as usize) {
+        None => None,
+        Some(index) => context.types.get(*index as usize),
+    }
+}
+
+/// What an instruction's index names in its context.
+pub fn meaning_at(alloc: Global, context: &Context, instr: &Instr) -> Result<Meaning, OutOfMemory>
+    ensures { IfOk result (λ found. found ≡ meaning context.now instr.now) }
+{
+    match instr {
+        Instr::Block { kind, .. } => match block_kind(alloc, &context.types, kind)? {
+            None => Ok(Meaning::Nothing),
+            Some(kind) => Ok(Meaning::OfType(kind)),
+        },
+        Instr::Call(function) => match type_at(context, *function) {
+            None => Ok(Meaning::Nothing),
+            Some(kind) => Ok(Meaning::OfType(copied(alloc, kind)?)),
+        },
+        Instr::CallIndirect { kind, table } => match (
+            context.tables.get(*table as usize),
+            context.types.get(*kind as usize),
+        ) {
+            (Some(true), Some(kind)) => Ok(Meaning::OfType(copied(alloc, kind)?)),
+            _ => Ok(Meaning::Nothing),
+        },
+        Instr::GlobalAt { global, .. } => match context.globals.get(*global as usize) {
+            None => Ok(Meaning::Nothing),
+            Some(kind) => Ok(Meaning::OfGlobal(*kind)),
+        },
+        _ => Ok(Meaning::Nothing),
+    }
+}
