@@ -1,5 +1,5 @@
 -- What a save shows that comes after loads.
-use Rattle.std.proofs.Common.{◌≡◌, ◌⊎◌, inl, inr, ℕ, List, Option, Some, None, IsTrue, IsSomeAnd, Ok, subst, sym, ◌∙◌, arith}
+use Rattle.std.proofs.Common.{◌≡◌, ◌⊎◌, inl, inr, ℕ, List, Option, Some, None, IsTrue, IsSomeAnd, Ok, refl, subst, sym, ◌∙◌, arith}
 use Rattle.wl_outside.specs.Shelf.{Shown, Same, SameBut, Grows, Torn, SaveFailed}
 use Rattle.link_plan.specs.declared.plan.Plan.{Plan}
 use Rattle.link_rules.specs.LinkOf.{link_of}
@@ -9,6 +9,17 @@ use Rattle.wasmld.specs.Command.{Shows, IsTold, Saved, Cut, files_of}
 
 told_on : (before mid : Shown) → Grows before mid → IsTrue before.tells → IsTrue mid.tells
 told_on before mid grows told = subst (λ b. IsTrue b) (sym grows.tells) told
+
+-- a shelf that nothing was asked of
+pub grows_not : (s : Shown) → Grows s s
+grows_not s = record { tells = refl; loads = λ name. omega arith; saves = λ name. omega arith }
+
+pub grows_on : (before mid after : Shown) → Grows before mid → Grows mid after → Grows before after
+grows_on before mid after first later = record {
+  tells = later.tells ∙ first.tells;
+  loads = λ name. omega (arith, first.loads name, later.loads name);
+  saves = λ name. omega (arith, first.saves name, later.saves name);
+}
 
 same_on : (before mid after : Shown) → Same before mid → Grows before mid → Same mid after → Same before after
 same_on before mid after same grows later = λ told n. later (told_on before mid grows told) n ∙ same told n

@@ -38,6 +38,9 @@ pub fn link_command<R: Threads + Sync, F: Shelf, E: Sink, G: Gate>(
     ensures cause { IfOk (plan_of words.now) (λ plan. Shows result (F.shown shelf.old) (F.shown shelf.new) words.now plan) }
     ensures memory { result ≡ Status.NoMemory → Same (F.shown shelf.old) (F.shown shelf.new) }
 
+    // No count falls, and a shelf that tells what it holds goes on telling it.
+    ensures counts { Grows (F.shown shelf.old) (F.shown shelf.new) }
+
     // Words without a plan are always answered so.
     ensures is_usage { IfErr (plan_of words.now) (λ u. IsUnlessMemory result (Status.Usage u)) }
 
@@ -62,6 +65,7 @@ pub fn link_command<R: Threads + Sync, F: Shelf, E: Sink, G: Gate>(
 }
 
 // How the work ends. The sink has no part in it.
+#[tactic(auto, using(crate::proofs::Saves::grows_not))]
 fn answer<R: Threads + Sync, F: Shelf, G: Gate>(
     rt: &R,
     alloc: Global,
@@ -73,6 +77,7 @@ fn answer<R: Threads + Sync, F: Shelf, G: Gate>(
     ensures usage { (u : UsageFault) → result.status ≡ Status.Usage u → (plan_of words.now ≡ Err u) × Same (F.shown shelf.old) (F.shown shelf.new) }
     ensures cause { IfOk (plan_of words.now) (λ plan. Shows result.status (F.shown shelf.old) (F.shown shelf.new) words.now plan) }
     ensures memory { result.status ≡ Status.NoMemory → Same (F.shown shelf.old) (F.shown shelf.new) }
+    ensures counts { Grows (F.shown shelf.old) (F.shown shelf.new) }
     ensures is_usage { IfErr (plan_of words.now) (λ u. IsUnlessMemory result.status (Status.Usage u)) }
     ensures is_refused { (plan : ThePlan) (fault : Fault) → plan_of words.now ≡ Ok plan
         → IsTold plan.make_case (F.shown shelf.old) → LinkIs (F.shown shelf.old) words.now plan (Err fault)
@@ -91,6 +96,7 @@ fn answer<R: Threads + Sync, F: Shelf, G: Gate>(
 }
 
 // Does what the plan asks for.
+#[tactic(auto, using(crate::proofs::Saves::grows_on))]
 fn run_plan<R: Threads + Sync, F: Shelf, G: Gate>(
     rt: &R,
     alloc: Global,
@@ -101,6 +107,7 @@ fn run_plan<R: Threads + Sync, F: Shelf, G: Gate>(
 ) -> Ending
     requires places { All (λ i. i.place < length words.now) plan.now.inputs }
     requires plan { IsPlan plan.now }
+    ensures counts { Grows (F.shown shelf.old) (F.shown shelf.new) }
     ensures cause { Shows result.status (F.shown shelf.old) (F.shown shelf.new) words.now plan.now }
     ensures is_refused { (fault : Fault) → IsTold plan.now.make_case (F.shown shelf.old) → LinkIs (F.shown shelf.old) words.now plan.now (Err fault)
         → LoadsWork (F.shown shelf.old) (F.shown shelf.new) words.now plan.now → IsUnlessMemory result.status (Status.Refused fault) }

@@ -214,6 +214,39 @@ fn each_answer_has_its_line(rt: HostRuntime) -> Result<(), Fail> {
     Ok(())
 }
 
+// How a generated case ends whose save is the first call of the shelf, and the only one.
+fn case_over_nothing<R: Threads + Sync>(rt: &R, alloc: Global) -> Result<bool, OutOfMemory> {
+    let words = ["--make-case=2", "-o", "out"];
+    let mut shelf = shelf_of(alloc, Seq::new(alloc), &[2])?;
+    let mut say = MemSink::new(alloc, Seq::new(alloc));
+    let first = run(rt, alloc, &words, &mut shelf, &mut say, &OpenGate)?;
+    let second = run(rt, alloc, &words, &mut shelf, &mut say, &OpenGate)?;
+    Ok(first == Status::Linked && second == Status::WriteFault)
+}
+
+#[test]
+fn a_generated_case_loads_nothing(rt: HostRuntime) -> Result<(), Fail> {
+    let alloc = rt.alloc();
+    assert!(rt; case_over_nothing(&rt, alloc)?);
+    Ok(())
+}
+
+// Whether after a load that fails the shelf isn't called again: calls 2 and 3 are then the load and the save of the next run.
+fn stops_at_a_failed_load<R: Threads + Sync>(rt: &R, alloc: Global) -> Result<bool, OutOfMemory> {
+    let mut shelf = shelf_of(alloc, three_inputs(alloc)?, &[1, 3])?;
+    let fails = run_of_three(rt, alloc, &mut shelf)? == Status::ReadFault(0);
+    let mut say = MemSink::new(alloc, Seq::new(alloc));
+    let ends = run(rt, alloc, &WORDS, &mut shelf, &mut say, &OpenGate)?;
+    Ok(fails && ends == Status::WriteFault)
+}
+
+#[test]
+fn nothing_is_loaded_after_a_failed_load(rt: HostRuntime) -> Result<(), Fail> {
+    let alloc = rt.alloc();
+    assert!(rt; stops_at_a_failed_load(&rt, alloc)?);
+    Ok(())
+}
+
 // The part of the object that is broken where it is cut after this many bytes.
 fn part_of_cut(len: usize) -> Part {
     match len {
