@@ -1,0 +1,12 @@
+mod Found
+mod Segments
+mod Rising
+mod Values
+pub mod Symbols
+pub mod Meant
+pub mod Parts
+pub mod Refs
+pub mod SoundPrograms
+mod Bytes
+mod Coded
+mod AllFacts

@@ -1,0 +1,24 @@
+-- The program of loaded objects is sound, for its objects are, and what symbols mean is taken from the entries of their names.
+use Rattle.std.specs.Prelude.{◌≡◌, ℕ, List, None}
+use Rattle.list_places.specs.Has.{Has}
+use Rattle.object_file.specs.declared.object.Object.{Object}
+use Rattle.object_file.specs.Sound.{Sound as ObjectSound}
+use Rattle.made_symbols.specs.declared.mode.Mode.TheVariants.{Plain}
+use Rattle.lib_rounds.specs.Rounds.{Candidate}
+use Rattle.name_entries.specs.View.{InputsRise}
+use Rattle.name_rules.specs.Cases.{clash}
+use Rattle.link_plan.specs.declared.plan.Plan.{Plan}
+use Rattle.link_rules.specs.Program.{program_of}
+use Rattle.link_rules.specs.Marks.{exported}
+use Rattle.link_worlds.specs.Sound.{Sound, SoundExports}
+
+-- The objects were read, and their inputs rise.
+pub record AreLoaded (objects : List Object) : Type 0 where
+  pub rise : InputsRise 0 objects
+  pub each : (o : Object) → Has objects o → (size : ℕ) × ObjectSound size o
+
+-- Where no names clash, references and exports name what is there.
+abbrev pub ProgramsAreSound : Type 0
+ProgramsAreSound = (plan : Plan) (files : List (List ℕ)) (all : List Candidate) (objects : List Object) → AreLoaded objects
+    → clash (program_of Plain plan files all objects).entries ≡ None
+    → Sound (program_of Plain plan files all objects) × SoundExports (program_of Plain plan files all objects) (exported Plain (program_of Plain plan files all objects))

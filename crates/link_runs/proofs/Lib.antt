@@ -1,0 +1,13 @@
+mod OutputsRun
+mod Candidates
+mod Steps
+mod Ranges
+mod Few
+mod Constants
+mod Leb
+mod Limits
+mod Length
+mod Names
+mod Given
+mod Ranged
+mod LinksRun

@@ -1,0 +1,124 @@
+-- A link that gives bytes is accepted in all that a run asks, so its output runs as the plan and the files tell.
+use Rattle.std.proofs.Common.{◌≡◌, ℕ, ◌-◌, ◌≤◌, List, length, refl, sym, ap, ◌∙◌, subst, map, Some, None}
+use Rattle.std.specs.Prelude.{Ok, slice_get}
+use Rattle.list_places.specs.Has.{Has}
+use Rattle.list_places.proofs.Lists.{has_at, all_has}
+use Rattle.object_file.specs.declared.object.Object.{Object}
+use Rattle.object_file.specs.ObjectOf.{object_of}
+use Rattle.object_file.proofs.Read.{object_found}
+use Rattle.wasm_instr.specs.BodyLaws.{body_again}
+use Rattle.lib_rounds.specs.Rounds.{Candidate}
+use Rattle.link_plan.specs.declared.plan.Plan.{Plan}
+use Rattle.made_symbols.specs.declared.mode.Mode.TheVariants.{Plain}
+use Rattle.name_rules.specs.Entries.{Entry}
+use Rattle.name_rules.specs.Cases.{clash}
+use Rattle.link_rules.specs.Candidates.{candidates_of}
+use Rattle.link_rules.specs.Program.{Program, program_of, Part}
+use Rattle.link_rules.specs.Marks.{live, exported}
+use Rattle.link_rules.specs.Values.{part_bytes}
+use Rattle.link_rules.specs.LinkOf.{asked_names, the_readers}
+use Rattle.link_program.specs.Loaded.{home_of, IsLoaded, IsReadFrom}
+use Rattle.link_inputs.specs.Loaded.{LoadedAreSound}
+use Rattle.link_worlds.specs.Worlds.{layout_of, linked_tree}
+use Rattle.link_worlds.proofs.Live.{live_part}
+use Rattle.output_module.specs.Filled.{Reads}
+use Rattle.output_module.specs.Outputs.{IsCoded}
+use Rattle.link_facts.specs.Faults.{NoFault}
+use Rattle.link_facts.specs.Facts.{IsFrom, Facts, FactsHold, bytes_of}
+use Rattle.link_runs.specs.Runs.{IsRun, IsAccepted, Gives, OutputRuns}
+use Rattle.link_runs.specs.Links.{ReadsAddresses, LinksRun}
+use Rattle.link_runs.proofs.Ranges.{IsRanged}
+use Rattle.link_runs.proofs.Candidates.{found, candidates_read}
+use Rattle.image_emit.specs.Bytes.{Tree, bytes_of as bytes_of_tree}
+use Rattle.image_emit.specs.Spelled.{entries, IsConstant as IsInRange}
+use Rattle.link_runs.proofs.Constants.{constants_of}
+use Rattle.link_runs.proofs.Few.{few_functions, few_types, spells}
+use Rattle.link_runs.proofs.Names.{ObjectNamed, names_of}
+use Rattle.link_runs.proofs.Given.{key_named, export_named, contents}
+use Rattle.link_runs.proofs.Length.{short}
+use Rattle.link_runs.proofs.Limits.{memory_fits, table_fits}
+use Rattle.link_runs.proofs.Ranged.{ranged, few_global_keys}
+use Rattle.object_parts.specs.declared.parts.GlobalDef.{GlobalDef}
+use Rattle.link_plan.specs.Plan.{IsPlan}
+use Rattle.link_rules.specs.Output.{image}
+use Rattle.link_rules.specs.LinkOf.{output_fault}
+use Rattle.link_facts.specs.Loaded.{AreLoaded}
+use Rattle.name_rules.specs.Entries.{entries as entries_of}
+use Rattle.link_runs.proofs.Steps.{is_marked, is_linked, is_link}
+
+is_from : (plan : Plan) (files : List (List ℕ)) (all : List Candidate) (objects : List Object) → candidates_of the_readers plan files ≡ Ok all → IsLoaded files all objects (map home_of all)
+    → (o : Object) → Has objects o → IsFrom files all o
+is_from plan files all objects c loaded o h =
+    let each = all_has (λ (o : Object). (c : Candidate) × (slice_get all (o.input - 1) ≡ Some c) × IsReadFrom files c o) objects loaded.each o h in
+    let d = each.0 in
+    let r = candidates_read files plan all c d (has_at all (o.input - 1) d each.1) in
+    record {
+      candidate = d;
+      found = found all (o.input - 1) d o.input loaded.numbered each.1 each.2.input;
+      is = object_found o.input (bytes_of files d) o (ap (λ n. object_of n (bytes_of files d)) (sym each.2.input) ∙ sym r ∙ each.2.object);
+    }
+
+run : (p : Program) (exports : List Entry) → ReadsAddresses p exports → (part : Part) → Has (live p exports) part → part.chunk.kind ≡ 0 → (part.chunk.input ≡ 0 → ⊥) → IsCoded p part → IsRun p part
+run p exports opens part h k i c = record {
+  coded = c;
+  reads = λ x m. subst (λ ns. Reads ns x) c.named (opens.reads part h k i c.body (body_again (part_bytes p part) c.body c.spelled) x m);
+}
+
+accepted : ((t : Tree) → entries t ≤ length (bytes_of_tree t)) → (p : Program) (exports : List Entry) → ReadsAddresses p exports → IsRanged (linked_tree p (live p exports) exports (layout_of p exports))
+    → Facts p exports → NoFault p exports (layout_of p exports) → IsAccepted p exports
+accepted law p exports opens ranged f n = record {
+  sound = f.sound;
+  exported = f.exported;
+  measured = f.measured;
+  no_fault = n;
+  functions = λ part h k i. run p exports opens part h k i (f.coded part (live_part p exports part h) k i);
+  calls = λ part ref h. f.calls part ref (live_part p exports part h);
+  made = λ part n h. f.made part n (live_part p exports part h);
+  constants = λ part h. f.constants part (live_part p exports part h);
+  few = few_functions p (live p exports) exports (layout_of p exports) law ranged.short;
+  spellable = spells p (live p exports) exports (layout_of p exports) law ranged;
+}
+
+module _ (plan : Plan) (files : List (List ℕ)) (all : List Candidate) (objects : List Object) where
+  plan_is : (program_of Plain plan files all objects).plan ≡ plan
+  unfolding program_of
+  plan_is = refl
+
+  entries_are : (program_of Plain plan files all objects).entries ≡ entries_of Plain objects
+  unfolding program_of
+  entries_are = refl
+
+  are_loaded : IsLoaded files all objects (map home_of all) → AreLoaded objects
+  are_loaded loaded = record {
+    rise = loaded.rise;
+    each = λ o h. let each = all_has (λ (o : Object). (c : Candidate) × (slice_get all (o.input - 1) ≡ Some c) × IsReadFrom files c o) objects loaded.each o h in (each.0.len, each.2.sound);
+  }
+
+  in_ranges : ((t : Tree) → entries t ≤ length (bytes_of_tree t)) → IsPlan plan → (loaded : IsLoaded files all objects (map home_of all)) → ((o : Object) → Has objects o → IsFrom files all o)
+      → clash (program_of Plain plan files all objects).entries ≡ None
+      → (let p = program_of Plain plan files all objects in let x = exported Plain p in Facts p x → NoFault p x (layout_of p x)
+      → output_fault p (image Plain p (live p x) x (layout_of p x)) ≡ None → IsRanged (linked_tree p (live p x) x (layout_of p x)))
+  in_ranges law fit loaded from clear f n o =
+      let p = program_of Plain plan files all objects in
+      let x = exported Plain p in
+      let are = are_loaded loaded in
+      let clear' = ap clash (sym entries_are) ∙ clear in
+      let named : (o : Object) → Has objects o → ObjectNamed o = λ o h. names_of o.input (bytes_of files (from o h).candidate) o (from o h).is in
+      let fits : (o : Object) → Has objects o → (g : GlobalDef) → Has o.globals g → IsInRange g.value = λ o h g m. (constants_of o.input (bytes_of files (from o h).candidate) o (from o h).is g m).1 in
+      let s = short p x f.measured.stand o in
+      ranged p (live p x) x (few_functions p (live p x) x (layout_of p x) law s) (few_types p (live p x) x (layout_of p x) law s)
+      (few_global_keys p (live p x) x (λ part h. f.constants part (live_part p x part h)) law s)
+      (key_named plan files all objects are clear' named fits) (export_named plan files all objects are clear' named fits)
+      (λ part h. contents plan files all objects are clear' named fits part (live_part p x part h))
+      (memory_fits p x (subst IsPlan (sym plan_is) fit) n.memory) s (table_fits p x n.table)
+
+pub links_law : ((t : Tree) → entries t ≤ length (bytes_of_tree t)) → OutputRuns → FactsHold → LoadedAreSound → LinksRun
+links_law law runs facts loads plan files bytes all objects fit long c l opens e =
+    let p = program_of Plain plan files all objects in
+    let loaded = (loads Plain plan files (asked_names plan) all objects long c l).1 in
+    let from = is_from plan files all objects c loaded in
+    let k = is_linked p bytes (is_link plan files bytes all objects c l e) in
+    let m = is_marked p (exported Plain p) bytes k.1 in
+    let f = facts plan files all objects (map home_of all) (record { loaded = loaded; each = from; constants = λ o h g k. (constants_of o.input (bytes_of files (from o h).candidate) o (from o h).is g k).0 }) k.0 in
+    let r = in_ranges plan files all objects law fit loaded from k.0 f m.0 m.2 in
+    subst (Gives p (exported Plain p)) m.1 (runs p (exported Plain p) (accepted law p (exported Plain p) opens r f m.0))

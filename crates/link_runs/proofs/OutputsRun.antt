@@ -1,0 +1,43 @@
+-- From what a link makes sure of to one equation of traces.
+use Rattle.std.specs.Prelude.{List}
+use Rattle.std.proofs.Common.{sym, ◌∙◌, subst}
+use Rattle.wasm_instr.specs.BodyLaws.{body_again}
+use Rattle.name_rules.specs.Entries.{Entry}
+use Rattle.link_rules.specs.Program.{Program, Part}
+use Rattle.link_rules.specs.Values.{part_bytes}
+use Rattle.link_worlds.specs.Worlds.{layout_of}
+use Rattle.link_worlds.specs.Sound.{IsShaped, Shaped, Takes}
+use Rattle.link_worlds.specs.Statements.{LinkedBy, RunsAgree}
+use Rattle.output_module.specs.Filled.{TakenBody}
+use Rattle.output_module.specs.Outputs.{OutputIsRead}
+use Rattle.link_facts.specs.Faults.{ValuesFit, MemoryHolds}
+use Rattle.link_runs.specs.Runs.{IsRun, IsAccepted, OutputRuns}
+
+shaped : TakenBody → (p : Program) (exports : List Entry) (part : Part) → IsRun p part → IsShaped p part
+shaped taken p exports part r =
+    let c = r.coded in
+    subst (Shaped part.named) (sym (body_again (part_bytes p part) c.body c.spelled))
+    (λ x h. subst (λ ns. Takes ns x) (sym c.named) (taken p (layout_of p exports) c.body c.stands (part_bytes p part) c.spelled c.on r.reads x h))
+
+linked : TakenBody → ValuesFit → (p : Program) (exports : List Entry) → IsAccepted p exports → LinkedBy p exports (layout_of p exports)
+linked taken fit p exports a =
+    let v = fit p exports a.sound a.exported a.measured a.no_fault in
+    record {
+      sound = a.sound;
+      exported = a.exported;
+      shaped = λ part h k i. shaped taken p exports part (a.functions part h k i);
+      calls = a.calls;
+      constants = a.constants;
+      resolved = a.no_fault.resolved;
+      in_range = v.0;
+      small = v.1;
+    }
+
+pub output_law : RunsAgree → OutputIsRead → TakenBody → ValuesFit → MemoryHolds → OutputRuns
+output_law agree read taken fit hold p exports a =
+    let r = read p exports (record { sound = a.sound; coded = λ part h k i. (a.functions part h k i).coded; made = a.made; few = a.few; spellable = a.spellable }) in
+    record {
+      is = r.is;
+      read = r.read;
+      runs = λ s n e. agree s p exports n (linked taken fit p exports a) (hold s p exports a.sound a.measured a.no_fault e) ∙ sym (r.runs s n);
+    }

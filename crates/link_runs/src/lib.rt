@@ -1,0 +1,29 @@
+//! The output of a plain link runs as the plan and the files tell.
+#![tactic(auto)]
+
+ghost use Rattle.link_runs.specs.Links.{LinksRun};
+ghost use Rattle.link_runs.specs.Runs.{OutputRuns};
+
+/// Where a link makes sure of what `IsAccepted` lists, the output's bytes are read as a module, and
+/// for each session that gives an imported memory enough pages, and each number of steps, its trace
+/// is the one that the plan and the files give.
+pub fn outputs_run()
+    ensures { OutputRuns }
+{
+    link_worlds::runs_agree();
+    output_module::outputs_are_read();
+    output_module::bodies_take_references();
+    link_facts::values_and_segments_fit();
+}
+
+/// Where `link_of` gives bytes, the same holds of them. This rests on one premise that no law of the
+/// readers says yet, `ReadsAddresses`: no live function sets a global of which the window names a
+/// datum or a function.
+pub fn links_run()
+    ensures { LinksRun }
+{
+    image_emit::entries_take_bytes();
+    outputs_run();
+    link_facts::facts_hold();
+    link_inputs::loaded_objects_are_sound();
+}

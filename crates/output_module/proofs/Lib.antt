@@ -1,0 +1,7 @@
+mod Places
+mod Spelled
+mod Becoming
+mod Written
+mod Placeless
+mod Made
+mod Outputs
