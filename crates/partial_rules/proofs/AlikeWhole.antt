@@ -1,0 +1,49 @@
+-- Two programs that are one but for places give the same output.
+use Rattle.std.proofs.Common.{◌≡◌, ℕ, List, refl}
+use Rattle.std.specs.Prelude.{None, Ok}
+use Rattle.object_file.specs.wl_base.Choice.{unless, ◌>>=◌}
+use Rattle.made_symbols.specs.declared.mode.Mode.TheVariants.{Plain}
+use Rattle.name_rules.specs.Entries.{Entry}
+use Rattle.mark_bits.specs.declared.chunk.Chunk.{Chunk}
+use Rattle.live_mark.specs.Live.{ReachedLaw}
+use Rattle.link_rules.specs.Program.{Program, Part}
+use Rattle.link_rules.specs.Marks.{exported, repeated_export, live, unresolved, pic_fault}
+use Rattle.link_rules.specs.LinkOf.{laid_out, marked, exporting}
+use Rattle.partial_rules.specs.Alike.{AlikePrograms, LiveMeant}
+use Rattle.partial_rules.specs.Moving.{Moving, IsMoving, AlikeParts, AlikeStage}
+use Rattle.partial_rules.proofs.AlikeReach.{live_alike}
+use Rattle.partial_rules.proofs.AlikeRooted.{roots_alike}
+use Rattle.partial_rules.proofs.AlikeExports.{exports_are, exports_held, export_names, repeats_alike, resolved_alike}
+use Rattle.partial_rules.proofs.AlikeLinks.{laid_out_alike}
+use Rattle.partial_rules.proofs.AlikeLaidOut.{no_fault, goes_on}
+
+module _ (m : Moving) (C : Chunk → Type 0) (K : Entry → Type 0) (is : IsMoving m C K) (p q : Program) where
+  pub exporting_alike : ReachedLaw → AlikePrograms m C K p q → LiveMeant p → (bytes : List ℕ) → exporting Plain p (exported Plain p) ≡ Ok bytes → exporting Plain q (exported Plain q) ≡ Ok bytes
+  unfolding marked pic_fault
+  exporting_alike law s meant bytes e =
+      let ep : List Entry = exported Plain p in
+      let eq : List Entry = exported Plain q in
+      let xs : List Part = live p ep in
+      let ys : List Part = live q eq in
+      let rooted = roots_alike m C K is p q s.parts s.one_place s.one_place_too s.there s.words s.winners s.gc in
+      let parts : AlikeParts m C K p q xs ys = live_alike m C K is p q s.parts s.one_place s.one_place_too s.there ep eq rooted law in
+      let stage : AlikeStage m C K p q xs ys ep eq = record {
+        rules = s.rules;
+        imports = s.imports;
+        parts = parts;
+        exports_are = exports_are m C K is p q s.words s.winners;
+        exports_held = exports_held m C K is p q s.words s.winners;
+        export_names = export_names m C K is p q s.words s.winners;
+        imported = s.words.memory;
+        most = s.most;
+        stubs = s.stubs xs ys parts;
+        stub_types = s.stub_types xs;
+      } in
+      let a = no_fault m C K is p q xs ys ep eq stage (repeated_export Plain p ep) ep (λ es. marked Plain p es) bytes e in
+      let b = no_fault m C K is p q xs ys ep eq stage None xs (λ us. unless (unresolved p us) us >>= λ vs. laid_out Plain p ep vs) bytes a.1 in
+      let c = no_fault m C K is p q xs ys ep eq stage (unresolved p xs) xs (λ us. laid_out Plain p ep us) bytes b.1 in
+      let out : laid_out Plain q eq ys ≡ Ok bytes = laid_out_alike m C K is p q xs ys ep eq stage bytes c.1 in
+      let settled : unresolved q ys ≡ None = resolved_alike m C K is p q s.words s.winners xs ys parts meant c.0 in
+      goes_on m C K is p q xs ys ep eq stage (repeated_export Plain q eq) eq (λ es. marked Plain q es) bytes (repeats_alike m C K is p q s.words s.winners a.0)
+      (goes_on m C K is p q xs ys ep eq stage None ys (λ us. unless (unresolved q us) us >>= λ vs. laid_out Plain q eq vs) bytes refl
+      (goes_on m C K is p q xs ys ep eq stage (unresolved q ys) ys (λ us. laid_out Plain q eq us) bytes settled out))

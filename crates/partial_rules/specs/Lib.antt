@@ -1,0 +1,14 @@
+pub mod Relocatable
+pub mod Partial
+pub mod PartialLink
+pub mod CallCase
+pub mod GroupedCase
+pub mod MixedCase
+pub mod OrderedCase
+pub mod UnusedCase
+pub mod Rows
+pub mod WellFormed
+pub mod Sections
+pub mod ReadAs
+pub mod Moving
+pub mod Alike
