@@ -1,7 +1,7 @@
 //! Both ways to divide work, each through its bound at a type of the tests.
-use crate::{Share, Slices, Workers, each_half, each_slice};
 use std::marker::Model;
 use std::test::Fail;
+use wl_fan::{Share, Slices, Workers, each_half, each_slice};
 
 // A share of up to 64 numbers, which flips the bit of a number when that is worked.
 #[derive(Drop)]

@@ -1,5 +1,10 @@
-use super::*;
-use std::test::*;
+//! Numbers in seven bits a byte, written and read: spellings that are shortest, wide and of five bytes, and those that are refused.
+
+use leb_codec::{
+    LebFault, put_s32_5, put_u32_5, read_s32, read_s33, read_s64, read_u32, write_s32, write_s64,
+    write_u32,
+};
+use std::test::Fail;
 
 // Whether these are the bytes that are written, and alone touched, and whether they are read again
 // whatever follows.

@@ -1,12 +1,12 @@
 //! Runs over what stands in memory, each through the bound that the program knows.
 
-use crate::{
-    Failed, Gate, Held, LoadFault, MemShelf, MemSink, NeverFails, OpenGate, Phase, Shelf, Sink,
-    names_differ,
-};
 use std::alloc::Global;
 use std::test::Fail;
 use wl_base::{OutOfMemory, Seq, Text};
+use wl_outside::{
+    Failed, Gate, Held, LoadFault, MemShelf, MemSink, NeverFails, OpenGate, Phase, Shelf, Sink,
+    names_differ,
+};
 
 fn load<F: Shelf>(alloc: Global, shelf: &mut F, name: &str) -> Result<Seq<u8>, LoadFault> {
     shelf.load(alloc, name)

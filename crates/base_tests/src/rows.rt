@@ -1,5 +1,8 @@
-use super::*;
+//! Lists of lists: what was pushed comes back, also when the room is given back or the end is cut off.
+
 use std::test::Fail;
+use wl_base::OutOfMemory;
+use wl_lists::Lists;
 
 /// Whether the list at a place is this one.
 fn holds(lists: &Lists<u8>, at: usize, list: &[u8]) -> bool {
@@ -9,26 +12,39 @@ fn holds(lists: &Lists<u8>, at: usize, list: &[u8]) -> bool {
     }
 }
 
-/// Three lists, one of them empty, come back as they were put, before and after shrinking.
+/// Three lists, one of them empty.
+fn push_each(lists: &mut Lists<u8>) -> Result<(), OutOfMemory> {
+    lists.push(b"ab".as_slice())?;
+    lists.push(b"".as_slice())?;
+    lists.push(b"cde".as_slice())
+}
+
+fn hold_each(lists: &Lists<u8>) -> bool {
+    lists.len() == 3
+        && holds(lists, 0, b"ab".as_slice())
+        && holds(lists, 1, b"".as_slice())
+        && holds(lists, 2, b"cde".as_slice())
+        && lists.get(3).is_none()
+}
+
+/// Whether the first list stays where all behind it are cut off, and another comes behind it.
+fn are_cut(lists: &mut Lists<u8>) -> bool {
+    lists.truncate(3);
+    let is_kept = lists.len() == 3;
+    lists.truncate(1);
+    is_kept
+        && lists.push(b"f".as_slice()).is_ok()
+        && holds(lists, 0, b"ab".as_slice())
+        && holds(lists, 1, b"f".as_slice())
+        && lists.len() == 2
+}
+
 #[test]
 fn lists_come_back_as_they_were_put(rt: HostRuntime) -> Result<(), Fail> {
     let mut lists = Lists::new(rt.alloc());
-    for list in [b"ab".as_slice(), b"".as_slice(), b"cde".as_slice()] {
-        lists.push(list)?;
-    }
-    assert!(rt; holds(&lists, 0, b"ab".as_slice()));
+    push_each(&mut lists)?;
+    let is_first = holds(&lists, 0, b"ab".as_slice());
     let mut lists = lists.shrunk();
-    assert_eq!(rt; lists.len(), 3);
-    assert!(rt; holds(&lists, 0, b"ab".as_slice()));
-    assert!(rt; holds(&lists, 1, b"".as_slice()));
-    assert!(rt; holds(&lists, 2, b"cde".as_slice()));
-    assert!(rt; lists.get(3).is_none());
-    lists.truncate(3);
-    assert_eq!(rt; lists.len(), 3);
-    lists.truncate(1);
-    lists.push(b"f".as_slice())?;
-    assert!(rt; holds(&lists, 0, b"ab".as_slice()));
-    assert!(rt; holds(&lists, 1, b"f".as_slice()));
-    assert_eq!(rt; lists.len(), 2);
+    assert!(rt; is_first && hold_each(&lists) && are_cut(&mut lists));
     Ok(())
 }

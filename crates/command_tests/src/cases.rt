@@ -1,4 +1,6 @@
-use super::*;
+//! The generated case of two objects, byte for byte, its greatest, and what is told of the module that it is linked to.
+
+use case_objects::{count_functions, make_case, sum_of};
 use std::test::Fail;
 
 /// The first object of a case of two, which imports `f1`.

@@ -1,6 +1,6 @@
 //! Lines in a sink in memory, and what a sink has where a write fails.
 
-use crate::{CaseSummary, say_case, say_fault, say_read_fault, say_usage};
+use link_lines::{CaseSummary, say_case, say_fault, say_read_fault, say_usage};
 use std::alloc::Global;
 use std::test::Fail;
 use wl_base::{Fault, InvalidAt, OutOfMemory, Seq, Usage};

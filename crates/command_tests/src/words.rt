@@ -1,4 +1,6 @@
-use super::*;
+//! Words of the command line: the plan that they ask for, and those that have none.
+
+use link_words::{Plan, WordError, read_words};
 use std::alloc::Global;
 use std::test::Fail;
 use wl_base::{Name, OutOfMemory, Seq, Text, Usage};

@@ -2,7 +2,7 @@
 ghost use Rattle.std.specs.Prelude.{◌≡◌, ◌<◌, ◌≤◌, ◌^◌, Some, None, length, IfSome, IfOk};
 ghost use Rattle.link_program.specs.link_plan.Plan.{IsPlan};
 
-use super::*;
+use link_inputs::{InputError, Inputs, load_inputs};
 use link_plan::{InputWord, Plan};
 use std::alloc::Global;
 use std::sync::atomic::{AtomicU64, Ordering};

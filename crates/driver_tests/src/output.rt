@@ -1,5 +1,7 @@
-use crate::measured;
+//! The length of the output and the places in it.
+
 use image_emit::{Image, PlacedSource, Source};
+use link_output::measured;
 use std::alloc::Global;
 use std::test::Fail;
 use wasm_types::ConstExpr;

@@ -1,4 +1,6 @@
-use super::*;
+//! The body of the function that calls constructors, byte for byte.
+
+use ctor_call::body;
 use std::test::Fail;
 
 #[test]

@@ -1,4 +1,6 @@
-use super::*;
+//! Numbers of what is imported and defined.
+
+use index_layout::number;
 use std::test::Fail;
 
 #[test]

@@ -1,8 +1,8 @@
+//! Addresses of segments, stack and heap, and the first number that passes its limit.
 ghost use Rattle.std.specs.Prelude.{IsTrue, ◌↔◌};
 ghost use Rattle.memory_layout.specs.Steps.{AreAligned, AreRules};
 
-use super::*;
-use std::test::*;
+use memory_layout::{MemoryRules, SegmentShape, place};
 use wl_base::{LayoutError, What};
 
 /// The rules with a stack of 65,536 bytes and no more words.

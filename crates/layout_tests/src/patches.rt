@@ -1,9 +1,9 @@
 //! Windows that are filled on real threads.
-ghost use Rattle.std.specs.Prelude.{◌≡◌, ◌≤◌, IsTrue, All};
+ghost use Rattle.std.specs.Prelude.{IsTrue, All};
 ghost use Rattle.reloc_apply.specs.Windows.{IsSum};
-ghost use Rattle.reloc_apply.specs.Apart.{AreApart, size_of};
 
-use crate::{Form, Patch, Patches, Window, fill, values};
+use crate::apart::are_apart;
+use reloc_apply::{Form, Patch, Patches, Window, fill, values};
 use std::alloc::Global;
 use std::sync::atomic::{AtomicU64, Ordering};
 use std::test::Fail;
@@ -49,29 +49,6 @@ impl Gate for Tally {
             self.worker.fetch_max(u64::from(worker), Ordering::SeqCst);
         }
     }
-}
-
-fn size(form: Form) -> u64
-    ensures { (4 ≤ result) × (result ≤ 5) × (result ≡ size_of form) }
-{
-    match form {
-        Form::Unsigned5 | Form::Signed5 => 5,
-        Form::Word4 => 4,
-    }
-}
-
-// Whether the windows rise, don't overlap and end within so many bytes.
-fn are_apart(patches: &[Patch], end: usize) -> bool
-    ensures { IsTrue result → AreApart 0 end patches.now }
-{
-    let mut at = 0;
-    for patch in patches {
-        if patch.place < at || patch.place >= 1 << 32 {
-            return false;
-        }
-        at = patch.place + size(patch.form);
-    }
-    at <= end as u64
 }
 
 fn is_sum(window: &Window) -> bool

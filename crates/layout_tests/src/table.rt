@@ -1,5 +1,6 @@
-use super::*;
-use std::test::*;
+//! Slots of the functions in the table.
+
+use table_layout::slots;
 use wl_base::{LayoutError, What};
 
 #[test]

@@ -1,6 +1,8 @@
-use super::*;
+//! Types of functions, each of which stands once.
+
 use std::alloc::Global;
 use std::test::Fail;
+use type_merge::TypeTable;
 use wasm_types::{FuncType, ValType};
 use wl_base::{OutOfMemory, Seq};
 

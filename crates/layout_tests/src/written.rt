@@ -1,7 +1,5 @@
 //! An image is written and its windows are filled, by several workers.
-ghost use Rattle.std.specs.Prelude.{◌≡◌, ◌≤◌, IsTrue};
-ghost use Rattle.reloc_apply.specs.Apart.{AreApart, size_of};
-
+use crate::apart::are_apart;
 use image_emit::{Image, PlacedSource, Source, emit, lie_in, measure};
 use reloc_apply::{Form, Patch, Patches, fill};
 use std::alloc::Global;
@@ -11,29 +9,6 @@ use wasm_types::ConstExpr;
 use wl_base::{FileSpan, OutOfMemory, Seq, Span};
 use wl_fan::Workers;
 use wl_outside::OpenGate;
-
-fn size(form: Form) -> u64
-    ensures { (4 ≤ result) × (result ≤ 5) × (result ≡ size_of form) }
-{
-    match form {
-        Form::Unsigned5 | Form::Signed5 => 5,
-        Form::Word4 => 4,
-    }
-}
-
-// Whether the windows rise, don't overlap and end within so many bytes.
-fn are_apart(patches: &[Patch], end: usize) -> bool
-    ensures { IsTrue result → AreApart 0 end patches.now }
-{
-    let mut at = 0;
-    for patch in patches {
-        if patch.place < at || patch.place >= 1 << 32 {
-            return false;
-        }
-        at = patch.place + size(patch.form);
-    }
-    at <= end as u64
-}
 
 // The image's bytes with these windows filled, where its parts lie in the files and the windows lie apart.
 fn filled<R: Threads + Sync>(

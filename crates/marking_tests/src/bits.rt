@@ -1,7 +1,8 @@
+//! Numbers of chunks, and bits that two seats set.
 ghost use Rattle.std.specs.Prelude.{◌≡◌, ◌<◌};
 ghost use Rattle.mark_bits.specs.Seats.{IsSeatOf};
 
-use crate::{Chunk, ChunkTable, MarkBits, MarkSeat};
+use mark_bits::{Chunk, ChunkTable, MarkBits, MarkSeat};
 use std::test::Fail;
 
 const MAIN: Chunk = Chunk {
@@ -16,17 +17,38 @@ const DATUM: Chunk = Chunk {
     index: 7,
 };
 
+// Gives the chunk the next number, where it has none.
+fn add(table: &mut ChunkTable, chunk: Chunk) -> Option<u32> {
+    if table.count() < 9 && table.find(chunk).is_none() {
+        table.add(chunk).ok()
+    } else {
+        None
+    }
+}
+
+fn chunk_of(table: &ChunkTable, number: u32) -> Option<Chunk> {
+    if number < table.count() {
+        Some(table.chunk(number))
+    } else {
+        None
+    }
+}
+
+fn are_numbered(table: &mut ChunkTable) -> bool {
+    table.find(MAIN).is_none()
+        && add(table, MAIN) == Some(0)
+        && table.find(DATUM).is_none()
+        && add(table, DATUM) == Some(1)
+        && table.count() == 2
+        && table.find(DATUM) == Some(1)
+        && chunk_of(table, 1) == Some(DATUM)
+}
+
 #[test]
-fn chunks_have_numbers_in_the_order_in_which_they_came(rt: HostRuntime) -> Result<(), Fail> {
+fn chunks_have_numbers_in_the_order_in_which_they_came(rt: HostRuntime) {
     let mut table = ChunkTable::new(rt.alloc());
-    assert_eq!(rt; table.find(MAIN), None);
-    assert_eq!(rt; table.add(MAIN)?, 0);
-    assert_eq!(rt; table.find(DATUM), None);
-    assert_eq!(rt; table.add(DATUM)?, 1);
-    assert_eq!(rt; table.count(), 2);
-    assert_eq!(rt; table.find(DATUM), Some(1));
-    assert_eq!(rt; table.chunk(1), DATUM);
-    Ok(())
+    let holds = are_numbered(&mut table);
+    assert!(rt; holds);
 }
 
 // Marks a chunk, and tells whether its bit was clear.

@@ -1,9 +1,9 @@
 //! Graphs that are marked on real threads.
 ghost use Rattle.std.specs.Prelude.{◌≡◌, length, IsTrue};
 ghost use Rattle.live_mark.specs.Asks.{Below, AllBelow};
-ghost use Rattle.live_mark.specs.Graphs.{all_below, rows_below};
+ghost use Rattle.marking_tests.specs.Graphs.{all_below, rows_below};
 
-use crate::{Edges, live};
+use live_mark::{Edges, live};
 use mark_bits::MarkSet;
 use std::alloc::Global;
 use std::sync::atomic::{AtomicU64, Ordering};

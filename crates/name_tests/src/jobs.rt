@@ -1,12 +1,13 @@
 //! Both races over objects that were read, by one worker and by several.
-ghost use Rattle.std.specs.Prelude.{IfSome, IsTrue};
+ghost use Rattle.std.specs.Prelude.{IfSome};
 ghost use Rattle.name_entries.specs.made_symbols.declared.mode.Mode.TheVariants.{Plain};
 ghost use Rattle.name_entries.specs.link_names.Numbered.{AreNumbers};
 ghost use Rattle.name_entries.specs.View.{InputsRise};
 
-use super::*;
+use crate::objects::{grouped, inputs_rise, read};
 use made_symbols::Mode;
-use name_entries::{EntryTable, Names, Object, read_object};
+use name_entries::{EntryTable, Names, Object};
+use name_jobs::{group_winners, name_winners};
 use std::alloc::Global;
 use std::thread::Threads;
 use symbol_race::rank;
@@ -23,39 +24,9 @@ fn weak() -> &'static [u8] {
     b"\0asm\x01\0\0\0\x01\x04\x01`\0\0\x03\x02\x01\0\x0a\x04\x01\x02\0\x0b\0\x11\x07linking\x02\x08\x06\x01\0\x01\0\x01f".as_slice()
 }
 
-/// The same, strong and in the group `g`.
-fn grouped() -> &'static [u8] {
-    b"\0asm\x01\0\0\0\x01\x04\x01`\0\0\x03\x02\x01\0\x0a\x04\x01\x02\0\x0b\0\x1a\x07linking\x02\x08\x06\x01\0\0\0\x01f\x07\x07\x01\x01g\0\x01\x01\0".as_slice()
-}
-
-/// The same, weak and in the group `g`.
+/// The same, in the group `g`.
 fn weak_grouped() -> &'static [u8] {
     b"\0asm\x01\0\0\0\x01\x04\x01`\0\0\x03\x02\x01\0\x0a\x04\x01\x02\0\x0b\0\x1a\x07linking\x02\x08\x06\x01\0\x01\0\x01f\x07\x07\x01\x01g\0\x01\x01\0".as_slice()
-}
-
-/// The objects that these bytes are, as the inputs from 1 on.
-fn read(alloc: Global, files: &[&[u8]]) -> Option<Vec<Object>> {
-    let mut objects = Vec::new(alloc);
-    let mut input: u32 = 1;
-    for file in files {
-        objects.push(read_object(alloc, input, file).ok()?).ok()?;
-        input = input.checked_add(1)?;
-    }
-    Some(objects)
-}
-
-/// Whether the inputs rise, from 1 to below 2^20.
-fn inputs_rise(objects: &[Object]) -> bool
-    ensures { IsTrue result → InputsRise 0 objects.now }
-{
-    let mut last = 0;
-    for object in objects {
-        if object.input <= last || object.input >= 1 << 20 {
-            return false;
-        }
-        last = object.input;
-    }
-    true
 }
 
 /// Who won: the group `g`, by its input, and the name `f`, by the rank of its definition.
@@ -136,10 +107,8 @@ fn the_least_wins_whoever_works(rt: HostRuntime) {
     for (files, group, name) in cases {
         for workers in [1u32, 2, 64] {
             let name = Some(name);
-            assert_eq!(rt;
-                winners_of(&rt, rt.alloc(), &files, workers),
-                Some(Won { group, name })
-            );
+            let won = winners_of(&rt, rt.alloc(), &files, workers);
+            assert!(rt; won == Some(Won { group, name }));
         }
     }
 }

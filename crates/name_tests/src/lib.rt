@@ -10,4 +10,6 @@ mod meanings;
 #[cfg(test)]
 mod numbers;
 #[cfg(test)]
+mod objects;
+#[cfg(test)]
 mod unresolved;

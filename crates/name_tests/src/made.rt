@@ -1,6 +1,34 @@
-use super::*;
+//! The symbols that the linker makes, in both modes.
+
 use linking_section::SymbolKind;
-use std::test::*;
+use made_symbols::{Mode, changes, class, count, kind, name};
+
+/// Whether a symbol is there, and has this name, kind and class, and is a variable or isn't.
+fn is_made(mode: Mode, k: u32, text: &str, want: SymbolKind, rank: u8, changed: bool) -> bool {
+    k < count(mode)
+        && name(mode, k) == text.as_bytes()
+        && kind(mode, k) == want
+        && class(mode, k) == rank
+        && changes(mode, k) == changed
+}
+
+fn are_plain(names: &[&str]) -> bool {
+    let mut k = 0u32;
+    for text in names {
+        let want = match k {
+            0 => SymbolKind::Function,
+            1..=3 => SymbolKind::GlobalVar,
+            4 => SymbolKind::Table,
+            _ => SymbolKind::Datum,
+        };
+        let rank = if k < 5 { 0 } else { 2 };
+        if !is_made(Mode::Plain, k, text, want, rank, k == 1) {
+            return false;
+        }
+        k = k.wrapping_add(1);
+    }
+    k == count(Mode::Plain)
+}
 
 #[test]
 fn plain_symbols(rt: HostRuntime) {
@@ -18,19 +46,25 @@ fn plain_symbols(rt: HostRuntime) {
         "__stack_high",
         "__heap_end",
     ];
-    assert_eq!(rt; count(Mode::Plain), 12);
-    for k in 0..12 {
+    assert!(rt; are_plain(&names));
+}
+
+fn are_shared(names: &[&str]) -> bool {
+    let mut k = 0u32;
+    for text in names {
         let want = match k {
-            0 => SymbolKind::Function,
-            1..=3 => SymbolKind::GlobalVar,
-            4 => SymbolKind::Table,
+            0 | 1 => SymbolKind::Function,
+            2..=4 => SymbolKind::GlobalVar,
+            5 => SymbolKind::Table,
             _ => SymbolKind::Datum,
         };
-        assert_eq!(rt; name(Mode::Plain, k), names[k as usize].as_bytes());
-        assert_eq!(rt; kind(Mode::Plain, k), want);
-        assert_eq!(rt; class(Mode::Plain, k), if k < 5 { 0 } else { 2 });
-        assert_eq!(rt; changes(Mode::Plain, k), k == 1);
+        let rank = if k < 6 { 0 } else { 2 };
+        if !is_made(Mode::Shared, k, text, want, rank, k == 2) {
+            return false;
+        }
+        k = k.wrapping_add(1);
     }
+    k == count(Mode::Shared)
 }
 
 #[test]
@@ -44,17 +78,5 @@ fn shared_symbols(rt: HostRuntime) {
         "__indirect_function_table",
         "__dso_handle",
     ];
-    assert_eq!(rt; count(Mode::Shared), 7);
-    for k in 0..7 {
-        let want = match k {
-            0 | 1 => SymbolKind::Function,
-            2..=4 => SymbolKind::GlobalVar,
-            5 => SymbolKind::Table,
-            _ => SymbolKind::Datum,
-        };
-        assert_eq!(rt; name(Mode::Shared, k), names[k as usize].as_bytes());
-        assert_eq!(rt; kind(Mode::Shared, k), want);
-        assert_eq!(rt; class(Mode::Shared, k), if k < 6 { 0 } else { 2 });
-        assert_eq!(rt; changes(Mode::Shared, k), k == 2);
-    }
+    assert!(rt; are_shared(&names));
 }

@@ -1,13 +1,15 @@
 //! What symbols of small objects mean.
-ghost use Rattle.std.specs.Prelude.{IsTrue};
 ghost use Rattle.name_entries.specs.made_symbols.declared.mode.Mode.TheVariants.{Plain};
 ghost use Rattle.name_entries.specs.link_names.Numbered.{AreNumbers};
 ghost use Rattle.name_entries.specs.View.{InputsRise};
+ghost use Rattle.name_unresolved.specs.Unresolved.{AreMeant};
 
-use super::*;
+use crate::objects::{grouped, inputs_rise, read};
 use made_symbols::Mode;
-use name_entries::{EntryTable, Meaning, Names, Object, read_object};
+use name_entries::{EntryTable, Meaning, Names, Object};
 use name_jobs::{group_winners, name_winners};
+use name_meanings::{Resolution, resolve};
+use name_unresolved::laws::resolved_is_meant;
 use std::alloc::Global;
 use std::thread::Threads;
 use wl_fan::Workers;
@@ -38,37 +40,7 @@ fn local() -> &'static [u8] {
     b"\0asm\x01\0\0\0\x01\x04\x01`\0\0\x03\x02\x01\0\x0a\x04\x01\x02\0\x0b\0\x11\x07linking\x02\x08\x06\x01\0\x02\0\x01f".as_slice()
 }
 
-/// The same, strong and in the group `g`.
-fn grouped() -> &'static [u8] {
-    b"\0asm\x01\0\0\0\x01\x04\x01`\0\0\x03\x02\x01\0\x0a\x04\x01\x02\0\x0b\0\x1a\x07linking\x02\x08\x06\x01\0\0\0\x01f\x07\x07\x01\x01g\0\x01\x01\0".as_slice()
-}
-
-/// The objects that these bytes are, as the inputs from 1 on.
-fn read(alloc: Global, files: &[&[u8]]) -> Option<Vec<Object>> {
-    let mut objects = Vec::new(alloc);
-    let mut input: u32 = 1;
-    for file in files {
-        objects.push(read_object(alloc, input, file).ok()?).ok()?;
-        input = input.checked_add(1)?;
-    }
-    Some(objects)
-}
-
-/// Whether the inputs rise, from 1 to below 2^20.
-fn inputs_rise(objects: &[Object]) -> bool
-    ensures { IsTrue result → InputsRise 0 objects.now }
-{
-    let mut last = 0;
-    for object in objects {
-        if object.input <= last || object.input >= 1 << 20 {
-            return false;
-        }
-        last = object.input;
-    }
-    true
-}
-
-/// What is meant by the first symbols of the first two inputs, how many imports there are, and whether the first is of `env`.
+/// What is meant by the first symbols of the inputs 1 and 2, how many imports there are, and whether the first is of `env`.
 #[derive(Clone, Copy, Debug, PartialEq, Eq)]
 struct Meant {
     first: Meaning,
@@ -82,17 +54,28 @@ fn own(input: u32) -> Meaning {
     Meaning::Here { input, symbol: 0 }
 }
 
-/// What is meant by the first symbol of an input.
-fn first_of(resolution: &Resolution, input: usize) -> Option<Meaning> {
-    resolution.rows.get(input)?.first().copied()
+/// What is meant by the first symbol of an object.
+#[tactic(auto, using(crate::proofs::Meant::first_is_meant))]
+fn first_of(resolution: &Resolution, objects: &[Object], at: usize) -> Option<Meaning>
+    requires { AreMeant resolution.now.rows objects.now }
+{
+    let Some(object) = objects.get(at) else {
+        return None;
+    };
+    if object.symbols.len() == 0 {
+        return None;
+    }
+    Some(resolution.meaning(object.input, 0))
 }
 
 /// What is compared.
-fn summary(resolution: &Resolution) -> Option<Meant> {
+fn summary(resolution: &Resolution, objects: &[Object]) -> Option<Meant>
+    requires { AreMeant resolution.now.rows objects.now }
+{
     let imports = resolution.imports();
     Some(Meant {
-        first: first_of(resolution, 1)?,
-        second: first_of(resolution, 2)?,
+        first: first_of(resolution, objects, 0)?,
+        second: first_of(resolution, objects, 1)?,
         imports,
         of_env: imports > 0 && resolution.import(0).0 == b"env".as_slice(),
     })
@@ -123,7 +106,8 @@ fn resolved<R: Threads + Sync>(
     let Ok(resolution) = resolve(alloc, entries, &winners, allow_undefined, Mode::Plain) else {
         return None;
     };
-    summary(&resolution)
+    resolved_is_meant();
+    summary(&resolution, objects)
 }
 
 /// What the symbols of these files mean.
@@ -183,6 +167,6 @@ fn rules_in_their_order(rt: HostRuntime) {
             imports,
             of_env: imports > 0,
         };
-        assert_eq!(rt; meant_by(&rt, rt.alloc(), &files, allow), Some(meant));
+        assert!(rt; meant_by(&rt, rt.alloc(), &files, allow) == Some(meant));
     }
 }

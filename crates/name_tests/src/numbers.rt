@@ -1,11 +1,10 @@
-use super::*;
+//! Names by number, in the order in which they are met.
+
+use crate::objects::nothing;
+use link_names::Names;
 use made_symbols::Mode;
-use object_file::{
-    FuncTypes, Functions, Group, Imports, LOCAL, Object, Segments, SymbolKind, SymbolRef, Symbols,
-    UNDEFINED,
-};
+use object_file::{Group, LOCAL, Object, SymbolKind, SymbolRef, Symbols, UNDEFINED};
 use std::alloc::Global;
-use std::test::Fail;
 use wl_base::{Name, NameFault, OutOfMemory, Seq};
 
 fn symbol(kind: SymbolKind, flags: u32, name: Option<&[u8]>) -> SymbolRef<'_> {
@@ -19,33 +18,27 @@ fn symbol(kind: SymbolKind, flags: u32, name: Option<&[u8]>) -> SymbolRef<'_> {
     }
 }
 
-/// A section's symbol, a local `l`, a definition `f`, a local reference `g`, and a group `f`.
-fn symbols_of(alloc: Global) -> Result<Symbols, OutOfMemory> {
-    let mut symbols = Symbols::new(alloc);
-    symbols.push(symbol(SymbolKind::Section, LOCAL, None))?;
-    symbols.push(symbol(SymbolKind::Function, LOCAL, Some(b"l".as_slice())))?;
-    symbols.push(symbol(SymbolKind::Function, 0, Some(b"f".as_slice())))?;
-    symbols.push(symbol(SymbolKind::Datum, LOCAL | UNDEFINED, Some(b"g".as_slice())))?;
-    Ok(symbols)
+/// A section's symbol, a local `l`, a definition `f` and a local reference `g`.
+fn add_symbols(to: &mut Symbols) -> Result<(), OutOfMemory> {
+    to.push(symbol(SymbolKind::Section, LOCAL, None))?;
+    to.push(symbol(SymbolKind::Function, LOCAL, Some(b"l".as_slice())))?;
+    to.push(symbol(SymbolKind::Function, 0, Some(b"f".as_slice())))?;
+    to.push(symbol(SymbolKind::Datum, LOCAL | UNDEFINED, Some(b"g".as_slice())))
 }
 
-fn object_of(alloc: Global, input: u32, group: &[u8]) -> Result<Object, OutOfMemory> {
-    let mut groups = Seq::new(alloc);
-    groups.push(Group {
-        name: Seq::from_slice(alloc, group)?,
-        members: Seq::new(alloc),
-    })?;
-    Ok(Object {
-        input,
-        types: FuncTypes::new(alloc),
-        imports: Imports::new(alloc),
-        functions: Functions::new(alloc),
-        globals: Seq::new(alloc),
-        segments: Segments::new(alloc),
-        symbols: symbols_of(alloc)?,
-        inits: Seq::new(alloc),
-        groups,
-    })
+/// A group without members.
+fn group(alloc: Global, name: &[u8]) -> Result<Group, OutOfMemory> {
+    let name = Seq::from_slice(alloc, name)?;
+    let members = Seq::new(alloc);
+    Ok(Group { name, members })
+}
+
+/// An object with these symbols and one group.
+fn object_of(alloc: Global, input: u32, name: &[u8]) -> Result<Object, OutOfMemory> {
+    let mut object = nothing(alloc, input);
+    add_symbols(&mut object.symbols)?;
+    object.groups.push(group(alloc, name)?)?;
+    Ok(object)
 }
 
 fn objects_of(alloc: Global) -> Result<Seq<Object>, OutOfMemory> {
@@ -94,18 +87,17 @@ fn told(
     Ok(numbers(&names))
 }
 
-#[test]
-fn names_are_numbered_in_their_order(rt: HostRuntime) -> Result<(), Fail> {
+fn are_numbered(alloc: Global) -> bool {
     let made = made_symbols::count(Mode::Plain);
     let all = made.wrapping_add(4);
-    let (symbols, groups, others, count) = told(rt.alloc(), all).map_err(|_| "not numbered")?;
-    assert_eq!(rt;
-        symbols,
-        [None, None, Some(made), Some(made.wrapping_add(1))]
-    );
-    assert_eq!(rt; groups, [Some(made), Some(made.wrapping_add(2))]);
-    assert_eq!(rt; others, [Some(1), Some(made.wrapping_add(3))]);
-    assert_eq!(rt; count, all);
-    assert!(rt; told(rt.alloc(), made.wrapping_add(3)) == Err(NameFault::TooMany));
-    Ok(())
+    let symbols = [None, None, Some(made), Some(made.wrapping_add(1))];
+    let groups = [Some(made), Some(made.wrapping_add(2))];
+    let others = [Some(1), Some(made.wrapping_add(3))];
+    told(alloc, all) == Ok((symbols, groups, others, all))
+        && told(alloc, made.wrapping_add(3)) == Err(NameFault::TooMany)
+}
+
+#[test]
+fn names_are_numbered_in_their_order(rt: HostRuntime) {
+    assert!(rt; are_numbered(rt.alloc()));
 }

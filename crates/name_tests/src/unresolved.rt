@@ -1,17 +1,17 @@
 //! Two objects, of which some chunks are live.
 ghost use Rattle.std.specs.Prelude.{◌≡◌, ◌<◌, length, IsTrue};
 ghost use Rattle.mark_bits.specs.Seats.{IsSeatOf};
-ghost use Rattle.name_entries.specs.View.{InputsRise};
 ghost use Rattle.name_meanings.specs.Means.{row_of};
 ghost use Rattle.name_unresolved.specs.Unresolved.{AreMeant};
 
-use crate::first_unresolved;
+use crate::objects::{inputs_rise, nothing};
 use mark_bits::{Chunk, ChunkTable, MarkBits, MarkSeat, MarkSet};
 use name_entries::{
-    FuncTypes, FunctionRef, Functions, Imports, InitFunc, Meaning, Object, Operand, Operands,
-    Reloc, SegmentRef, Segments, SymbolKind, SymbolRef, Symbols, UNDEFINED,
+    FunctionRef, Functions, InitFunc, Meaning, Object, Operand, Operands, Reloc, SegmentRef,
+    Segments, SymbolKind, SymbolRef, Symbols, UNDEFINED,
 };
 use name_meanings::Resolution;
+use name_unresolved::first_unresolved;
 use std::alloc::Global;
 use std::test::Fail;
 use std::thread::Threads;
@@ -23,10 +23,9 @@ const SPAN: Span = Span { start: 0, len: 20 };
 // ---- objects
 
 /// Symbol 0 is defined, and the others aren't.
-fn symbols(alloc: Global) -> Result<Symbols, OutOfMemory> {
-    let mut symbols = Symbols::new(alloc);
+fn add_symbols(to: &mut Symbols) -> Result<(), OutOfMemory> {
     for flags in [0, UNDEFINED, UNDEFINED, UNDEFINED] {
-        symbols.push(SymbolRef {
+        to.push(SymbolRef {
             kind: SymbolKind::Function,
             flags,
             name: None,
@@ -35,92 +34,77 @@ fn symbols(alloc: Global) -> Result<Symbols, OutOfMemory> {
             size: 0,
         })?;
     }
-    Ok(symbols)
+    Ok(())
 }
 
-/// A function that names symbols 2 and 3.
-fn functions(alloc: Global) -> Result<Functions, OutOfMemory> {
-    let mut operands = Operands::new(alloc);
-    operands.push(Operand::Number)?;
+fn add_operands(to: &mut Operands) -> Result<(), OutOfMemory> {
+    to.push(Operand::Number)?;
     for symbol in [2, 3] {
-        operands.push(Operand::Symbol {
+        to.push(Operand::Symbol {
             kind: 0,
             place: 1,
             symbol,
             addend: 0,
         })?;
     }
-    let mut functions = Functions::new(alloc);
-    functions.push(FunctionRef {
+    Ok(())
+}
+
+/// A function that names symbols 2 and 3.
+fn add_function(alloc: Global, to: &mut Functions) -> Result<(), OutOfMemory> {
+    let mut operands = Operands::new(alloc);
+    add_operands(&mut operands)?;
+    to.push(FunctionRef {
         type_index: 0,
         span: SPAN,
         operands: operands.as_ref(),
         export_name: None,
-    })?;
-    Ok(functions)
+    })
+}
+
+fn window(index: u32) -> Reloc {
+    Reloc {
+        kind: 5,
+        offset: index.wrapping_mul(4),
+        index,
+        addend: 0,
+    }
 }
 
 /// A data segment that names them too.
-fn segments(alloc: Global) -> Result<Segments, OutOfMemory> {
-    let mut windows = Seq::new(alloc);
-    for index in [2, 3] {
-        windows.push(Reloc {
-            kind: 5,
-            offset: 4 * index,
-            index,
-            addend: 0,
-        })?;
-    }
-    let mut segments = Segments::new(alloc);
-    segments.push(SegmentRef {
+fn add_segment(to: &mut Segments) -> Result<(), OutOfMemory> {
+    let windows = [window(2), window(3)];
+    to.push(SegmentRef {
         span: SPAN,
         name: b".data".as_slice(),
         align: 0,
         flags: 0,
-        windows: windows.as_slice(),
-    })?;
-    Ok(segments)
+        windows: &windows,
+    })
 }
 
 /// Symbols 0 and 1.
-fn inits(alloc: Global) -> Result<Seq<InitFunc>, OutOfMemory> {
-    let mut inits = Seq::new(alloc);
+fn add_inits(to: &mut Seq<InitFunc>) -> Result<(), OutOfMemory> {
     for symbol in [0, 1] {
-        inits.push(InitFunc {
+        to.push(InitFunc {
             priority: 0,
             symbol,
         })?;
     }
-    Ok(inits)
+    Ok(())
 }
 
-fn object_of(
-    alloc: Global,
-    input: InputId,
-    functions: Functions,
-    segments: Segments,
-    symbols: Symbols,
-    inits: Seq<InitFunc>,
-) -> Object {
-    Object {
-        input,
-        types: FuncTypes::new(alloc),
-        imports: Imports::new(alloc),
-        functions,
-        globals: Seq::new(alloc),
-        segments,
-        symbols,
-        inits,
-        groups: Seq::new(alloc),
-    }
+fn add_parts(alloc: Global, to: &mut Object) -> Result<(), OutOfMemory> {
+    add_symbols(&mut to.symbols)?;
+    add_function(alloc, &mut to.functions)?;
+    add_segment(&mut to.segments)?;
+    add_inits(&mut to.inits)
 }
 
 fn object(alloc: Global, input: InputId) -> Result<Object, OutOfMemory> {
-    let functions = functions(alloc)?;
-    let segments = segments(alloc)?;
-    let symbols = symbols(alloc)?;
-    let inits = inits(alloc)?;
-    Ok(object_of(alloc, input, functions, segments, symbols, inits))
+    let mut object = nothing(alloc, input);
+    add_parts(alloc, &mut object)?;
+    Ok(object)
 }
 
 /// Symbol 2 is null, and the others mean nothing.
@@ -136,18 +120,6 @@ fn rows(alloc: Global) -> Result<Lists<Meaning>, OutOfMemory> {
     rows.push(&row)?;
     rows.push(&row)?;
     Ok(rows)
-}
-
-/// Whether the inputs rise, and are below 2^20.
-fn inputs_rise(last: InputId, objects: &[Object]) -> bool
-    ensures { IsTrue result → InputsRise last objects.now }
-{
-    match objects {
-        [] => true,
-        [first, rest @ ..] => {
-            last < first.input && first.input < 1 << 20 && inputs_rise(first.input, rest)
-        }
-    }
 }
 
 /// How many meanings an input has.
@@ -229,7 +201,7 @@ fn first_of<R: Threads + Sync>(
     chunks: &ChunkTable,
 ) -> Result<Option<Option<(InputId, u32)>>, OutOfMemory> {
     let fit = live.chunks == chunks.count();
-    if !fit || !inputs_rise(0, objects) || !are_meant(objects, &rows) {
+    if !fit || !inputs_rise(objects) || !are_meant(objects, &rows) {
         return Ok(None);
     }
     let resolution = Resolution::of_rows(alloc, rows);
@@ -237,17 +209,30 @@ fn first_of<R: Threads + Sync>(
     Ok(Some(first))
 }
 
-/// The first unresolved symbol, where these chunks are live.
-fn told<R: Threads + Sync>(
+/// The first unresolved symbol of these objects, where these chunks are live.
+fn seen<R: Threads + Sync>(
+    rt: &R,
+    alloc: Global,
+    objects: &[Object],
+    chunks: &ChunkTable,
+    are_live: [bool; 3],
+) -> Result<Option<Option<(InputId, u32)>>, OutOfMemory> {
+    let live = live_of(alloc, are_live)?;
+    let rows = rows(alloc)?;
+    first_of(rt, alloc, objects, rows, &live, chunks)
+}
+
+/// Whether this is told where these chunks are live.
+fn is_told<R: Threads + Sync>(
     rt: &R,
     alloc: Global,
     are_live: [bool; 3],
-) -> Result<Option<Option<(InputId, u32)>>, OutOfMemory> {
+    first: Option<(InputId, u32)>,
+) -> Result<bool, OutOfMemory> {
     let objects = objects(alloc)?;
-    let rows = rows(alloc)?;
     let chunks = chunks(alloc)?;
-    let live = live_of(alloc, are_live)?;
-    first_of(rt, alloc, objects.as_slice(), rows, &live, &chunks)
+    let told = seen(rt, alloc, objects.as_slice(), &chunks, are_live)?;
+    Ok(told == Some(first))
 }
 
 #[test]
@@ -261,7 +246,7 @@ fn the_least_symbol_of_live_chunks_is_told(rt: HostRuntime) -> Result<(), Fail> 
         ([true, false, false], Some((1, 1))),
         ([true, true, true], Some((1, 1))),
     ] {
-        assert_eq!(rt; told(&rt, rt.alloc(), are_live)?, Some(first));
+        assert!(rt; is_told(&rt, rt.alloc(), are_live, first)?);
     }
     Ok(())
 }

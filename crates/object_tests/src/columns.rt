@@ -1,3 +1,5 @@
+//! Columns of an object: what is pushed comes back, and nothing behind it.
+
 use body_windows::{Operand, Operands};
 use linking_section::SymbolKind;
 use object_columns::{

@@ -1,3 +1,5 @@
+//! Objects, read whole: what is told of spelled bytes, and the first fault of others.
+
 use object_file::{Object, ObjectError, read_object};
 use object_rules::{Operand, Reloc};
 use std::alloc::Global;
@@ -28,6 +30,26 @@ fn broken(part: Part) -> Option<Fault> {
     Some(Fault::Malformed { input: 1, part })
 }
 
+/// Whether each of these objects has this item, which isn't linked.
+fn are_foreign(alloc: Global, cases: &[(&[u8], Item)]) -> bool {
+    for (bytes, item) in cases {
+        if fault_of(alloc, bytes) != foreign(*item) {
+            return false;
+        }
+    }
+    true
+}
+
+/// Whether this is the first rule that each of these objects breaks.
+fn break_rules(alloc: Global, cases: &[(&[u8], u8)]) -> bool {
+    for (bytes, rule) in cases {
+        if fault_of(alloc, bytes) != broken(Part::Cross(*rule)) {
+            return false;
+        }
+    }
+    true
+}
+
 /// The object of two functions, of which `f` calls `g`, which gives 7.
 fn call_object() -> &'static [u8] {
     b"\0asm\x01\0\0\0\x01\x05\x01`\0\x01\x7f\x03\x03\x02\0\0\x0a\x0f\x02\x08\0\x10\x81\x80\x80\x80\0\x0b\x04\0A\x07\x0b\0\x16\x07linking\x02\x08\x0b\x02\0\0\0\x01f\0\0\x01\x01g\0\x10\x0areloc.CODE\x02\x01\0\x04\x01".as_slice()
@@ -35,7 +57,6 @@ fn call_object() -> &'static [u8] {
 
 #[test]
 fn items_that_are_not_linked_are_named(rt: HostRuntime) {
-    let alloc = rt.alloc();
     let cases = [
         // a tag section
         (b"\0asm\x01\0\0\0\x0d\0".as_slice(), Item::TagSection),
@@ -152,14 +173,11 @@ fn items_that_are_not_linked_are_named(rt: HostRuntime) {
             Item::SharedModule,
         ),
     ];
-    for (bytes, item) in cases {
-        assert_eq!(rt; fault_of(alloc, bytes), foreign(item));
-    }
+    assert!(rt; are_foreign(rt.alloc(), &cases));
 }
 
 #[test]
 fn sections_that_disagree_are_refused(rt: HostRuntime) {
-    let alloc = rt.alloc();
     let cases = [
         // no section linking
         (
@@ -252,14 +270,11 @@ fn sections_that_disagree_are_refused(rt: HostRuntime) {
             7,
         ),
     ];
-    for (bytes, rule) in cases {
-        assert_eq!(rt; fault_of(alloc, bytes), broken(Part::Cross(rule)));
-    }
+    assert!(rt; break_rules(rt.alloc(), &cases));
 }
 
 #[test]
 fn relocations_that_disagree_are_refused(rt: HostRuntime) {
-    let alloc = rt.alloc();
     let cases = [
         // two groups of one name
         (
@@ -352,30 +367,29 @@ fn relocations_that_disagree_are_refused(rt: HostRuntime) {
             12,
         ),
     ];
-    for (bytes, rule) in cases {
-        assert_eq!(rt; fault_of(alloc, bytes), broken(Part::Cross(rule)));
-    }
+    assert!(rt; break_rules(rt.alloc(), &cases));
 }
 
-#[test]
-fn broken_bytes_are_refused_by_their_place(rt: HostRuntime) {
-    let alloc = rt.alloc();
+fn places_are_told(alloc: Global) -> bool {
     // a count past the end of its section
-    let bytes = b"\0asm\x01\0\0\0\x01\x05\xff\xff\xff\xff\x0f".as_slice();
-    assert_eq!(rt; fault_of(alloc, bytes), broken(Part::Section(0)));
+    let long = b"\0asm\x01\0\0\0\x01\x05\xff\xff\xff\xff\x0f".as_slice();
     // a size past the end of the file
-    let bytes = b"\0asm\x01\0\0\0\x01\x06\0".as_slice();
-    assert_eq!(rt; fault_of(alloc, bytes), broken(Part::Frame));
+    let cut = b"\0asm\x01\0\0\0\x01\x06\0".as_slice();
     // a broken value type before one that isn't linked
-    let bytes = b"\0asm\x01\0\0\0\x01\x05\x01`\x02\x01{".as_slice();
-    assert_eq!(rt; fault_of(alloc, bytes), broken(Part::Section(0)));
+    let value = b"\0asm\x01\0\0\0\x01\x05\x01`\x02\x01{".as_slice();
     // the second of two sections
-    let bytes = b"\0asm\x01\0\0\0\x01\x04\x01`\0\0\x03\x02\x02\0".as_slice();
-    assert_eq!(rt; fault_of(alloc, bytes), broken(Part::Section(1)));
+    let second = b"\0asm\x01\0\0\0\x01\x04\x01`\0\0\x03\x02\x02\0".as_slice();
     // a custom section without a name
-    let bytes = b"\0asm\x01\0\0\0\0\x03\x02\xff\xff".as_slice();
-    assert_eq!(rt; fault_of(alloc, bytes), broken(Part::Section(0)));
-    // each cut: at the ends of sections the rest is missing, and else the frame is broken
+    let nameless = b"\0asm\x01\0\0\0\0\x03\x02\xff\xff".as_slice();
+    fault_of(alloc, long) == broken(Part::Section(0))
+        && fault_of(alloc, cut) == broken(Part::Frame)
+        && fault_of(alloc, value) == broken(Part::Section(0))
+        && fault_of(alloc, second) == broken(Part::Section(1))
+        && fault_of(alloc, nameless) == broken(Part::Section(0))
+}
+
+/// Whether each cut of the object of two functions is told: at the ends of sections the rest is missing, and else the frame is broken.
+fn cuts_are_told(alloc: Global) -> bool {
     let whole = call_object();
     for len in 0..whole.len() {
         let part = match len {
@@ -383,8 +397,17 @@ fn broken_bytes_are_refused_by_their_place(rt: HostRuntime) {
             61 => Part::Cross(12),
             _ => Part::Frame,
         };
-        assert_eq!(rt; fault_of(alloc, &whole[..len]), broken(part));
+        if fault_of(alloc, &whole[..len]) != broken(part) {
+            return false;
+        }
     }
+    true
+}
+
+#[test]
+fn broken_bytes_are_refused_by_their_place(rt: HostRuntime) {
+    assert!(rt; places_are_told(rt.alloc()));
+    assert!(rt; cuts_are_told(rt.alloc()));
 }
 
 /// An object with every section that is linked.
@@ -392,13 +415,21 @@ fn whole_object() -> &'static [u8] {
     b"\0asm\x01\0\0\0\x01\x0a\x02`\0\0`\x02}|\x01~\x02[\x04\x03env\x0f__linear_memory\x02\0\x01\x03env\x19__indirect_function_table\x01p\0\0\x03env\x0f__stack_pointer\x03\x7f\x01\x03env\x03ext\0\0\x03\x03\x02\0\x01\x06\x06\x01\x7f\0A*\x0b\x09\x07\x01\0A\x01\x0b\x01\x01\x0a5\x02,\0#\x80\x80\x80\x80\0A\x88\x80\x80\x80\06\x02\x84\x80\x80\x80\0\x10\x80\x80\x80\x80\0A\x80\x80\x80\x80\0\x11\x80\x80\x80\x80\0\x80\x80\x80\x80\0\x0b\x06\x01\x01\x7fB\x07\x0b\x0b\x15\x02\0A\0\x0b\x08abcdefgh\0A\x08\x0b\x02xy\0F\x07linking\x02\x08\x1d\x07\0\x10\0\0\0\x01\x01f\x02\x10\0\x01\0\x01d\0\x04\x04\x05\x10\0\x01\x11\x01u\x03\x02\x06\x05\x09\x01\x05.data\x02\0\x06\x03\x01\x07\x01c\x01?\x07\x09\x01\x01g\0\x02\x01\x02\0\x01\0$\x0areloc.CODE\x05\x07\x07\x04\x02\x04\x0a\x03|\x03\x11\x05\x08\0\x17\0\x01\x1d\x01\x06#\0\x14(\x04\0\x14\x0areloc.DATA\x06\x02\x02\x06\x01\x05\x0a\x03\x01\0\x0b\x09producersx\0\x10\x0b.debug_info????\0\x16\x11reloc..debug_info\x0b\x01\xff\xff".as_slice()
 }
 
-/// How many types, imports, functions, globals, segments, symbols, init functions and groups there
-/// are.
-fn lengths(alloc: Global, bytes: &[u8]) -> Option<[usize; 8]> {
-    match read_object(alloc, 1, bytes) {
-        Ok(object) => Some(lengths_of(&object)),
-        Err(_) => None,
-    }
+/// What is looked at in an object that was read.
+#[derive(Clone, Copy)]
+enum Look<'a> {
+    /// How many types, imports, functions, globals, segments, symbols, init functions and groups there are.
+    Lengths([usize; 8]),
+    /// A symbol's name, where it has one.
+    Symbol(usize, Option<&'a [u8]>),
+    /// Where a function's body stands, and the name by which it is exported.
+    Function(usize, Span, Option<&'a [u8]>),
+    /// The operands of the first function.
+    Operands(&'a [Operand]),
+    /// Where a segment stands, how long its name is, and its alignment.
+    Segment(usize, Span, usize, u32),
+    /// The windows of a segment.
+    Windows(usize, &'a [Reloc]),
 }
 
 fn lengths_of(object: &Object) -> [usize; 8] {
@@ -414,48 +445,17 @@ fn lengths_of(object: &Object) -> [usize; 8] {
     ]
 }
 
-/// Whether a symbol has this name.
-fn is_named(alloc: Global, bytes: &[u8], at: usize, name: &[u8]) -> bool {
-    match read_object(alloc, 1, bytes) {
-        Ok(object) => name_of(&object, at) == Some(name),
-        Err(_) => false,
+fn is_named(object: &Object, at: usize, name: Option<&[u8]>) -> bool {
+    match object.symbols.get(at) {
+        Some(symbol) => symbol.name == name,
+        None => false,
     }
 }
 
-fn name_of(object: &Object, at: usize) -> Option<&[u8]> {
-    object.symbols.get(at)?.name
-}
-
-/// Where a function's body stands, and whether it is exported.
-fn function(alloc: Global, bytes: &[u8], at: usize) -> Option<(Span, bool)> {
-    match read_object(alloc, 1, bytes) {
-        Ok(object) => function_of(&object, at),
-        Err(_) => None,
-    }
-}
-
-fn function_of(object: &Object, at: usize) -> Option<(Span, bool)> {
-    let function = object.functions.get(at)?;
-    Some((function.span, function.export_name.is_some()))
-}
-
-/// Whether a function is exported under this name.
-fn is_exported(alloc: Global, bytes: &[u8], at: usize, name: &[u8]) -> bool {
-    match read_object(alloc, 1, bytes) {
-        Ok(object) => export_name_of(&object, at) == Some(name),
-        Err(_) => false,
-    }
-}
-
-fn export_name_of(object: &Object, at: usize) -> Option<&[u8]> {
-    object.functions.get(at)?.export_name
-}
-
-/// Whether the first function has these operands.
-fn has_operands(alloc: Global, bytes: &[u8], operands: &[Operand]) -> bool {
-    match read_object(alloc, 1, bytes) {
-        Ok(object) => operands_are(alloc, &object, operands),
-        Err(_) => false,
+fn function_is(object: &Object, at: usize, span: Span, export: Option<&[u8]>) -> bool {
+    match object.functions.get(at) {
+        Some(function) => function.span == span && function.export_name == export,
+        None => false,
     }
 }
 
@@ -469,24 +469,12 @@ fn operands_are(alloc: Global, object: &Object, operands: &[Operand]) -> bool {
     }
 }
 
-/// Where a segment stands, how long its name is, and its alignment.
-fn segment(alloc: Global, bytes: &[u8], at: usize) -> Option<(Span, usize, u32)> {
-    match read_object(alloc, 1, bytes) {
-        Ok(object) => segment_of(&object, at),
-        Err(_) => None,
-    }
-}
-
-fn segment_of(object: &Object, at: usize) -> Option<(Span, usize, u32)> {
-    let segment = object.segments.get(at)?;
-    Some((segment.span, segment.name.len(), segment.align))
-}
-
-/// Whether a segment has these windows.
-fn has_windows(alloc: Global, bytes: &[u8], at: usize, windows: &[Reloc]) -> bool {
-    match read_object(alloc, 1, bytes) {
-        Ok(object) => windows_are(&object, at, windows),
-        Err(_) => false,
+fn segment_is(object: &Object, at: usize, span: Span, name: usize, align: u32) -> bool {
+    match object.segments.get(at) {
+        Some(segment) => {
+            segment.span == span && segment.name.len() == name && segment.align == align
+        }
+        None => false,
     }
 }
 
@@ -494,6 +482,25 @@ fn windows_are(object: &Object, at: usize, windows: &[Reloc]) -> bool {
     match object.segments.get(at) {
         Some(segment) => segment.windows == windows,
         None => false,
+    }
+}
+
+fn has(alloc: Global, object: &Object, look: Look) -> bool {
+    match look {
+        Look::Lengths(lengths) => lengths_of(object) == lengths,
+        Look::Symbol(at, name) => is_named(object, at, name),
+        Look::Function(at, span, export) => function_is(object, at, span, export),
+        Look::Operands(operands) => operands_are(alloc, object, operands),
+        Look::Segment(at, span, name, align) => segment_is(object, at, span, name, align),
+        Look::Windows(at, windows) => windows_are(object, at, windows),
+    }
+}
+
+/// Whether these bytes are an object that has this.
+fn is_read(alloc: Global, bytes: &[u8], look: Look) -> bool {
+    match read_object(alloc, 1, bytes) {
+        Ok(object) => has(alloc, &object, look),
+        Err(_) => false,
     }
 }
 
@@ -515,40 +522,31 @@ fn window(kind: u8, offset: u32, index: u32, addend: i32) -> Reloc {
     }
 }
 
-#[test]
-fn an_object_with_every_section_is_read(rt: HostRuntime) {
-    let alloc = rt.alloc();
-    let bytes = whole_object();
-    assert_eq!(rt; lengths(alloc, bytes), Some([2, 4, 2, 1, 2, 7, 1, 1]));
-    // names of symbols, those of imports among them
-    assert_eq!(rt; is_named(alloc, bytes, 0, b"ext".as_slice()), true);
-    assert_eq!(rt; is_named(alloc, bytes, 1, b"f".as_slice()), true);
-    assert_eq!(rt;
-        is_named(alloc, bytes, 2, b"__stack_pointer".as_slice()),
-        true
-    );
-    assert_eq!(rt;
-        is_named(alloc, bytes, 4, b"__indirect_function_table".as_slice()),
-        true
-    );
-    assert_eq!(rt; is_named(alloc, bytes, 5, b"u".as_slice()), true);
-    assert_eq!(rt; is_named(alloc, bytes, 6, b"".as_slice()), false);
+fn span(start: u64, len: u64) -> Span {
+    Span { start, len }
+}
+
+/// Whether the symbols have their names, those of imports among them, and the section's none.
+fn symbols_are_named(alloc: Global, bytes: &[u8]) -> bool {
+    let stack = b"__stack_pointer".as_slice();
+    let table = b"__indirect_function_table".as_slice();
+    is_read(alloc, bytes, Look::Symbol(0, Some(b"ext".as_slice())))
+        && is_read(alloc, bytes, Look::Symbol(1, Some(b"f".as_slice())))
+        && is_read(alloc, bytes, Look::Symbol(2, Some(stack)))
+        && is_read(alloc, bytes, Look::Symbol(4, Some(table)))
+        && is_read(alloc, bytes, Look::Symbol(5, Some(b"u".as_slice())))
+        && is_read(alloc, bytes, Look::Symbol(6, None))
 }
 
 #[test]
-fn operands_and_windows_are_placed(rt: HostRuntime) {
+fn an_object_with_every_section_is_read(rt: HostRuntime) {
     let alloc = rt.alloc();
-    let bytes = whole_object();
-    assert_eq!(rt;
-        function(alloc, bytes, 0),
-        Some((
-            Span {
-                start: 139,
-                len: 44
-            },
-            false
-        ))
-    );
+    let lengths = Look::Lengths([2, 4, 2, 1, 2, 7, 1, 1]);
+    assert!(rt; is_read(alloc, whole_object(), lengths));
+    assert!(rt; symbols_are_named(alloc, whole_object()));
+}
+
+fn operands_are_placed(alloc: Global, bytes: &[u8]) -> bool {
     let operands = [
         symbol(7, 2, 2, 0),
         symbol(4, 8, 3, -4),
@@ -561,37 +559,48 @@ fn operands_and_windows_are_placed(rt: HostRuntime) {
         },
         symbol(20, 38, 4, 0),
     ];
-    assert_eq!(rt; has_operands(alloc, bytes, &operands), true);
-    // a segment with an info and two windows, and one without
-    assert_eq!(rt;
-        segment(alloc, bytes, 0),
-        Some((Span { start: 198, len: 8 }, 5, 2))
-    );
+    is_read(alloc, bytes, Look::Function(0, span(139, 44), None))
+        && is_read(alloc, bytes, Look::Operands(&operands))
+}
+
+/// Whether a segment with an info has its two windows, and one without has none.
+fn windows_are_placed(alloc: Global, bytes: &[u8]) -> bool {
     let windows = [window(2, 0, 1, 0), window(5, 4, 3, 1)];
-    assert_eq!(rt; has_windows(alloc, bytes, 0, &windows), true);
-    assert_eq!(rt;
-        segment(alloc, bytes, 1),
-        Some((Span { start: 211, len: 2 }, 0, 0))
-    );
-    assert_eq!(rt; has_windows(alloc, bytes, 1, &[]), true);
+    is_read(alloc, bytes, Look::Segment(0, span(198, 8), 5, 2))
+        && is_read(alloc, bytes, Look::Windows(0, &windows))
+        && is_read(alloc, bytes, Look::Segment(1, span(211, 2), 0, 0))
+        && is_read(alloc, bytes, Look::Windows(1, &[]))
+}
+
+#[test]
+fn operands_and_windows_are_placed(rt: HostRuntime) {
+    assert!(rt; operands_are_placed(rt.alloc(), whole_object()));
+    assert!(rt; windows_are_placed(rt.alloc(), whole_object()));
+}
+
+/// The last export of a function gives its name.
+fn the_last_export_names(alloc: Global) -> bool {
+    let bytes =
+        b"\0asm\x01\0\0\0\x01\x05\x01`\0\x01\x7f\x03\x03\x02\0\0\x07\x09\x02\x01a\0\0\x01e\0\0\x0a\x0f\x02\x08\0\x10\x81\x80\x80\x80\0\x0b\x04\0A\x07\x0b\0\x16\x07linking\x02\x08\x0b\x02\0\0\0\x01f\0\0\x01\x01g\0\x10\x0areloc.CODE\x03\x01\0\x04\x01".as_slice();
+    is_read(
+        alloc,
+        bytes,
+        Look::Function(0, span(35, 8), Some(b"e".as_slice())),
+    ) && is_read(alloc, bytes, Look::Function(1, span(44, 4), None))
 }
 
 #[test]
 fn small_objects_are_read(rt: HostRuntime) {
     let alloc = rt.alloc();
-    let span = Span { start: 24, len: 8 };
-    assert_eq!(rt; function(alloc, call_object(), 0), Some((span, false)));
-    // the last export of a function gives its name
-    let bytes =
-        b"\0asm\x01\0\0\0\x01\x05\x01`\0\x01\x7f\x03\x03\x02\0\0\x07\x09\x02\x01a\0\0\x01e\0\0\x0a\x0f\x02\x08\0\x10\x81\x80\x80\x80\0\x0b\x04\0A\x07\x0b\0\x16\x07linking\x02\x08\x0b\x02\0\0\0\x01f\0\0\x01\x01g\0\x10\x0areloc.CODE\x03\x01\0\x04\x01".as_slice();
-    assert_eq!(rt; is_exported(alloc, bytes, 0, b"e".as_slice()), true);
-    assert_eq!(rt; is_exported(alloc, bytes, 1, b"e".as_slice()), false);
+    let call = Look::Function(0, span(24, 8), None);
+    assert!(rt; is_read(alloc, call_object(), call));
+    assert!(rt; the_last_export_names(alloc));
     // as clang writes it, with long sizes and a custom section
     let bytes =
         b"\0asm\x01\0\0\0\x01\x86\x80\x80\x80\0\x01`\x01\x7f\x01\x7f\x02\x98\x80\x80\x80\0\x01\x03env\x0f__linear_memory\x02\0\0\x03\x82\x80\x80\x80\0\x01\0\x0a\x89\x80\x80\x80\0\x01\x07\0 \0A\x01j\x0b\0\x95\x80\x80\x80\0\x07linking\x02\x08\x86\x80\x80\x80\0\x01\0\x04\0\x01f\0\xad\x80\x80\x80\0\x09producers\x01\x0cprocessed-by\x01\x0cDebian clang\x0614.0.6".as_slice();
-    assert_eq!(rt; lengths(alloc, bytes), Some([1, 1, 1, 0, 0, 1, 0, 0]));
+    assert!(rt; is_read(alloc, bytes, Look::Lengths([1, 1, 1, 0, 0, 1, 0, 0])));
     // a function of a float, and the sum of two i64
     let bytes =
         b"\0asm\x01\0\0\0\x01\x0b\x02`\x01|\0`\x02~~\x01~\x03\x03\x02\0\x01\x0a\x0f\x02\x05\0 \0\x1a\x0b\x07\0 \0 \x01|\x0b\0\x09\x07linking\x02".as_slice();
-    assert_eq!(rt; lengths(alloc, bytes), Some([2, 0, 2, 0, 0, 0, 0, 0]));
+    assert!(rt; is_read(alloc, bytes, Look::Lengths([2, 0, 2, 0, 0, 0, 0, 0])));
 }

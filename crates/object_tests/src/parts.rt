@@ -1,3 +1,5 @@
+//! The parts of an object, section by section, and the first section that is at fault.
+
 use object_parts::{DataPart, Parts, PartsFault, SectionStop, parts_of};
 use std::alloc::Global;
 use wasm_grammar::Stop;
@@ -116,48 +118,62 @@ fn stopped(section: u32, stop: Stop) -> Option<PartsFault> {
     Some(PartsFault::Stopped(SectionStop { section, stop }))
 }
 
-#[test]
-fn sections_are_read_in_file_order(rt: HostRuntime) {
-    let alloc = rt.alloc();
-    // f calls g, which gives 7
+/// The object of two functions, of which `f` calls `g`, which gives 7.
+fn calls_are_read(alloc: Global) -> bool {
     let bytes =
         b"\0asm\x01\0\0\0\x01\x05\x01`\0\x01\x7f\x03\x03\x02\0\0\x0a\x0f\x02\x08\0\x10\x81\x80\x80\x80\0\x0b\x04\0A\x07\x0b\0\x16\x07linking\x02\x08\x0b\x02\0\0\0\x01f\0\0\x01\x01g\0\x10\x0areloc.CODE\x02\x01\0\x04\x01".as_slice();
-    assert_eq!(rt; lengths(alloc, bytes), Some([1, 2, 2, 0, 1]));
-    assert_eq!(rt; metadata(alloc, bytes), Some((true, true)));
-    let spans = [Span { start: 24, len: 8 }, Span { start: 33, len: 4 }];
-    let both = [Some((spans[0], true)), Some((spans[1], true))];
-    assert_eq!(rt; bodies(alloc, bytes), Some(both));
-    assert_eq!(rt; relocs(alloc, bytes), Some((2, 1)));
-    // relocations before the section linking, and a second one of those
-    let bytes = b"\0asm\x01\0\0\0\0\x0d\x0areloc.CODE\x02\0\0\x09\x07linking\x02".as_slice();
-    assert_eq!(rt; metadata(alloc, bytes), Some((true, false)));
-    let bytes = b"\0asm\x01\0\0\0\0\x09\x07linking\x02\0\x09\x07linking\x02".as_slice();
-    assert_eq!(rt; metadata(alloc, bytes), Some((true, false)));
-    // relocations of a custom section, which aren't read
-    let bytes =
+    let both = [
+        Some((Span { start: 24, len: 8 }, true)),
+        Some((Span { start: 33, len: 4 }, true)),
+    ];
+    lengths(alloc, bytes) == Some([1, 2, 2, 0, 1])
+        && metadata(alloc, bytes) == Some((true, true))
+        && bodies(alloc, bytes) == Some(both)
+        && relocs(alloc, bytes) == Some((2, 1))
+}
+
+/// Relocations before the section `linking`, a second one of those, and relocations of a custom section, which aren't read.
+fn metadata_are_read(alloc: Global) -> bool {
+    let early = b"\0asm\x01\0\0\0\0\x0d\x0areloc.CODE\x02\0\0\x09\x07linking\x02".as_slice();
+    let twice = b"\0asm\x01\0\0\0\0\x09\x07linking\x02\0\x09\x07linking\x02".as_slice();
+    let custom =
         b"\0asm\x01\0\0\0\0\x09\x07linking\x02\0\x07\x06.debug\0\x0f\x0creloc..debug\x01\xff".as_slice();
-    assert_eq!(rt; relocs(alloc, bytes), Some((1, 0)));
-    // a global and a segment
-    let bytes = b"\0asm\x01\0\0\0\x06\x06\x01\x7f\0A*\x0b\x0b\x08\x01\0A\0\x0b\x02xy".as_slice();
-    assert_eq!(rt; global_span(alloc, bytes), Some(Span { start: 13, len: 3 }));
+    metadata(alloc, early) == Some((true, false))
+        && metadata(alloc, twice) == Some((true, false))
+        && relocs(alloc, custom) == Some((1, 0))
+}
+
+/// A global and a segment; an element segment and two exports.
+fn items_are_read(alloc: Global) -> bool {
+    let data = b"\0asm\x01\0\0\0\x06\x06\x01\x7f\0A*\x0b\x0b\x08\x01\0A\0\x0b\x02xy".as_slice();
     let memory = None;
     let span = Span { start: 24, len: 2 };
-    assert_eq!(rt; segment(alloc, bytes), Some(DataPart { memory, span }));
-    // an element segment and two exports
-    let bytes =
+    let exports =
         b"\0asm\x01\0\0\0\x07\x09\x02\x01a\0\0\x01m\x02\0\x09\x07\x01\0A\x01\x0b\x01\x01".as_slice();
-    assert_eq!(rt; others(alloc, bytes), Some((1, 2)));
+    global_span(alloc, data) == Some(Span { start: 13, len: 3 })
+        && segment(alloc, data) == Some(DataPart { memory, span })
+        && others(alloc, exports) == Some((1, 2))
+}
+
+#[test]
+fn sections_are_read_in_file_order(rt: HostRuntime) {
+    assert!(rt; calls_are_read(rt.alloc()));
+    assert!(rt; metadata_are_read(rt.alloc()));
+    assert!(rt; items_are_read(rt.alloc()));
+}
+
+fn the_first_fault_is_told(alloc: Global) -> bool {
+    // the second section has limits that aren't linked, the third is broken
+    let limits =
+        b"\0asm\x01\0\0\0\x01\x04\x01`\0\0\x02\x09\x01\x03env\x01m\x02\x09\x03\x01\x01".as_slice();
+    let foreign = Stop::Foreign(Item::LimitsFlag(9));
+    // a place counts from the object's first byte
+    let value = b"\0asm\x01\0\0\0\x01\x06\x01`\x02\x7f\x01{".as_slice();
+    fault(alloc, limits) == stopped(1, foreign)
+        && fault(alloc, value) == stopped(0, Stop::Broken(14))
 }
 
 #[test]
 fn the_first_section_at_fault_is_told(rt: HostRuntime) {
-    let alloc = rt.alloc();
-    // the second section has limits that aren't linked, the third is broken
-    let bytes =
-        b"\0asm\x01\0\0\0\x01\x04\x01`\0\0\x02\x09\x01\x03env\x01m\x02\x09\x03\x01\x01".as_slice();
-    let stop = Stop::Foreign(Item::LimitsFlag(9));
-    assert_eq!(rt; fault(alloc, bytes), stopped(1, stop));
-    // a place counts from the object's first byte
-    let bytes = b"\0asm\x01\0\0\0\x01\x06\x01`\x02\x7f\x01{".as_slice();
-    assert_eq!(rt; fault(alloc, bytes), stopped(0, Stop::Broken(14)));
+    assert!(rt; the_first_fault_is_told(rt.alloc()));
 }

@@ -1,3 +1,5 @@
+//! The rules that the parts of an object keep among one another, and the first that a changed object breaks.
+
 use object_parts::{
     CodeBody, DataPart, Element, Export, Group, InitFunc, Linking, Member, Mismatch, Operands,
     Parts, Reloc, RelocSection, SectionSpan, SegmentInfo, Symbol, SymbolKind,
@@ -37,9 +39,11 @@ fn name(alloc: Global, text: &str) -> Result<Name, OutOfMemory> {
 }
 
 fn import(alloc: Global, field: &str, kind: ImportKind) -> Result<Import, OutOfMemory> {
+    let module = name(alloc, "env")?;
+    let field = name(alloc, field)?;
     Ok(Import {
-        module: name(alloc, "env")?,
-        field: name(alloc, field)?,
+        module,
+        field,
         kind,
     })
 }
@@ -72,10 +76,11 @@ fn datum(
     offset: u32,
     size: u32,
 ) -> Result<Symbol, OutOfMemory> {
+    let name = Some(name(alloc, text)?);
     Ok(Symbol {
         kind: SymbolKind::Datum,
         flags: 0,
-        name: Some(name(alloc, text)?),
+        name,
         index,
         offset,
         size,
@@ -90,7 +95,7 @@ fn body(windows: Result<Operands, Mismatch>) -> CodeBody {
 }
 
 /// The imports: a memory, the function 0 of the type () to (), the global 0 and the table 0.
-fn imports(alloc: Global) -> Result<Seq<Import>, OutOfMemory> {
+fn add_imports(alloc: Global, to: &mut Seq<Import>) -> Result<(), OutOfMemory> {
     let limits = Limits { min: 1, max: None };
     let table = TableType {
         funcref: true,
@@ -100,26 +105,22 @@ fn imports(alloc: Global) -> Result<Seq<Import>, OutOfMemory> {
         kind: ValType::I32,
         var: true,
     };
-    let mut imports = Seq::new(alloc);
-    imports.push(import(alloc, "__linear_memory", ImportKind::Memory(limits))?)?;
-    imports.push(import(alloc, "ext", ImportKind::Function(0))?)?;
-    imports.push(import(alloc, "__stack_pointer", ImportKind::GlobalVar(global))?)?;
-    imports.push(import(alloc, "__indirect_function_table", ImportKind::Table(table))?)?;
-    Ok(imports)
+    to.push(import(alloc, "__linear_memory", ImportKind::Memory(limits))?)?;
+    to.push(import(alloc, "ext", ImportKind::Function(0))?)?;
+    to.push(import(alloc, "__stack_pointer", ImportKind::GlobalVar(global))?)?;
+    to.push(import(alloc, "__indirect_function_table", ImportKind::Table(table))?)
 }
 
 /// The symbols: 0 and 1 the defined functions, 2 the imported one, 3 a datum, 4 the global, 5 a
 /// section, 6 the table.
-fn symbols(alloc: Global) -> Result<Seq<Symbol>, OutOfMemory> {
-    let mut symbols = Seq::new(alloc);
-    symbols.push(symbol(alloc, SymbolKind::Function, 0, "main", 1)?)?;
-    symbols.push(symbol(alloc, SymbolKind::Function, 0x02, "other", 2)?)?;
-    symbols.push(symbol(alloc, SymbolKind::Function, 0x10, "", 0)?)?;
-    symbols.push(datum(alloc, "d", 0, 0, 8)?)?;
-    symbols.push(symbol(alloc, SymbolKind::GlobalVar, 0x10, "", 0)?)?;
-    symbols.push(symbol(alloc, SymbolKind::Section, 0x02, "", 6)?)?;
-    symbols.push(symbol(alloc, SymbolKind::Table, 0x10, "", 0)?)?;
-    Ok(symbols)
+fn add_symbols(alloc: Global, to: &mut Seq<Symbol>) -> Result<(), OutOfMemory> {
+    to.push(symbol(alloc, SymbolKind::Function, 0, "main", 1)?)?;
+    to.push(symbol(alloc, SymbolKind::Function, 0x02, "other", 2)?)?;
+    to.push(symbol(alloc, SymbolKind::Function, 0x10, "", 0)?)?;
+    to.push(datum(alloc, "d", 0, 0, 8)?)?;
+    to.push(symbol(alloc, SymbolKind::GlobalVar, 0x10, "", 0)?)?;
+    to.push(symbol(alloc, SymbolKind::Section, 0x02, "", 6)?)?;
+    to.push(symbol(alloc, SymbolKind::Table, 0x10, "", 0)?)
 }
 
 fn group(alloc: Global, text: &str, members: &[(u8, u32)]) -> Result<Group, OutOfMemory> {
@@ -130,18 +131,31 @@ fn group(alloc: Global, text: &str, members: &[(u8, u32)]) -> Result<Group, OutO
             index: *index,
         })?;
     }
+    let name = name(alloc, text)?;
     Ok(Group {
-        name: name(alloc, text)?,
+        name,
         members: list,
     })
 }
 
 fn info(alloc: Global, align: u32) -> Result<SegmentInfo, OutOfMemory> {
+    let name = name(alloc, "data")?;
     Ok(SegmentInfo {
-        name: name(alloc, "data")?,
+        name,
         align,
         flags: 0,
     })
+}
+
+/// Metadata of the one segment, the symbols, an init function and a group.
+fn add_metadata(alloc: Global, to: &mut Linking) -> Result<(), OutOfMemory> {
+    add_symbols(alloc, &mut to.symbols)?;
+    to.segments.push(info(alloc, 31)?)?;
+    to.inits.push(InitFunc {
+        priority: 1,
+        symbol: 0,
+    })?;
+    to.groups.push(group(alloc, "g", &[(0, 0), (1, 1)])?)
 }
 
 fn linking(alloc: Global) -> Result<Linking, OutOfMemory> {
@@ -149,14 +163,9 @@ fn linking(alloc: Global) -> Result<Linking, OutOfMemory> {
         segments: Seq::new(alloc),
         inits: Seq::new(alloc),
         groups: Seq::new(alloc),
-        symbols: symbols(alloc)?,
+        symbols: Seq::new(alloc),
     };
-    linking.segments.push(info(alloc, 31)?)?;
-    linking.inits.push(InitFunc {
-        priority: 1,
-        symbol: 0,
-    })?;
-    linking.groups.push(group(alloc, "g", &[(0, 0), (1, 1)])?)?;
+    add_metadata(alloc, &mut linking)?;
     Ok(linking)
 }
 
@@ -167,37 +176,43 @@ fn segment(memory: Option<u32>) -> DataPart {
     }
 }
 
-/// The parts of an object that breaks no rule. The function 1 is of the type () to (), the function
-/// 2 takes an i32; the one segment has the bytes 100 to 107.
-fn kept(alloc: Global) -> Result<Parts, OutOfMemory> {
-    let mut types = Seq::new(alloc);
-    types.push(FuncType {
-        params: Seq::new(alloc),
-        results: Seq::new(alloc),
-    })?;
-    types.push(FuncType {
-        params: Seq::from_slice(alloc, &[ValType::I32])?,
-        results: Seq::new(alloc),
-    })?;
-    let mut bodies = Seq::new(alloc);
-    bodies.push(body(Ok(Operands::new(alloc))))?;
-    bodies.push(body(Ok(Operands::new(alloc))))?;
-    let mut segments = Seq::new(alloc);
-    segments.push(segment(None))?;
-    Ok(Parts {
-        types,
-        imports: imports(alloc)?,
-        functions: Seq::from_slice(alloc, &[0, 1])?,
+/// A type without results.
+fn func_type(alloc: Global, params: &[ValType]) -> Result<FuncType, OutOfMemory> {
+    let params = Seq::from_slice(alloc, params)?;
+    let results = Seq::new(alloc);
+    Ok(FuncType { params, results })
+}
+
+/// No parts.
+fn nothing(alloc: Global) -> Parts {
+    Parts {
+        types: Seq::new(alloc),
+        imports: Seq::new(alloc),
+        functions: Seq::new(alloc),
         globals: Seq::new(alloc),
         exports: Seq::new(alloc),
         elements: Seq::new(alloc),
         data_count: Some(1),
-        bodies,
-        segments,
-        linking: Some(linking(alloc)?),
+        bodies: Seq::new(alloc),
+        segments: Seq::new(alloc),
+        linking: None,
         relocs: Seq::new(alloc),
         in_order: true,
-    })
+    }
+}
+
+/// The parts of an object that breaks no rule. The function 1 is of the type () to (), the function
+/// 2 takes an i32; the one segment has the bytes 100 to 107.
+fn add_parts(alloc: Global, to: &mut Parts) -> Result<(), OutOfMemory> {
+    to.types.push(func_type(alloc, &[])?)?;
+    to.types.push(func_type(alloc, &[ValType::I32])?)?;
+    add_imports(alloc, &mut to.imports)?;
+    to.functions.extend_from_slice(&[0, 1])?;
+    to.bodies.push(body(Ok(Operands::new(alloc))))?;
+    to.bodies.push(body(Ok(Operands::new(alloc))))?;
+    to.segments.push(segment(None))?;
+    to.linking = Some(linking(alloc)?);
+    Ok(())
 }
 
 fn relocs(
@@ -281,18 +296,16 @@ fn change_linking(alloc: Global, linking: &mut Linking, change: Change) -> Resul
 }
 
 fn export(alloc: Global, kind: u8, index: u32) -> Result<Export, OutOfMemory> {
-    Ok(Export {
-        name: name(alloc, "e")?,
-        kind,
-        index,
-    })
+    let name = name(alloc, "e")?;
+    Ok(Export { name, kind, index })
 }
 
 fn element(alloc: Global, table: Option<u32>, function: u32) -> Result<Element, OutOfMemory> {
+    let functions = Seq::from_slice(alloc, &[function])?;
     Ok(Element {
         table,
         offset: ConstExpr::I32(1),
-        functions: Seq::from_slice(alloc, &[function])?,
+        functions,
     })
 }
 
@@ -340,14 +353,25 @@ fn change_parts(alloc: Global, whole: &mut Parts, change: Change) -> Result<(), 
 
 /// The first rule that the changed object breaks.
 fn broken(alloc: Global, change: Change) -> Result<Option<u8>, OutOfMemory> {
-    let mut whole = kept(alloc)?;
+    let mut whole = nothing(alloc);
+    add_parts(alloc, &mut whole)?;
     change_parts(alloc, &mut whole, change)?;
     broken_rule(alloc, &sections(), &bytes(), &whole)
 }
 
+/// Whether this is the first rule that each of these changes breaks.
+fn break_rules(alloc: Global, cases: &[(Change, Option<u8>)]) -> bool {
+    for (change, rule) in cases {
+        if broken(alloc, *change) != Ok(*rule) {
+            return false;
+        }
+    }
+    true
+}
+
 #[test]
 fn indexes_are_counted_and_in_range(rt: HostRuntime) {
-    for (change, rule) in [
+    let cases = [
         (Change::Disorder, Some(1)),
         (Change::NoLinking, Some(1)),
         (Change::DataCount(1), None),
@@ -370,14 +394,13 @@ fn indexes_are_counted_and_in_range(rt: HostRuntime) {
         (Change::Import(2), Some(3)),
         // The defined symbols have other indexes now.
         (Change::Import(1), Some(4)),
-    ] {
-        assert_eq!(rt; broken(rt.alloc(), change), Ok(rule));
-    }
+    ];
+    assert!(rt; break_rules(rt.alloc(), &cases));
 }
 
 #[test]
 fn symbols_name_what_is_there(rt: HostRuntime) {
-    for (change, rule) in [
+    let cases = [
         (Change::Symbol(SymbolKind::Function, 0, "new", 0), Some(4)),
         (
             Change::Symbol(SymbolKind::Function, 0x10, "new", 1),
@@ -407,14 +430,13 @@ fn symbols_name_what_is_there(rt: HostRuntime) {
             Change::Symbol(SymbolKind::Function, 0x50, "ext", 0),
             Some(5),
         ),
-    ] {
-        assert_eq!(rt; broken(rt.alloc(), change), Ok(rule));
-    }
+    ];
+    assert!(rt; break_rules(rt.alloc(), &cases));
 }
 
 #[test]
 fn metadata_agrees(rt: HostRuntime) {
-    for (change, rule) in [
+    let cases = [
         (Change::Infos(&[]), None),
         (Change::Infos(&[31]), None),
         (Change::Infos(&[32]), Some(6)),
@@ -434,14 +456,13 @@ fn metadata_agrees(rt: HostRuntime) {
         (Change::Group("h", 0, 0), Some(8)),
         (Change::Group("h", 5, 1), None),
         (Change::Group("h", 5, 7), Some(8)),
-    ] {
-        assert_eq!(rt; broken(rt.alloc(), change), Ok(rule));
-    }
+    ];
+    assert!(rt; break_rules(rt.alloc(), &cases));
 }
 
 #[test]
 fn relocations_agree(rt: HostRuntime) {
-    for (change, rule) in [
+    let cases = [
         // The types, a section that isn't there, and one that has relocations.
         (Change::Relocs(2, &[]), None),
         (Change::Relocs(0, &[]), Some(9)),
@@ -472,7 +493,6 @@ fn relocations_agree(rt: HostRuntime) {
         (Change::Body(Mismatch::Overlap(2)), Some(11)),
         (Change::Body(Mismatch::OffImmediate(2)), Some(11)),
         (Change::Body(Mismatch::BareIndex(2)), Some(12)),
-    ] {
-        assert_eq!(rt; broken(rt.alloc(), change), Ok(rule));
-    }
+    ];
+    assert!(rt; break_rules(rt.alloc(), &cases));
 }

@@ -4,7 +4,7 @@ ghost use Rattle.least_race.specs.Race.{times};
 ghost use Rattle.least_race.specs.Seats.{IsSeatOf};
 ghost use Rattle.least_race.specs.Three.{three};
 
-use crate::{Jobs, LeastRace, ListJobs, Offer, RaceSeat};
+use least_race::{Jobs, LeastRace, ListJobs, Offer, RaceSeat};
 use std::alloc::Global;
 use std::test::Fail;
 use wl_base::{OutOfMemory, Seq};
@@ -54,7 +54,7 @@ fn step<J: Jobs>(race: &LeastRace<J>, seat: &mut RaceSeat) -> Option<u32>
     }
 }
 
-#[tactic(auto, using(crate::proofs::Threes::below_two))]
+#[tactic(auto, using(least_race::proofs::Threes::below_two))]
 fn with_two_seats(alloc: Global, width: u32) -> Result<Seq<u64>, Fail>
     requires { (2 ≤ width) × (width ≤ 64) }
 {
@@ -78,7 +78,7 @@ fn two_seats_find_the_least_ranks(rt: HostRuntime) -> Result<(), Fail> {
 }
 
 #[test]
-#[tactic(auto, using(crate::proofs::Threes::below_two))]
+#[tactic(auto, using(least_race::proofs::Threes::below_two))]
 fn one_seat_draws_each_job_and_one_number_more(rt: HostRuntime) -> Result<(), Fail> {
     let jobs = three_jobs(rt.alloc())?;
     assert_eq!(rt; jobs.count(), 3);

@@ -9,6 +9,6 @@ mod least;
 #[cfg(test)]
 mod meeting;
 #[cfg(test)]
-mod ranks;
+mod races;
 #[cfg(test)]
-mod tests;
+mod ranks;

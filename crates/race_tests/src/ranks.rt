@@ -1,5 +1,6 @@
-//! Ranks by hand. The race itself is tested with real threads in `race_tests`.
-use crate::rank;
+//! Ranks by hand.
+
+use symbol_race::rank;
 
 #[test]
 fn ranks_go_by_class_then_input_then_symbol(rt: HostRuntime) {

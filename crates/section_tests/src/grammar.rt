@@ -1,6 +1,12 @@
-use super::*;
+//! Bytes, numbers, names, parts and vectors, each read with its place, and what is written.
+
 use std::alloc::Global;
 use std::test::Fail;
+use wasm_grammar::{
+    ReadFault, Stop, blob_at, byte_at, bytes_at, cut_back, front_at, many_at, name_at, none_at,
+    part_at, place, put_byte, put_bytes, put_count, put_itself, put_s32, put_s64, put_u32,
+    put_vector, read_front, s32_at, s33_at, s64_at, sized_at, tag_at, u32_at, vector_at, whole,
+};
 use wl_base::{Item, OutOfMemory, Seq};
 
 const NINE: &[u8] = &[9];

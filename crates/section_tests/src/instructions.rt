@@ -1,7 +1,12 @@
-use super::*;
+//! Instructions and bodies, read, skimmed and written.
+
 use std::alloc::Global;
 use std::test::Fail;
 use wasm_grammar::{ReadFault, Stop};
+use wasm_instr::{
+    BlockKind, Body, BodyFault, Instr, LocalRun, Outline, Placed, body_at, instr_at, outline_step,
+    put_body, read_body, skim_at, skip_locals_at, write_instr,
+};
 use wasm_types::ValType;
 use wl_base::{Item, OutOfMemory, Seq};
 
@@ -88,49 +93,67 @@ fn fault_of(alloc: Global, bytes: &[u8]) -> Option<BodyFault> {
     }
 }
 
+/// Whether these bytes are broken at this place of them.
+fn is_broken(alloc: Global, bytes: &[u8], place: u32) -> bool {
+    fault_of(alloc, bytes) == Some(BodyFault::Broken(place))
+}
+
+/// Whether these bytes have this item, which isn't linked.
+fn is_foreign(alloc: Global, bytes: &[u8], item: Item) -> bool {
+    fault_of(alloc, bytes) == Some(BodyFault::Stops(item))
+}
+
+/// local.get 0, drop, end; and an `if` with an `else`
+fn bodies_are_whole(alloc: Global) -> bool {
+    fault_of(alloc, &[0x00, 0x20, 0x00, 0x1a, 0x0b]).is_none()
+        && fault_of(alloc, &[0x00, 0x41, 0, 0x04, 0x40, 0x05, 0x0b, 0x0b]).is_none()
+}
+
+fn opcodes_are_not_linked(alloc: Global) -> bool {
+    let opcode = |byte, sub| Item::Opcode { byte, sub };
+    is_foreign(alloc, &[0x00, 0xfd, 0x0b], opcode(253, 0))
+        && is_foreign(alloc, &[0x00, 0xfc, 0x08], opcode(252, 8))
+        && is_foreign(alloc, &[0x00, 0xd0, 0x70, 0x0b], opcode(0xd0, 0))
+        && is_foreign(alloc, &[0x00, 0xc5], opcode(0xc5, 0))
+}
+
+/// An `else` outside an `if`, in another block, and a second one.
+fn elses_are_out_of_place(alloc: Global) -> bool {
+    is_broken(alloc, &[0x00, 0x05, 0x0b], 1)
+        && is_broken(alloc, &[0x00, 0x03, 0x40, 0x05, 0x0b, 0x0b], 3)
+        && is_broken(alloc, &[0x00, 0x04, 0x40, 0x05, 0x05, 0x0b, 0x0b], 4)
+}
+
+/// A byte behind the end, no end, numbers that are cut, a byte that has to be 0, and no byte at all.
+fn bodies_are_cut(alloc: Global) -> bool {
+    is_broken(alloc, &[0x00, 0x0b, 0x01], 2)
+        && is_broken(alloc, &[0x00, 0x02, 0x40, 0x0b], 4)
+        && is_broken(alloc, &[0x00, 0x10, 0x80], 2)
+        && is_broken(alloc, &[0x00, 0x44, 1, 2, 3, 4, 5, 6, 7], 9)
+        && is_broken(alloc, &[0x00, 0xfc, 0x0a, 0x00, 0x01], 4)
+        && is_broken(alloc, &[], 0)
+}
+
+/// 2^32 locals, before the type of the last ones; and types of locals and of blocks.
+fn types_are_refused(alloc: Global) -> bool {
+    let many = [0x02, 0xff, 0xff, 0xff, 0xff, 0x0f, 0x7f, 0x01, 0x7b, 0x0b];
+    is_broken(alloc, &many, 7)
+        && is_foreign(alloc, &[0x01, 0x01, 0x7b, 0x0b], Item::ValueType(0x7b))
+        && is_foreign(
+            alloc,
+            &[0x00, 0x02, 0x70, 0x0b, 0x0b],
+            Item::ValueType(0x70),
+        )
+        && is_broken(alloc, &[0x00, 0x02, 0x41, 0x0b, 0x0b], 2)
+}
+
 #[test]
 fn the_first_fault_is_told(rt: HostRuntime) {
-    let opcode = |byte, sub| Some(BodyFault::Stops(Item::Opcode { byte, sub }));
-    let broken = |place| Some(BodyFault::Broken(place));
-    for (bytes, want) in [
-        // local.get 0, drop, end
-        ([0x00, 0x20, 0x00, 0x1a, 0x0b].as_slice(), None),
-        // an `if` with an `else`
-        (&[0x00, 0x41, 0, 0x04, 0x40, 0x05, 0x0b, 0x0b], None),
-        // opcodes that are not linked
-        (&[0x00, 0xfd, 0x0b], opcode(253, 0)),
-        (&[0x00, 0xfc, 0x08], opcode(252, 8)),
-        (&[0x00, 0xd0, 0x70, 0x0b], opcode(0xd0, 0)),
-        (&[0x00, 0xc5], opcode(0xc5, 0)),
-        // an `else` outside an `if`, and a second one
-        (&[0x00, 0x05, 0x0b], broken(1)),
-        (&[0x00, 0x03, 0x40, 0x05, 0x0b, 0x0b], broken(3)),
-        (&[0x00, 0x04, 0x40, 0x05, 0x05, 0x0b, 0x0b], broken(4)),
-        // a byte behind the end, no end, a number that is cut, no byte at all
-        (&[0x00, 0x0b, 0x01], broken(2)),
-        (&[0x00, 0x02, 0x40, 0x0b], broken(4)),
-        (&[0x00, 0x10, 0x80], broken(2)),
-        (&[0x00, 0x44, 1, 2, 3, 4, 5, 6, 7], broken(9)),
-        (&[0x00, 0xfc, 0x0a, 0x00, 0x01], broken(4)),
-        (&[], broken(0)),
-        // 2^32 locals, before the type of the last ones
-        (
-            &[0x02, 0xff, 0xff, 0xff, 0xff, 0x0f, 0x7f, 0x01, 0x7b, 0x0b],
-            broken(7),
-        ),
-        // types of locals and of blocks
-        (
-            &[0x01, 0x01, 0x7b, 0x0b],
-            Some(BodyFault::Stops(Item::ValueType(0x7b))),
-        ),
-        (
-            &[0x00, 0x02, 0x70, 0x0b, 0x0b],
-            Some(BodyFault::Stops(Item::ValueType(0x70))),
-        ),
-        (&[0x00, 0x02, 0x41, 0x0b, 0x0b], broken(2)),
-    ] {
-        assert_eq!(rt; fault_of(rt.alloc(), bytes), want, "at {bytes:?}");
-    }
+    assert!(rt; bodies_are_whole(rt.alloc()));
+    assert!(rt; opcodes_are_not_linked(rt.alloc()));
+    assert!(rt; elses_are_out_of_place(rt.alloc()));
+    assert!(rt; bodies_are_cut(rt.alloc()));
+    assert!(rt; types_are_refused(rt.alloc()));
 }
 
 fn is_written(alloc: Global, instr: &Instr, bytes: &[u8]) -> bool {

@@ -1,3 +1,5 @@
+//! Libraries: the members that an index offers, and the first fault of others.
+
 use lib_index::{LibError, Library, has_magic, read_index};
 use std::alloc::Global;
 use std::test::Fail;
@@ -80,19 +82,31 @@ fn offers_of(alloc: Global, bytes: &[u8]) -> Result<[Option<u32>; 4], LibError> 
     ])
 }
 
+/// A magic alone is a library of no members.
+fn a_magic_has_no_members(alloc: Global) -> bool {
+    members_of(alloc, b"!<arch>\n") == Ok((0, [None, None]))
+        && offers_of(alloc, b"!<arch>\n") == Ok([None; 4])
+}
+
+/// Whether a library has two members here, and offers these.
+fn has_members(
+    alloc: Global,
+    bytes: &[u8],
+    spans: [Option<Span>; 2],
+    offers: [Option<u32>; 4],
+) -> bool {
+    members_of(alloc, bytes) == Ok((2, spans)) && offers_of(alloc, bytes) == Ok(offers)
+}
+
 #[test]
 fn a_library_offers_its_members(rt: HostRuntime) -> Result<(), Fail> {
     let alloc = rt.alloc();
-    // A magic alone is a library of no members.
-    assert_eq!(rt; members_of(alloc, b"!<arch>\n"), Ok((0, [None, None])));
-    assert_eq!(rt; offers_of(alloc, b"!<arch>\n"), Ok([None; 4]));
     let bytes = two_members(alloc)?;
     let spans = [span(144, 3), span(208, 1)];
-    assert_eq!(rt; members_of(alloc, bytes.as_slice()), Ok((2, spans)));
-    assert_eq!(rt;
-        offers_of(alloc, bytes.as_slice()),
-        Ok([Some(0), Some(1), None, None])
-    );
+    let offers = [Some(0), Some(1), None, None];
+    let holds = a_magic_has_no_members(alloc)
+        && has_members(alloc, bytes.as_slice(), spans, offers);
+    assert!(rt; holds);
     Ok(())
 }
 
@@ -112,11 +126,8 @@ fn the_least_member_is_offered(rt: HostRuntime) -> Result<(), Fail> {
     let alloc = rt.alloc();
     let bytes = defined_thrice(alloc)?;
     let spans = [span(212, 4), span(276, 0)];
-    assert_eq!(rt; members_of(alloc, bytes.as_slice()), Ok((2, spans)));
-    assert_eq!(rt;
-        offers_of(alloc, bytes.as_slice()),
-        Ok([Some(0), None, None, None])
-    );
+    let holds = has_members(alloc, bytes.as_slice(), spans, [Some(0), None, None, None]);
+    assert!(rt; holds);
     Ok(())
 }
 
@@ -146,8 +157,8 @@ fn wrong_prefix(alloc: Global, bytes: &[u8]) -> Option<usize> {
 fn prefixes_of_a_library_are_refused(rt: HostRuntime) -> Result<(), Fail> {
     let alloc = rt.alloc();
     let bytes = two_members(alloc)?;
-    assert_eq!(rt; bytes.len(), 210);
-    assert_eq!(rt; wrong_prefix(alloc, bytes.as_slice()), None);
+    let holds = bytes.len() == 210 && wrong_prefix(alloc, bytes.as_slice()).is_none();
+    assert!(rt; holds);
     Ok(())
 }
 
@@ -172,58 +183,59 @@ fn fault_of_member(
     refused(alloc, bytes.as_slice())
 }
 
+fn magics_are_told(alloc: Global) -> bool {
+    refused(alloc, b"!<thin>\n") == Ok(Some(LibFault::Thin))
+        && refused(alloc, b"\0asm\x01\0\0\0") == Ok(Some(LibFault::NotLibrary))
+        && has_magic(b"!<thin>\n")
+        && has_magic(b"!<arch>\n")
+        && !has_magic(b"\0asm")
+        && !has_magic(b"!<arch>")
+        && !has_magic(b"!<thin>x")
+}
+
 #[test]
 fn the_magic_is_told(rt: HostRuntime) {
-    let alloc = rt.alloc();
-    assert_eq!(rt; refused(alloc, b"!<thin>\n"), Ok(Some(LibFault::Thin)));
-    assert_eq!(rt;
-        refused(alloc, b"\0asm\x01\0\0\0"),
-        Ok(Some(LibFault::NotLibrary))
-    );
-    assert!(rt; has_magic(b"!<thin>\n") && has_magic(b"!<arch>\n"));
-    assert!(rt; !has_magic(b"\0asm") && !has_magic(b"!<arch>") && !has_magic(b"!<thin>x"));
+    assert!(rt; magics_are_told(rt.alloc()));
+}
+
+fn headers_are_broken(alloc: Global) -> bool {
+    let here = Ok(Some(LibFault::BadHeader(8)));
+    // A size past the end, none, one that begins later, and one with another byte.
+    fault_of_index(alloc, b"9999999999", b"") == here
+        && fault_of_index(alloc, b"          ", b"") == here
+        && fault_of_index(alloc, b" 4        ", b"\0\0\0\0") == here
+        && fault_of_index(alloc, b"4x        ", b"\0\0\0\0") == here
+        // A broken header comes before a missing index.
+        && fault_of_member(alloc, b"one.o/          ", b"1         ") == here
 }
 
 #[test]
 fn broken_headers_are_told(rt: HostRuntime) {
-    let alloc = rt.alloc();
-    let here = Ok(Some(LibFault::BadHeader(8)));
-    // A size past the end, none, one that begins later, and one with another byte.
-    assert_eq!(rt; fault_of_index(alloc, b"9999999999", b""), here);
-    assert_eq!(rt; fault_of_index(alloc, b"          ", b""), here);
-    assert_eq!(rt; fault_of_index(alloc, b" 4        ", b"\0\0\0\0"), here);
-    assert_eq!(rt; fault_of_index(alloc, b"4x        ", b"\0\0\0\0"), here);
-    // A broken header comes before a missing index.
-    assert_eq!(rt;
-        fault_of_member(alloc, b"one.o/          ", b"1         "),
-        here
-    );
+    assert!(rt; headers_are_broken(rt.alloc()));
+}
+
+fn indexes_are_broken(alloc: Global) -> bool {
+    let short = Ok(Some(LibFault::BadIndex(1)));
+    // A count of 4,294,967,295 in 8 bytes, and no count.
+    let wide = b"\xff\xff\xff\xff\0\0\0\0".as_slice();
+    // The index's own header is no member's.
+    let own = b"\0\0\0\x01\0\0\0\x08".as_slice();
+    fault_of_index(alloc, b"8         ", wide) == short
+        && fault_of_index(alloc, b"2         ", b"\0\0") == short
+        && fault_of_index(alloc, b"8         ", own) == Ok(Some(LibFault::BadIndex(2)))
+}
+
+/// A member and no index; long names in its place.
+fn indexes_are_missing(alloc: Global) -> bool {
+    let none = Ok(Some(LibFault::NoIndex));
+    fault_of_member(alloc, b"one.o/          ", b"0         ") == none
+        && fault_of_member(alloc, b"//              ", b"0         ") == none
 }
 
 #[test]
 fn a_broken_index_is_told(rt: HostRuntime) {
-    let alloc = rt.alloc();
-    let short = Ok(Some(LibFault::BadIndex(1)));
-    // A count of 4,294,967,295 in 8 bytes, and no count.
-    let wide = b"\xff\xff\xff\xff\0\0\0\0".as_slice();
-    assert_eq!(rt; fault_of_index(alloc, b"8         ", wide), short);
-    assert_eq!(rt; fault_of_index(alloc, b"2         ", b"\0\0"), short);
-    // The index's own header is no member's.
-    let own = b"\0\0\0\x01\0\0\0\x08".as_slice();
-    assert_eq!(rt;
-        fault_of_index(alloc, b"8         ", own),
-        Ok(Some(LibFault::BadIndex(2)))
-    );
-    // A member and no index; long names in its place.
-    let none = Ok(Some(LibFault::NoIndex));
-    assert_eq!(rt;
-        fault_of_member(alloc, b"one.o/          ", b"0         "),
-        none
-    );
-    assert_eq!(rt;
-        fault_of_member(alloc, b"//              ", b"0         "),
-        none
-    );
+    assert!(rt; indexes_are_broken(rt.alloc()));
+    assert!(rt; indexes_are_missing(rt.alloc()));
 }
 
 /// What a library of one member is refused for whose index has two numbers and one name.

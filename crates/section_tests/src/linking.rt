@@ -1,3 +1,5 @@
+//! Sections `linking`, read whole, and their items: what is told of spelled bytes, and the first fault of others.
+
 use linking_section::{
     EXPLICIT_NAME, EXPORTED, Group, HIDDEN, InitFunc, LOCAL, Linking, LinkingFault, Member,
     NO_STRIP, RETAIN, STRINGS, SegmentInfo, Symbol, SymbolKind, UNDEFINED, WEAK, group_at,
@@ -130,18 +132,26 @@ fn is_silent(alloc: Global, payload: &[u8]) -> Result<bool, LinkingFault> {
     is_read(alloc, payload, &silent(alloc))
 }
 
+/// Whether each of these payloads is.
+fn are_silent(alloc: Global, payloads: &[&[u8]]) -> bool {
+    for payload in payloads {
+        if is_silent(alloc, payload) != Ok(true) {
+            return false;
+        }
+    }
+    true
+}
+
 #[test]
 fn empty_lists_are_read(rt: HostRuntime) {
-    let alloc = rt.alloc();
-    for payload in [
+    let payloads = [
         [2].as_slice(),
         &[0x82, 0x00],
         &[2, 8, 1, 0],
         &[2, 5, 1, 0, 7, 1, 0, 6, 1, 0, 8, 0x81, 0x00, 0],
         &[2, 0, 1, 0xff, 1, 0, 9, 0, 255, 0],
-    ] {
-        assert_eq!(rt; is_silent(alloc, payload), Ok(true), "at {payload:?}");
-    }
+    ];
+    assert!(rt; are_silent(rt.alloc(), &payloads));
 }
 
 /// Whether the symbol at the front has this kind, flags and name, and this index, offset and size,
@@ -166,49 +176,34 @@ fn symbol_is(
     Ok(symbol == want && rest == after)
 }
 
+fn plain_symbols_are_read(alloc: Global) -> bool {
+    let nothing = [].as_slice();
+    let nine = [9].as_slice();
+    let global = (SymbolKind::GlobalVar, 0x14, None);
+    let table = (SymbolKind::Table, 0x50, Some("x"));
+    let section = (SymbolKind::Section, 0x12, None);
+    symbol_is(alloc, &[2, 0x14, 0x82, 0x01], global, [130, 0, 0], nothing) == Ok(true)
+        && symbol_is(alloc, &[5, 0x50, 0, 1, 0x78, 9], table, [0, 0, 0], nine) == Ok(true)
+        && symbol_is(alloc, &[3, 0x12, 4, 9], section, [4, 0, 0], nine) == Ok(true)
+}
+
+fn functions_and_data_are_read(alloc: Global) -> bool {
+    let nothing = [].as_slice();
+    let nine = [9].as_slice();
+    let undefined = (SymbolKind::Datum, 0x11, Some("d"));
+    let datum = (SymbolKind::Datum, 0x86, Some(""));
+    let placed = [1, 0x86, 0x01, 0, 1, 8, 0xac, 0x02, 9];
+    let function = (SymbolKind::Function, 0xf6, Some("é"));
+    let named = [0, 0xf6, 0x01, 7, 2, 0xc3, 0xa9];
+    symbol_is(alloc, &[1, 0x11, 1, 0x64, 9], undefined, [0, 0, 0], nine) == Ok(true)
+        && symbol_is(alloc, &placed, datum, [1, 8, 300], nine) == Ok(true)
+        && symbol_is(alloc, &named, function, [7, 0, 0], nothing) == Ok(true)
+}
+
 #[test]
 fn symbols_are_read_by_their_kinds(rt: HostRuntime) {
-    for (bytes, kind, place, after) in [
-        (
-            [2, 0x14, 0x82, 0x01].as_slice(),
-            (SymbolKind::GlobalVar, 0x14, None),
-            [130, 0, 0],
-            [].as_slice(),
-        ),
-        (
-            &[5, 0x50, 0, 1, 0x78, 9],
-            (SymbolKind::Table, 0x50, Some("x")),
-            [0, 0, 0],
-            &[9],
-        ),
-        (
-            &[3, 0x12, 4, 9],
-            (SymbolKind::Section, 0x12, None),
-            [4, 0, 0],
-            &[9],
-        ),
-        (
-            &[1, 0x11, 1, 0x64, 9],
-            (SymbolKind::Datum, 0x11, Some("d")),
-            [0, 0, 0],
-            &[9],
-        ),
-        (
-            &[1, 0x86, 0x01, 0, 1, 8, 0xac, 0x02, 9],
-            (SymbolKind::Datum, 0x86, Some("")),
-            [1, 8, 300],
-            &[9],
-        ),
-        (
-            &[0, 0xf6, 0x01, 7, 2, 0xc3, 0xa9],
-            (SymbolKind::Function, 0xf6, Some("é")),
-            [7, 0, 0],
-            &[],
-        ),
-    ] {
-        let read = symbol_is(rt.alloc(), bytes, kind, place, after);
-        assert_eq!(rt; read, Ok(true), "at {bytes:?}");
-    }
+    assert!(rt; plain_symbols_are_read(rt.alloc()));
+    assert!(rt; functions_and_data_are_read(rt.alloc()));
 }
 
 /// The fault of a payload that isn't that of a section.
@@ -227,10 +222,32 @@ fn placed_fault_of(alloc: Global, payload: &[u8]) -> Option<ReadFault> {
     }
 }
 
+/// Whether each of these payloads has this item, which isn't linked.
+fn are_foreign(alloc: Global, cases: &[(&[u8], Item)]) -> bool {
+    for (payload, item) in cases {
+        if fault_of(alloc, payload) != Some(LinkingFault::Foreign(*item)) {
+            return false;
+        }
+    }
+    true
+}
+
+/// Whether each of these payloads is broken at this place of it.
+fn are_broken(alloc: Global, cases: &[(&[u8], usize)]) -> bool {
+    for (payload, place) in cases {
+        let placed = Some(ReadFault::Stopped(Stop::Broken(*place)));
+        if placed_fault_of(alloc, payload) != placed
+            || fault_of(alloc, payload) != Some(LinkingFault::NotLinking)
+        {
+            return false;
+        }
+    }
+    true
+}
+
 #[test]
 fn foreign_items_are_named(rt: HostRuntime) {
-    let alloc = rt.alloc();
-    for (payload, item) in [
+    let cases = [
         ([0].as_slice(), Item::LinkingVersion(0)),
         (&[1, 8, 0x80], Item::LinkingVersion(1)),
         (&[0x83, 0x00, 0x80], Item::LinkingVersion(3)),
@@ -247,16 +264,13 @@ fn foreign_items_are_named(rt: HostRuntime) {
         (&[2, 5, 4, 1, 0, 0, 2], Item::SegmentFlags(2)),
         (&[2, 5, 4, 1, 0, 0, 8], Item::SegmentFlags(8)),
         (&[2, 5, 5, 2, 0, 0, 6, 0x80], Item::SegmentFlags(6)),
-    ] {
-        let want = Some(LinkingFault::Foreign(item));
-        assert_eq!(rt; fault_of(alloc, payload), want, "at {payload:?}");
-    }
+    ];
+    assert!(rt; are_foreign(rt.alloc(), &cases));
 }
 
 #[test]
 fn broken_payloads_have_places(rt: HostRuntime) {
-    let alloc = rt.alloc();
-    for (payload, place) in [
+    let cases = [
         ([].as_slice(), 0),
         (&[0x80], 0),
         (&[2, 8], 2),
@@ -280,12 +294,8 @@ fn broken_payloads_have_places(rt: HostRuntime) {
         (&[2, 5, 1, 0, 9, 0, 5], 6),
         (&[2, 6, 1, 0, 6], 4),
         (&[2, 7, 1, 0, 7], 4),
-    ] {
-        let want = Some(ReadFault::Stopped(Stop::Broken(place)));
-        assert_eq!(rt; placed_fault_of(alloc, payload), want, "at {payload:?}");
-        let want = Some(LinkingFault::NotLinking);
-        assert_eq!(rt; fault_of(alloc, payload), want, "at {payload:?}");
-    }
+    ];
+    assert!(rt; are_broken(rt.alloc(), &cases));
 }
 
 /// Whether a symbol is weak, local, hidden, undefined, exported, named though a reference, and kept.
@@ -316,9 +326,19 @@ fn said(alloc: Global, flags: u32) -> Result<([bool; 7], [bool; 3]), OutOfMemory
     Ok((marks(&symbol), roles(&symbol)))
 }
 
+/// Whether each of these flags says so.
+fn are_said(alloc: Global, cases: &[(u32, [bool; 7], [bool; 3])]) -> bool {
+    for (flags, marks, roles) in cases {
+        if said(alloc, *flags) != Ok((*marks, *roles)) {
+            return false;
+        }
+    }
+    true
+}
+
 #[test]
 fn flags_say_what_a_symbol_is(rt: HostRuntime) {
-    for (flags, marks, roles) in [
+    let cases = [
         (
             WEAK | HIDDEN,
             [true, false, true, false, false, false, false],
@@ -339,13 +359,9 @@ fn flags_say_what_a_symbol_is(rt: HostRuntime) {
             [true, false, false, true, false, true, false],
             [false, false, false],
         ),
-    ] {
-        assert_eq!(rt; said(rt.alloc(), flags), Ok((marks, roles)));
-    }
-    assert_eq!(rt;
-        (SymbolKind::Section.code(), SymbolKind::Table.code()),
-        (3, 5)
-    );
+    ];
+    let codes = (SymbolKind::Section.code(), SymbolKind::Table.code());
+    assert!(rt; are_said(rt.alloc(), &cases) && codes == (3, 5));
 }
 
 /// Whether the list at the front has just these members, with these bytes after it.
@@ -390,23 +406,20 @@ fn group_is(alloc: Global, bytes: &[u8], text: &str, after: &[u8]) -> Result<boo
     Ok(group == want && rest == after)
 }
 
-#[test]
-fn items_stand_in_vectors(rt: HostRuntime) {
-    let alloc = rt.alloc();
+fn items_are_read(alloc: Global) -> bool {
     let member = Member { kind: 5, index: 2 };
-    assert_eq!(rt;
-        members_are(alloc, &[1, 5, 2, 9], &[member], &[9]),
-        Ok(true)
-    );
     let init = InitFunc {
         priority: 1,
         symbol: 2,
     };
-    assert_eq!(rt; inits_are(alloc, &[1, 1, 2], &[init], &[]), Ok(true));
     let info = ("s", 3, STRINGS);
-    assert_eq!(rt; info_is(alloc, &[1, 0x73, 3, 1, 9], info, &[9]), Ok(true));
-    assert_eq!(rt;
-        group_is(alloc, &[1, 0x67, 0x80, 0x00, 0], "g", &[]),
-        Ok(true)
-    );
+    members_are(alloc, &[1, 5, 2, 9], &[member], &[9]) == Ok(true)
+        && inits_are(alloc, &[1, 1, 2], &[init], &[]) == Ok(true)
+        && info_is(alloc, &[1, 0x73, 3, 1, 9], info, &[9]) == Ok(true)
+        && group_is(alloc, &[1, 0x67, 0x80, 0x00, 0], "g", &[]) == Ok(true)
+}
+
+#[test]
+fn items_stand_in_vectors(rt: HostRuntime) {
+    assert!(rt; items_are_read(rt.alloc()));
 }

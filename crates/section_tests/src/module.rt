@@ -1,3 +1,5 @@
+//! Modules, read and written, and their parts.
+
 use std::alloc::Global;
 use wasm_grammar::{ReadFault, Stop};
 use wasm_instr::Body;
@@ -34,6 +36,16 @@ fn is_written(alloc: Global, text: &[u8], short: &[u8]) -> Result<bool, ModuleFa
 /// Whether these bytes are a module that is written again just so.
 fn stays(alloc: Global, text: &[u8]) -> Result<bool, ModuleFault> {
     is_written(alloc, text, text)
+}
+
+/// Whether each of these is.
+fn stay(alloc: Global, texts: &[&[u8]]) -> bool {
+    for text in texts {
+        if stays(alloc, text) != Ok(true) {
+            return false;
+        }
+    }
+    true
 }
 
 /// Whether a module has two functions of one type, a table, a memory and two exports.
@@ -88,13 +100,16 @@ fn modules_of_no_padding_are_written_byte_for_byte(rt: HostRuntime) {
     let alloc = rt.alloc();
     // the header alone; a table, a memory and an export; and a function of a f64
     let nothing = b"\0asm\x01\0\0\0";
-    assert_eq!(rt; stays(alloc, nothing.as_slice()), Ok(true));
     let memory =
         b"\0asm\x01\0\0\0\x04\x05\x01\x70\x01\x01\x01\x05\x03\x01\x00\x02\x07\x0a\x01\x06memory\x02\x00";
-    assert_eq!(rt; stays(alloc, memory.as_slice()), Ok(true));
     let of_f64 =
         b"\0asm\x01\0\0\0\x01\x05\x01\x60\x01\x7c\x00\x03\x02\x01\x00\x04\x05\x01\x70\x01\x01\x01\x05\x03\x01\x00\x02\x07\x0e\x02\x06memory\x02\x00\x01f\x00\x00\x0a\x07\x01\x05\x00\x20\x00\x1a\x0b";
-    assert_eq!(rt; stays(alloc, of_f64.as_slice()), Ok(true));
+    assert!(rt;
+        stay(
+            alloc,
+            &[nothing.as_slice(), memory.as_slice(), of_f64.as_slice()]
+        )
+    );
 }
 
 fn globals_hold(globals: &[ModuleGlobal]) -> bool {
@@ -244,56 +259,55 @@ fn contents_of_another_form_are_refused(rt: HostRuntime) {
     assert_eq!(rt; are_refused(alloc, &cases), Ok(true));
 }
 
-#[test]
-fn expressions_and_globals_are_read_with_places(rt: HostRuntime) {
+fn expressions_have_places() -> bool {
     let rest = [9].as_slice();
     let get = [0x23, 0x05, 0x0b, 9];
     let foreign = |byte| Stop::Foreign(Item::ConstExpr(byte));
-    assert_eq!(rt; init_at(true, 10, &get), Ok((ConstExpr::Get(5), rest)));
-    assert_eq!(rt; init_at(false, 10, &get), Err(foreign(0x23)));
-    assert_eq!(rt; init_at(true, 10, &[0x23, 0x05, 0x01]), Err(foreign(0x01)));
-    assert_eq!(rt; init_at(true, 10, &[]), Err(Stop::Broken(10)));
-    let value = ConstExpr::I32(7);
-    assert_eq!(rt;
-        init_at(true, 10, &[0x41, 0x07, 0x0b, 9]),
-        Ok((value, rest))
-    );
+    init_at(true, 10, &get) == Ok((ConstExpr::Get(5), rest))
+        && init_at(false, 10, &get) == Err(foreign(0x23))
+        && init_at(true, 10, &[0x23, 0x05, 0x01]) == Err(foreign(0x01))
+        && init_at(true, 10, &[]) == Err(Stop::Broken(10))
+        && init_at(true, 10, &[0x41, 0x07, 0x0b, 9]) == Ok((ConstExpr::I32(7), rest))
+}
+
+fn globals_have_places() -> bool {
     let kind = GlobalType {
         kind: ValType::I32,
         var: true,
     };
-    assert_eq!(rt;
-        global_at(false, 10, &[0x7f, 0x01, 0x41, 0x07, 0x0b, 9]),
-        Ok((ModuleGlobal { kind, value }, rest))
-    );
-    assert_eq!(rt;
-        global_at(false, 10, &[0x7f, 0x02, 0x41]),
-        Err(Stop::Broken(8))
-    );
+    let value = ConstExpr::I32(7);
+    let global = ModuleGlobal { kind, value };
+    global_at(false, 10, &[0x7f, 0x01, 0x41, 0x07, 0x0b, 9]) == Ok((global, [9].as_slice()))
+        && global_at(false, 10, &[0x7f, 0x02, 0x41]) == Err(Stop::Broken(8))
+}
+
+#[test]
+fn expressions_and_globals_are_read_with_places(rt: HostRuntime) {
+    assert!(rt; expressions_have_places());
+    assert!(rt; globals_have_places());
+}
+
+fn segments_have_places() -> bool {
+    let rest = [9].as_slice();
+    let value = ConstExpr::I32(7);
+    let foreign = |item| Stop::Foreign(item);
+    let cut = [0x00, 0x41, 0x07, 0x0b, 0x02, 1];
+    lent_segment_at(false, 10, &[0x80, 0x00, 0x41, 0x07, 0x0b, 0x02, 1, 2, 9])
+        == Ok((None, value, [1, 2].as_slice(), rest))
+        && lent_segment_at(true, 10, &[0x01]) == Err(foreign(Item::PassiveSegment))
+        && lent_segment_at(true, 10, &[0x03]) == Err(foreign(Item::SegmentForm(3)))
+        && lent_segment_at(true, 10, &cut) == Err(Stop::Broken(10))
+}
+
+fn names_have_places() -> bool {
+    lent_name_at(10, &[0x01, 0x66, 9]) == Ok((b"f".as_slice(), [9].as_slice()))
+        && lent_name_at(10, &[0x01, 0xff, 9]) == Err(Stop::Broken(7))
 }
 
 #[test]
 fn segments_and_names_are_lent(rt: HostRuntime) {
-    let rest = [9].as_slice();
-    let value = ConstExpr::I32(7);
-    let lent = lent_segment_at(false, 10, &[0x80, 0x00, 0x41, 0x07, 0x0b, 0x02, 1, 2, 9]);
-    assert_eq!(rt; lent, Ok((None, value, [1, 2].as_slice(), rest)));
-    let foreign = |item| Stop::Foreign(item);
-    assert_eq!(rt;
-        lent_segment_at(true, 10, &[0x01]),
-        Err(foreign(Item::PassiveSegment))
-    );
-    assert_eq!(rt;
-        lent_segment_at(true, 10, &[0x03]),
-        Err(foreign(Item::SegmentForm(3)))
-    );
-    let cut = [0x00, 0x41, 0x07, 0x0b, 0x02, 1];
-    assert_eq!(rt; lent_segment_at(true, 10, &cut), Err(Stop::Broken(10)));
-    assert_eq!(rt;
-        lent_name_at(10, &[0x01, 0x66, 9]),
-        Ok((b"f".as_slice(), rest))
-    );
-    assert_eq!(rt; lent_name_at(10, &[0x01, 0xff, 9]), Err(Stop::Broken(7)));
+    assert!(rt; segments_have_places());
+    assert!(rt; names_have_places());
 }
 
 /// Whether the export at the front is named so, its kind and its index, and the bytes after it.
@@ -328,25 +342,29 @@ fn segment_parts(
     Ok((segment.memory, segment.offset, segment.bytes.len(), rest))
 }
 
+fn broken(at: usize) -> ReadFault {
+    ReadFault::Stopped(Stop::Broken(at))
+}
+
+fn exports_have_places(alloc: Global) -> bool {
+    let parts = Ok((true, 0, 3, [9].as_slice()));
+    export_parts(alloc, &[0x01, 0x66, 0x00, 0x03, 9], b"f".as_slice()) == parts
+        && export_parts(alloc, &[0x01, 0x66, 0x04, 0x03, 9], b"f".as_slice()) == Err(broken(7))
+}
+
+fn kept_segments_have_places(alloc: Global) -> bool {
+    let foreign = ReadFault::Stopped(Stop::Foreign(Item::SegmentForm(1)));
+    let no_kind = [0x02, 0x00, 0x41, 0x00, 0x0b, 0x01];
+    let text = [0x00, 0x41, 0x07, 0x0b, 0x00, 9];
+    let parts = Ok((None, ConstExpr::I32(7), 0, [9].as_slice()));
+    element_parts(alloc, true, &[0x01, 9]) == Err(foreign)
+        && element_parts(alloc, true, &no_kind) == Err(broken(9))
+        && element_parts(alloc, false, &text) == parts
+        && segment_parts(alloc, &text) == parts
+}
+
 #[test]
 fn exports_and_segments_are_kept(rt: HostRuntime) {
-    let alloc = rt.alloc();
-    let broken = |at| ReadFault::Stopped(Stop::Broken(at));
-    let rest = [9].as_slice();
-    assert_eq!(rt;
-        export_parts(alloc, &[0x01, 0x66, 0x00, 0x03, 9], b"f".as_slice()),
-        Ok((true, 0, 3, rest))
-    );
-    assert_eq!(rt;
-        export_parts(alloc, &[0x01, 0x66, 0x04, 0x03, 9], b"f".as_slice()),
-        Err(broken(7))
-    );
-    let foreign = ReadFault::Stopped(Stop::Foreign(Item::SegmentForm(1)));
-    assert_eq!(rt; element_parts(alloc, true, &[0x01, 9]), Err(foreign));
-    let no_kind = [0x02, 0x00, 0x41, 0x00, 0x0b, 0x01];
-    assert_eq!(rt; element_parts(alloc, true, &no_kind), Err(broken(9)));
-    let text = [0x00, 0x41, 0x07, 0x0b, 0x00, 9];
-    let parts = Ok((None, ConstExpr::I32(7), 0, rest));
-    assert_eq!(rt; element_parts(alloc, false, &text), parts);
-    assert_eq!(rt; segment_parts(alloc, &text), parts);
+    assert!(rt; exports_have_places(rt.alloc()));
+    assert!(rt; kept_segments_have_places(rt.alloc()));
 }

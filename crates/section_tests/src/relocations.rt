@@ -1,140 +1,175 @@
-use super::*;
-use crate::kinds::{has_addend, is_read};
-use std::test::Fail;
+//! Entries and sections of relocations, read whole, and their types.
+
+use reloc_section::kinds::{has_addend, is_read};
+use reloc_section::{Reloc, RelocFault, RelocSection, kinds, read, reloc_at, relocs_at};
+use std::alloc::Global;
 use wasm_grammar::{Form, ReadFault, Stop, vector_at};
 use wl_base::{Item, Seq};
 
-#[test]
-fn types_are_known_by_their_numbers(rt: HostRuntime) {
-    for kind in [0, 1, 2, 6, 7, 12, 13, 20] {
-        assert_eq!(rt;
-            (is_read(kind), has_addend(kind)),
-            (true, false),
-            "of {kind}"
-        );
-    }
-    for kind in [3, 4, 5, 8, 9, 11] {
-        assert_eq!(rt;
-            (is_read(kind), has_addend(kind)),
-            (true, true),
-            "of {kind}"
-        );
-    }
-    for kind in [
-        10, 14, 15, 16, 17, 18, 19, 21, 22, 23, 24, 25, 26, 27, 128, 255,
-    ] {
-        assert_eq!(rt;
-            (is_read(kind), has_addend(kind)),
-            (false, false),
-            "of {kind}"
-        );
-    }
+const NOTHING: &[u8] = &[];
+
+const NINE: &[u8] = &[9];
+
+/// Whether each of these types is read, or none, and has an addend, or hasn't.
+fn are_known(types: &[u8], read: bool, addend: bool) -> bool {
+    types.iter().all(|kind| is_read(*kind) == read && has_addend(*kind) == addend)
 }
 
 #[test]
-fn entries_are_read_with_places(rt: HostRuntime) {
-    let nothing = [].as_slice();
-    let entry = |kind, offset, index, addend| Reloc {
+fn types_are_known_by_their_numbers(rt: HostRuntime) {
+    assert!(rt; are_known(&[0, 1, 2, 6, 7, 12, 13, 20], true, false));
+    assert!(rt; are_known(&[3, 4, 5, 8, 9, 11], true, true));
+    let others = [
+        10, 14, 15, 16, 17, 18, 19, 21, 22, 23, 24, 25, 26, 27, 128, 255,
+    ];
+    assert!(rt; are_known(&others, false, false));
+}
+
+fn entry(kind: u8, offset: u32, index: u32, addend: i32) -> Reloc {
+    Reloc {
         kind,
         offset,
         index,
         addend,
-    };
-    let foreign = |kind| Err(Stop::Foreign(Item::RelocType(kind)));
-    for (bytes, want) in [
-        ([0, 4, 1].as_slice(), Ok((entry(0, 4, 1, 0), nothing))),
-        (&[0, 4, 1, 9], Ok((entry(0, 4, 1, 0), [9].as_slice()))),
-        (
-            &[3, 0x80, 0x01, 5, 0x7c],
-            Ok((entry(3, 128, 5, -4), nothing)),
-        ),
-        (&[4, 1, 2, 3], Ok((entry(4, 1, 2, 3), nothing))),
-        (
-            &[5, 1, 2, 0x3f, 9],
-            Ok((entry(5, 1, 2, 63), [9].as_slice())),
-        ),
-        (&[8, 1, 2, 0xc0, 0x00], Ok((entry(8, 1, 2, 64), nothing))),
-        (&[9, 1, 2, 0], Ok((entry(9, 1, 2, 0), nothing))),
-        (&[11, 1, 2, 0x7f], Ok((entry(11, 1, 2, -1), nothing))),
-        (&[20, 0, 0], Ok((entry(20, 0, 0, 0), nothing))),
-        (&[10, 4, 1], foreign(10)),
-        (&[14], foreign(14)),
-        (&[21, 0x80], foreign(21)),
-        (&[255], foreign(255)),
-        (nothing, Err(Stop::Broken(10))),
-        (&[0], Err(Stop::Broken(10))),
-        (&[0, 4, 0x80], Err(Stop::Broken(9))),
-        (&[4, 1, 2], Err(Stop::Broken(10))),
-        (&[4, 1, 2, 0x80], Err(Stop::Broken(9))),
-    ] {
-        assert_eq!(rt; reloc_at(10, bytes), want, "at {bytes:?}");
     }
 }
 
+fn entries_have_ends() -> bool {
+    reloc_at(10, &[0, 4, 1]) == Ok((entry(0, 4, 1, 0), NOTHING))
+        && reloc_at(10, &[0, 4, 1, 9]) == Ok((entry(0, 4, 1, 0), NINE))
+        && reloc_at(10, &[3, 0x80, 0x01, 5, 0x7c]) == Ok((entry(3, 128, 5, -4), NOTHING))
+        && reloc_at(10, &[4, 1, 2, 3]) == Ok((entry(4, 1, 2, 3), NOTHING))
+        && reloc_at(10, &[5, 1, 2, 0x3f, 9]) == Ok((entry(5, 1, 2, 63), NINE))
+        && reloc_at(10, &[8, 1, 2, 0xc0, 0x00]) == Ok((entry(8, 1, 2, 64), NOTHING))
+        && reloc_at(10, &[9, 1, 2, 0]) == Ok((entry(9, 1, 2, 0), NOTHING))
+        && reloc_at(10, &[11, 1, 2, 0x7f]) == Ok((entry(11, 1, 2, -1), NOTHING))
+        && reloc_at(10, &[20, 0, 0]) == Ok((entry(20, 0, 0, 0), NOTHING))
+}
+
+fn entries_are_refused() -> bool {
+    let foreign = |kind| Err(Stop::Foreign(Item::RelocType(kind)));
+    reloc_at(10, &[10, 4, 1]) == foreign(10)
+        && reloc_at(10, &[14]) == foreign(14)
+        && reloc_at(10, &[21, 0x80]) == foreign(21)
+        && reloc_at(10, &[255]) == foreign(255)
+        && reloc_at(10, NOTHING) == Err(Stop::Broken(10))
+        && reloc_at(10, &[0]) == Err(Stop::Broken(10))
+        && reloc_at(10, &[0, 4, 0x80]) == Err(Stop::Broken(9))
+        && reloc_at(10, &[4, 1, 2]) == Err(Stop::Broken(10))
+        && reloc_at(10, &[4, 1, 2, 0x80]) == Err(Stop::Broken(9))
+}
+
+#[test]
+fn entries_are_read_with_places(rt: HostRuntime) {
+    assert!(rt; entries_have_ends());
+    assert!(rt; entries_are_refused());
+}
+
 /// The entry of a call at byte 4 to the function that symbol 1 names.
-fn call() -> Reloc {
-    Reloc {
-        kind: kinds::FUNCTION_INDEX_LEB,
-        offset: 4,
-        index: 1,
-        addend: 0,
+const CALL: Reloc = Reloc {
+    kind: kinds::FUNCTION_INDEX_LEB,
+    offset: 4,
+    index: 1,
+    addend: 0,
+};
+
+const ADDRESS: Reloc = Reloc {
+    kind: kinds::MEMORY_ADDR_SLEB,
+    offset: 8,
+    index: 2,
+    addend: -4,
+};
+
+/// Whether the payload is that of a section with this target and these entries.
+fn is_payload(alloc: Global, payload: &[u8], target: u32, entries: &[Reloc]) -> bool {
+    match read(alloc, payload) {
+        Ok(found) => found.target == target && found.entries.as_slice() == entries,
+        Err(_) => false,
     }
 }
 
 #[test]
-fn payloads_are_read_whole(rt: HostRuntime) -> Result<(), Fail> {
+fn payloads_are_read_whole(rt: HostRuntime) {
     let alloc = rt.alloc();
-    let entries = Seq::from_slice(alloc, &[call()])?;
-    let want = RelocSection { target: 2, entries };
-    assert_eq!(rt; read(alloc, &[2, 1, 0, 4, 1]), Ok(want));
-    let address = Reloc {
-        kind: kinds::MEMORY_ADDR_SLEB,
-        offset: 8,
-        index: 2,
-        addend: -4,
-    };
-    let entries = Seq::from_slice(alloc, &[call(), address])?;
-    let want = RelocSection { target: 3, entries };
-    assert_eq!(rt; read(alloc, &[3, 2, 0, 4, 1, 4, 8, 2, 0x7c]), Ok(want));
-    let entries = Seq::new(alloc);
-    let want = RelocSection { target: 5, entries };
-    assert_eq!(rt; read(alloc, &[0x85, 0x00, 0x80, 0x00]), Ok(want));
-    Ok(())
+    assert!(rt; is_payload(alloc, &[2, 1, 0, 4, 1], 2, &[CALL]));
+    assert!(rt; is_payload(alloc, &[3, 2, 0, 4, 1, 4, 8, 2, 0x7c], 3, &[CALL, ADDRESS]));
+    assert!(rt; is_payload(alloc, &[0x85, 0x00, 0x80, 0x00], 5, &[]));
+}
+
+/// The fault of a payload that isn't that of a section.
+fn fault_of(alloc: Global, payload: &[u8]) -> Option<RelocFault> {
+    match read(alloc, payload) {
+        Ok(_) => None,
+        Err(fault) => Some(fault),
+    }
+}
+
+fn payloads_are_broken(alloc: Global) -> bool {
+    let broken = Some(RelocFault::NotReloc);
+    fault_of(alloc, NOTHING) == broken
+        && fault_of(alloc, &[2]) == broken
+        && fault_of(alloc, &[2, 1]) == broken
+        && fault_of(alloc, &[2, 1, 0, 4]) == broken
+        && fault_of(alloc, &[2, 0, 0]) == broken
+        && fault_of(alloc, &[2, 1, 0, 4, 1, 0]) == broken
+        && fault_of(alloc, &[2, 2, 0, 4, 0x80, 10]) == broken
+        && fault_of(alloc, &[2, 0xff, 0xff, 0xff, 0xff, 0x0f]) == broken
+}
+
+fn payloads_are_foreign(alloc: Global) -> bool {
+    fault_of(alloc, &[2, 1, 10]) == Some(RelocFault::ForeignType(10))
+        && fault_of(alloc, &[2, 2, 0, 4, 1, 19, 0x80]) == Some(RelocFault::ForeignType(19))
+}
+
+/// The same, with its place.
+fn placed_fault_of(alloc: Global, payload: &[u8]) -> Option<ReadFault> {
+    match relocs_at(alloc, 10, payload) {
+        Ok(_) => None,
+        Err(fault) => Some(fault),
+    }
+}
+
+fn faults_have_places(alloc: Global) -> bool {
+    let left_over = ReadFault::Stopped(Stop::Broken(9));
+    let foreign = ReadFault::Stopped(Stop::Foreign(Item::RelocType(10)));
+    placed_fault_of(alloc, &[2, 0, 0]) == Some(left_over)
+        && placed_fault_of(alloc, &[2, 1, 10]) == Some(foreign)
 }
 
 #[test]
 fn other_payloads_are_refused(rt: HostRuntime) {
-    let alloc = rt.alloc();
-    for (payload, want) in [
-        ([].as_slice(), RelocFault::NotReloc),
-        (&[2], RelocFault::NotReloc),
-        (&[2, 1], RelocFault::NotReloc),
-        (&[2, 1, 0, 4], RelocFault::NotReloc),
-        (&[2, 0, 0], RelocFault::NotReloc),
-        (&[2, 1, 0, 4, 1, 0], RelocFault::NotReloc),
-        (&[2, 2, 0, 4, 0x80, 10], RelocFault::NotReloc),
-        (&[2, 1, 10], RelocFault::ForeignType(10)),
-        (&[2, 2, 0, 4, 1, 19, 0x80], RelocFault::ForeignType(19)),
-        (&[2, 0xff, 0xff, 0xff, 0xff, 0x0f], RelocFault::NotReloc),
-    ] {
-        assert_eq!(rt; read(alloc, payload), Err(want), "at {payload:?}");
+    assert!(rt; payloads_are_broken(rt.alloc()));
+    assert!(rt; payloads_are_foreign(rt.alloc()));
+    assert!(rt; faults_have_places(rt.alloc()));
+}
+
+/// Whether the vector at the front has the call alone, and 9 behind it.
+fn is_vector(alloc: Global, bytes: &[u8]) -> bool {
+    match vector_at::<Reloc>(alloc, 10, bytes) {
+        Ok((found, rest)) => found.as_slice() == [CALL].as_slice() && rest == NINE,
+        Err(_) => false,
     }
-    let left_over = Err(ReadFault::Stopped(Stop::Broken(9)));
-    assert_eq!(rt; relocs_at(alloc, 10, &[2, 0, 0]), left_over);
-    let foreign = Err(ReadFault::Stopped(Stop::Foreign(Item::RelocType(10))));
-    assert_eq!(rt; relocs_at(alloc, 10, &[2, 1, 10]), foreign);
+}
+
+/// Whether the section at the front has the target 2 and the call alone, and 9 behind it.
+fn is_section(alloc: Global, bytes: &[u8]) -> bool {
+    match RelocSection::form_at(alloc, 10, bytes) {
+        Ok((found, rest)) => {
+            found.target == 2 && found.entries.as_slice() == [CALL].as_slice() && rest == NINE
+        }
+        Err(_) => false,
+    }
+}
+
+fn section_of_call(alloc: Global) -> Option<RelocSection> {
+    let entries = Seq::from_slice(alloc, &[CALL]).ok()?;
+    Some(RelocSection { target: 2, entries })
 }
 
 #[test]
-fn entries_and_sections_are_items_of_vectors(rt: HostRuntime) -> Result<(), Fail> {
+fn entries_and_sections_are_items_of_vectors(rt: HostRuntime) {
     let alloc = rt.alloc();
-    let entries = Seq::from_slice(alloc, &[call()])?;
-    let read = vector_at::<Reloc>(alloc, 10, &[1, 0, 4, 1, 9]);
-    assert_eq!(rt; read, Ok((entries, [9].as_slice())));
-    let entries = Seq::from_slice(alloc, &[call()])?;
-    let want = RelocSection { target: 2, entries };
-    let read = RelocSection::form_at(alloc, 10, &[2, 1, 0, 4, 1, 9]);
-    assert_eq!(rt; read, Ok((want, [9].as_slice())));
-    assert_eq!(rt; call(), call());
-    Ok(())
+    assert!(rt; is_vector(alloc, &[1, 0, 4, 1, 9]));
+    assert!(rt; is_section(alloc, &[2, 1, 0, 4, 1, 9]));
+    assert!(rt; CALL == CALL && section_of_call(alloc) == section_of_call(alloc));
 }

@@ -1,22 +1,29 @@
-use super::*;
+//! How a file is cut into sections, and the first that is at fault.
+
 use std::alloc::Global;
 use std::test::Fail;
-use wl_base::{Seq, Span};
+use wasm_sections::{FrameFault, SectionSpan, frame};
+use wl_base::{OutOfMemory, Seq, Span};
 
 /// The header, and these bytes behind it.
-fn module(alloc: Global, after: &[u8]) -> Result<Seq<u8>, Fail> {
+fn module(alloc: Global, after: &[u8]) -> Result<Seq<u8>, OutOfMemory> {
     let mut bytes = Seq::from_slice(alloc, b"\0asm\x01\0\0\0".as_slice())?;
     bytes.extend_from_slice(after)?;
     Ok(bytes)
 }
 
-/// The fault of the header and these bytes behind it, and none where they are sections.
-fn fault_of(alloc: Global, after: &[u8]) -> Result<Option<FrameFault>, Fail> {
-    let bytes = module(alloc, after)?;
-    match frame(alloc, bytes.as_slice()) {
-        Ok(_) => Ok(None),
-        Err(fault) => Ok(Some(fault)),
+/// Whether these bytes are cut into these sections.
+fn is_cut(alloc: Global, bytes: &[u8], want: &[SectionSpan]) -> bool {
+    match frame(alloc, bytes) {
+        Ok(found) => found.as_slice() == want,
+        Err(_) => false,
     }
+}
+
+/// Whether these bytes behind the header are.
+fn are_sections(alloc: Global, after: &[u8], want: &[SectionSpan]) -> Result<bool, OutOfMemory> {
+    let bytes = module(alloc, after)?;
+    Ok(is_cut(alloc, bytes.as_slice(), want))
 }
 
 fn section(id: u8, start: u64, len: u64) -> SectionSpan {
@@ -24,62 +31,88 @@ fn section(id: u8, start: u64, len: u64) -> SectionSpan {
     SectionSpan { id, payload }
 }
 
-#[test]
-fn sections_cover_the_file(rt: HostRuntime) -> Result<(), Fail> {
-    let alloc = rt.alloc();
-    let empty = module(alloc, &[])?;
-    assert_eq!(rt; frame(alloc, empty.as_slice()), Ok(Seq::new(alloc)));
-    // A custom section between, and a size of two bytes.
-    let bytes = module(alloc, &[1, 1, 9, 0, 0x82, 0x00, 1, 0x61, 10, 0])?;
-    let want = [section(1, 10, 1), section(0, 14, 2), section(10, 18, 0)];
-    assert_eq!(rt;
-        frame(alloc, bytes.as_slice()),
-        Ok(Seq::from_slice(alloc, &want)?)
-    );
-    // All that aren't custom, in their order.
-    let ids = [1, 2, 3, 4, 5, 13, 6, 7, 8, 9, 12, 10, 11];
-    let mut bytes = module(alloc, &[])?;
-    let mut want = Seq::new(alloc);
+/// All sections that aren't custom, in their order, each of them empty.
+fn add_all(bytes: &mut Seq<u8>, sections: &mut Seq<SectionSpan>) -> Result<(), OutOfMemory> {
     let mut start = 10;
-    for id in ids {
+    for id in [1, 2, 3, 4, 5, 13, 6, 7, 8, 9, 12, 10, 11] {
         bytes.extend_from_slice(&[id, 0])?;
-        want.push(section(id, start, 0))?;
+        sections.push(section(id, start, 0))?;
         start = start.wrapping_add(2);
     }
-    assert_eq!(rt; frame(alloc, bytes.as_slice()), Ok(want));
     Ok(())
 }
 
+fn all_are_cut(alloc: Global) -> Result<bool, OutOfMemory> {
+    let mut bytes = module(alloc, &[])?;
+    let mut want = Seq::new(alloc);
+    add_all(&mut bytes, &mut want)?;
+    Ok(is_cut(alloc, bytes.as_slice(), want.as_slice()))
+}
+
 #[test]
-fn the_first_section_at_fault_is_told(rt: HostRuntime) -> Result<(), Fail> {
+fn sections_cover_the_file(rt: HostRuntime) -> Result<(), Fail> {
     let alloc = rt.alloc();
-    let short = b"\0asm\x01\0\0".as_slice();
-    assert_eq!(rt; frame(alloc, short), Err(FrameFault::BadHeader));
-    let other = b"\0asm\x02\0\0\0".as_slice();
-    assert_eq!(rt; frame(alloc, other), Err(FrameFault::BadHeader));
-    // A size that runs past the end, is missing, isn't whole, or is no u32.
-    let size = Some(FrameFault::BadSize(8));
-    assert_eq!(rt; fault_of(alloc, &[1, 6, 0])?, size);
-    assert_eq!(rt; fault_of(alloc, &[1])?, size);
-    assert_eq!(rt; fault_of(alloc, &[1, 0x80])?, size);
-    let wide = [1, 0x80, 0x80, 0x80, 0x80, 0x10];
-    assert_eq!(rt; fault_of(alloc, &wide)?, size);
-    // No such id, whatever follows, behind a section that is whole.
-    assert_eq!(rt; fault_of(alloc, &[1, 0, 14])?, Some(FrameFault::BadId(10)));
-    // Twice, and too late.
-    let order = Some(FrameFault::BadOrder(10));
-    assert_eq!(rt; fault_of(alloc, &[1, 0, 1, 0])?, order);
-    assert_eq!(rt; fault_of(alloc, &[6, 0, 13, 0])?, order);
-    assert_eq!(rt; fault_of(alloc, &[10, 0, 12, 0])?, order);
-    let behind_custom = [2, 0, 0, 0, 1, 0];
-    let later = Some(FrameFault::BadOrder(12));
-    assert_eq!(rt; fault_of(alloc, &behind_custom)?, later);
-    // The size is judged before the order, and the first section at fault decides.
-    assert_eq!(rt;
-        fault_of(alloc, &[1, 0, 1, 1])?,
-        Some(FrameFault::BadSize(10))
-    );
-    assert_eq!(rt; fault_of(alloc, &[2, 0, 1, 0, 14, 0])?, order);
-    assert_eq!(rt; fault_of(alloc, &[0, 0, 0, 0])?, None);
+    assert!(rt; are_sections(alloc, &[], &[])?);
+    // A custom section between, and a size of two bytes.
+    let bytes = [1, 1, 9, 0, 0x82, 0x00, 1, 0x61, 10, 0];
+    let want = [section(1, 10, 1), section(0, 14, 2), section(10, 18, 0)];
+    assert!(rt; are_sections(alloc, &bytes, &want)?);
+    assert!(rt; all_are_cut(alloc)?);
     Ok(())
+}
+
+/// The fault of these bytes, and none where they are cut into sections.
+fn fault_of(alloc: Global, bytes: &[u8]) -> Option<FrameFault> {
+    match frame(alloc, bytes) {
+        Ok(_) => None,
+        Err(fault) => Some(fault),
+    }
+}
+
+/// Whether the header and these bytes behind it have this fault.
+fn is_fault(alloc: Global, after: &[u8], want: Option<FrameFault>) -> bool {
+    match module(alloc, after) {
+        Ok(bytes) => fault_of(alloc, bytes.as_slice()) == want,
+        Err(_) => false,
+    }
+}
+
+fn headers_are_refused(alloc: Global) -> bool {
+    fault_of(alloc, b"\0asm\x01\0\0".as_slice()) == Some(FrameFault::BadHeader)
+        && fault_of(alloc, b"\0asm\x02\0\0\0".as_slice()) == Some(FrameFault::BadHeader)
+}
+
+/// Sizes that run past the end, are missing, aren't whole, or are no u32.
+fn sizes_are_refused(alloc: Global) -> bool {
+    let size = Some(FrameFault::BadSize(8));
+    is_fault(alloc, &[1, 6, 0], size)
+        && is_fault(alloc, &[1], size)
+        && is_fault(alloc, &[1, 0x80], size)
+        && is_fault(alloc, &[1, 0x80, 0x80, 0x80, 0x80, 0x10], size)
+}
+
+/// Sections that stand twice, and too late.
+fn orders_are_refused(alloc: Global) -> bool {
+    let order = Some(FrameFault::BadOrder(10));
+    is_fault(alloc, &[1, 0, 1, 0], order)
+        && is_fault(alloc, &[6, 0, 13, 0], order)
+        && is_fault(alloc, &[10, 0, 12, 0], order)
+        && is_fault(alloc, &[2, 0, 0, 0, 1, 0], Some(FrameFault::BadOrder(12)))
+}
+
+/// The size is judged before the order, and the first section at fault decides.
+fn the_first_is_told(alloc: Global) -> bool {
+    is_fault(alloc, &[1, 0, 1, 1], Some(FrameFault::BadSize(10)))
+        && is_fault(alloc, &[2, 0, 1, 0, 14, 0], Some(FrameFault::BadOrder(10)))
+        // No such id, whatever follows, behind a section that is whole.
+        && is_fault(alloc, &[1, 0, 14], Some(FrameFault::BadId(10)))
+        && is_fault(alloc, &[0, 0, 0, 0], None)
+}
+
+#[test]
+fn the_first_section_at_fault_is_told(rt: HostRuntime) {
+    assert!(rt; headers_are_refused(rt.alloc()));
+    assert!(rt; sizes_are_refused(rt.alloc()));
+    assert!(rt; orders_are_refused(rt.alloc()));
+    assert!(rt; the_first_is_told(rt.alloc()));
 }

@@ -4,7 +4,7 @@ use Rattle.std.proofs.lemmas.List.{take_all}
 use Rattle.reloc_apply.specs.declared.window.Form.TheVariants.{Unsigned5}
 use Rattle.reloc_apply.specs.declared.window.Window.{Window}
 use Rattle.reloc_apply.specs.Windows.{IsSum}
-use Rattle.reloc_apply.proofs.Checks.{one_more_sum}
+use Rattle.layout_tests.proofs.Checks.{one_more_sum}
 use Rattle.layout_tests.proofs.patches.are_sums.Goals as goal
 use Rattle.std.specs.Prelude.{IsTrue, pos}
 

@@ -1,7 +1,7 @@
 use Rattle.std.proofs.Common.{rules, ◌≡◌, subst, ℕ, true, List}
 use Rattle.live_mark.specs.Asks.{Below}
-use Rattle.live_mark.specs.Graphs.{all_below, rows_below}
-use Rattle.live_mark.proofs.Graphs.{below_from, all_below_from}
+use Rattle.marking_tests.specs.Graphs.{all_below, rows_below}
+use Rattle.marking_tests.proofs.Graphs.{below_from, all_below_from}
 use Rattle.marking_tests.proofs.liveness.marked.Goals as goal
 
 pub live-requires-clause-roots : goal.live-requires-clause-roots

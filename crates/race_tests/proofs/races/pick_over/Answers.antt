@@ -1,5 +1,5 @@
 use Rattle.race_tests.proofs.Grids.{few_jobs, words_below, ranks_below}
-use Rattle.race_tests.proofs.tests.pick_over.Goals as goal
+use Rattle.race_tests.proofs.races.pick_over.Goals as goal
 
 pub pick-requires-clause-jobs : goal.pick-requires-clause-jobs
 pick-requires-clause-jobs g c κs within = few_jobs c.args.jobs.now.jobs c.args.jobs.now.items c.args.jobs.now.few

@@ -1,5 +1,5 @@
 use Rattle.race_tests.proofs.Grids.{few_jobs, words_below, ranks_made}
-use Rattle.race_tests.proofs.tests.race_over.Goals as goal
+use Rattle.race_tests.proofs.races.race_over.Goals as goal
 
 pub race-requires-clause-jobs : goal.race-requires-clause-jobs
 race-requires-clause-jobs g c κs within = few_jobs c.args.jobs.now.jobs c.args.jobs.now.items c.args.jobs.now.few

@@ -1,0 +1,52 @@
+//! Objects that were read or begin with nothing, and whether their inputs rise.
+ghost use Rattle.std.specs.Prelude.{IsTrue};
+ghost use Rattle.name_entries.specs.View.{InputsRise};
+
+use name_entries::{FuncTypes, Functions, Imports, Object, Segments, Symbols, read_object};
+use std::alloc::Global;
+use wl_base::Seq;
+
+/// An object of this input with nothing in it.
+pub fn nothing(alloc: Global, input: u32) -> Object {
+    Object {
+        input,
+        types: FuncTypes::new(alloc),
+        imports: Imports::new(alloc),
+        functions: Functions::new(alloc),
+        globals: Seq::new(alloc),
+        segments: Segments::new(alloc),
+        symbols: Symbols::new(alloc),
+        inits: Seq::new(alloc),
+        groups: Seq::new(alloc),
+    }
+}
+
+/// An object with a function that is `f`, strong and in the group `g`.
+pub fn grouped() -> &'static [u8] {
+    b"\0asm\x01\0\0\0\x01\x04\x01`\0\0\x03\x02\x01\0\x0a\x04\x01\x02\0\x0b\0\x1a\x07linking\x02\x08\x06\x01\0\0\0\x01f\x07\x07\x01\x01g\0\x01\x01\0".as_slice()
+}
+
+/// The objects that these bytes are, as the inputs from 1 on.
+pub fn read(alloc: Global, files: &[&[u8]]) -> Option<Vec<Object>> {
+    let mut objects = Vec::new(alloc);
+    let mut input: u32 = 1;
+    for file in files {
+        objects.push(read_object(alloc, input, file).ok()?).ok()?;
+        input = input.checked_add(1)?;
+    }
+    Some(objects)
+}
+
+/// Whether the inputs rise, from 1 to below 2^20.
+pub fn inputs_rise(objects: &[Object]) -> bool
+    ensures { IsTrue result → InputsRise 0 objects.now }
+{
+    let mut last = 0;
+    for object in objects {
+        if object.input <= last || object.input >= 1 << 20 {
+            return false;
+        }
+        last = object.input;
+    }
+    true
+}
