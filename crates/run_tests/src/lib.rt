@@ -1,0 +1,10 @@
+//! Tests of the crates that run modules: stacks, the words of `wasmrun` and the texts of traces; each call once with
+//! memory there.
+#![tactic(auto)]
+
+#[cfg(test)]
+mod stacks;
+#[cfg(test)]
+mod texts;
+#[cfg(test)]
+mod words;
