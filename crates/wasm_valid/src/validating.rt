@@ -1,0 +1,93 @@
+//! A module is judged: first the rules outside the bodies, then body by body.
+ghost use Rattle.std.specs.Prelude.{◌≡◌, ◌+◌, ◌<◌, ◌^◌, IfOk, length, map};
+ghost use Rattle.wasm_valid.specs.Spaces.{functions_of, context_with};
+ghost use Rattle.wasm_valid.specs.Valid.{Judges};
+ghost use Rattle.wasm_valid.specs.Computed.{Tells, module_fault};
+
+use crate::fault::ValidError;
+use crate::rules::stands;
+use crate::spaces::{Spaces, spaces_in};
+use std::alloc::Global;
+use valid_bodies::{Context, first_untyped};
+use wasm_module::Module;
+use wasm_types::{FuncType, TableType};
+use wl_base::{InvalidAt, OutOfMemory, Seq};
+
+/// The same types once more.
+fn copies(alloc: Global, types: &[FuncType]) -> Result<Seq<FuncType>, OutOfMemory>
+    ensures { IfOk result (λ found. found ≡ types.now) }
+{
+    let mut found = Seq::new(alloc);
+    for kind in types {
+        found.push(FuncType {
+            params: Seq::from_slice(alloc, kind.params.as_slice())?,
+            results: Seq::from_slice(alloc, kind.results.as_slice())?,
+        })?;
+    }
+    Ok(found)
+}
+
+/// Of each table whether it is of funcref.
+fn kinds(alloc: Global, tables: &[TableType]) -> Result<Seq<bool>, OutOfMemory>
+    ensures { IfOk result (λ found. found ≡ map (λ t. t.funcref) tables.now) }
+{
+    let mut found = Seq::new(alloc);
+    for table in tables {
+        found.push(table.funcref)?;
+    }
+    Ok(found)
+}
+
+/// What a body of the module may name (Core 3.1.1).
+fn context(alloc: Global, s: &Spaces, m: &Module) -> Result<Context, OutOfMemory>
+    ensures { IfOk result (λ c. c ≡ context_with s.now m.now) }
+{
+    Ok(Context {
+        types: copies(alloc, m.types.as_slice())?,
+        functions: Seq::from_slice(alloc, s.functions.as_slice())?,
+        tables: kinds(alloc, s.tables.as_slice())?,
+        memory: s.memories.len() > 0,
+        globals: Seq::from_slice(alloc, s.globals.as_slice())?,
+    })
+}
+
+/// Judges a module by the rules outside its bodies, then by the first body that has no typing.
+fn judge(alloc: Global, m: &Module) -> Result<(), ValidError>
+    requires bodies { length m.now.bodies ≡ length m.now.functions }
+    requires few { length (functions_of m.now) < 2 ^ 32 }
+    ensures { Judges result m.now }
+{
+    let s = spaces_in(alloc, m)?;
+    if !stands(alloc, &s, m)? {
+        return Err(ValidError::Invalid(InvalidAt::Module));
+    }
+    let c = context(alloc, &s, m)?;
+    match first_untyped(alloc, &c, m.functions.as_slice(), m.bodies.as_slice())? {
+        None => Ok(()),
+        Some(k) => {
+            let imported = s.functions.len() - m.functions.len();
+            Err(ValidError::Invalid(InvalidAt::Body((imported + k) as u32)))
+        }
+    }
+}
+
+/// Whether a module is valid (Core 3): all rules outside its bodies hold, and each body has a typing.
+///
+/// It has as many bodies as functions that are defined, as the binary format asks (Core 5.5.16), and
+/// fewer than 2^32 functions with those that are imported. Each body is read once.
+///
+/// # Errors
+/// `Invalid` with `Module` exactly where a rule outside the bodies fails. Where they all hold, `Invalid`
+/// with the number of the first function whose body has no typing, exactly where there is one. Want of
+/// memory.
+#[tactic(auto, using(crate::proofs::Computed::judged_is_computed))]
+pub fn validate(alloc: Global, m: &Module) -> Result<(), ValidError>
+    requires bodies { length m.now.bodies ≡ length m.now.functions }
+    requires few { length (functions_of m.now) < 2 ^ 32 }
+    // Against typing as a relation.
+    ensures judges { Judges result m.now }
+    // The same, as it is computed.
+    ensures computed { Tells result (module_fault m.now) }
+{
+    judge(alloc, m)
+}
