@@ -2,18 +2,8 @@
 #![tactic(auto)]
 
 #[cfg(test)]
-mod grammar;
-#[cfg(test)]
-mod instructions;
-#[cfg(test)]
 mod library;
 #[cfg(test)]
 mod linking;
 #[cfg(test)]
 mod module;
-#[cfg(test)]
-mod relocations;
-#[cfg(test)]
-mod sections;
-#[cfg(test)]
-mod types;

@@ -2,7 +2,6 @@
 
 use lib_index::{LibError, Library, has_magic, read_index};
 use std::alloc::Global;
-use std::test::Fail;
 use wl_base::{LibFault, OutOfMemory, Seq, Span};
 
 /// Appends a member: a name field of 16 bytes, fields that aren't read, a size field of 10 bytes, and
@@ -98,16 +97,17 @@ fn has_members(
     members_of(alloc, bytes) == Ok((2, spans)) && offers_of(alloc, bytes) == Ok(offers)
 }
 
-#[test]
-fn a_library_offers_its_members(rt: HostRuntime) -> Result<(), Fail> {
-    let alloc = rt.alloc();
+fn two_are_offered(alloc: Global) -> Result<bool, OutOfMemory> {
     let bytes = two_members(alloc)?;
     let spans = [span(144, 3), span(208, 1)];
     let offers = [Some(0), Some(1), None, None];
-    let holds = a_magic_has_no_members(alloc)
-        && has_members(alloc, bytes.as_slice(), spans, offers);
-    assert!(rt; holds);
-    Ok(())
+    Ok(has_members(alloc, bytes.as_slice(), spans, offers))
+}
+
+#[test]
+fn a_library_offers_its_members(rt: HostRuntime) {
+    assert!(rt; a_magic_has_no_members(rt.alloc()));
+    assert!(rt; two_are_offered(rt.alloc()) == Ok(true));
 }
 
 /// Two members, the first of 4 bytes and the second of none, behind an index and empty long names. The
@@ -121,14 +121,16 @@ fn defined_thrice(alloc: Global) -> Result<Seq<u8>, OutOfMemory> {
     Ok(bytes)
 }
 
-#[test]
-fn the_least_member_is_offered(rt: HostRuntime) -> Result<(), Fail> {
-    let alloc = rt.alloc();
+fn least_is_offered(alloc: Global) -> Result<bool, OutOfMemory> {
     let bytes = defined_thrice(alloc)?;
     let spans = [span(212, 4), span(276, 0)];
-    let holds = has_members(alloc, bytes.as_slice(), spans, [Some(0), None, None, None]);
-    assert!(rt; holds);
-    Ok(())
+    let offers = [Some(0), None, None, None];
+    Ok(has_members(alloc, bytes.as_slice(), spans, offers))
+}
+
+#[test]
+fn the_least_member_is_offered(rt: HostRuntime) {
+    assert!(rt; least_is_offered(rt.alloc()) == Ok(true));
 }
 
 /// What a prefix of two members is refused for.
@@ -153,13 +155,15 @@ fn wrong_prefix(alloc: Global, bytes: &[u8]) -> Option<usize> {
     None
 }
 
-#[test]
-fn prefixes_of_a_library_are_refused(rt: HostRuntime) -> Result<(), Fail> {
-    let alloc = rt.alloc();
+/// The length of the two members' bytes, and of the first prefix that isn't refused as it should be.
+fn wrong_of_two(alloc: Global) -> Result<(usize, Option<usize>), OutOfMemory> {
     let bytes = two_members(alloc)?;
-    let holds = bytes.len() == 210 && wrong_prefix(alloc, bytes.as_slice()).is_none();
-    assert!(rt; holds);
-    Ok(())
+    Ok((bytes.len(), wrong_prefix(alloc, bytes.as_slice())))
+}
+
+#[test]
+fn prefixes_of_a_library_are_refused(rt: HostRuntime) {
+    assert!(rt; wrong_of_two(rt.alloc()) == Ok((210, None)));
 }
 
 /// What a library of this index alone is refused for.

@@ -6,7 +6,6 @@ use linking_section::{
     linking_at, read, segment_at, symbol_at,
 };
 use std::alloc::Global;
-use std::test::Fail;
 use wasm_grammar::{Form, ReadFault, Stop, vector_at};
 use wl_base::{Item, Name, OutOfMemory, Seq};
 
@@ -63,9 +62,19 @@ fn silent(alloc: Global) -> Linking {
 }
 
 /// Whether this is the payload of a section that says what is wanted.
-fn is_read(alloc: Global, payload: &[u8], want: &Linking) -> Result<bool, LinkingFault> {
-    let linking = read(alloc, payload)?;
-    Ok(linking == *want)
+fn is_read(alloc: Global, payload: &[u8], want: &Linking) -> bool {
+    match read(alloc, payload) {
+        Err(_) => false,
+        Ok(linking) => linking == *want,
+    }
+}
+
+/// Whether this is the payload of a section that says what was made.
+fn says(alloc: Global, payload: &[u8], made: Result<Linking, OutOfMemory>) -> bool {
+    match made {
+        Err(_) => false,
+        Ok(want) => is_read(alloc, payload, &want),
+    }
 }
 
 fn add_functions(alloc: Global, symbols: &mut Seq<Symbol>) -> Result<(), OutOfMemory> {
@@ -81,14 +90,12 @@ fn two_symbols(alloc: Global) -> Result<Linking, OutOfMemory> {
 }
 
 #[test]
-fn the_symbols_of_a_small_object_are_read(rt: HostRuntime) -> Result<(), Fail> {
+fn the_symbols_of_a_small_object_are_read(rt: HostRuntime) {
     let alloc = rt.alloc();
     let payload = [
         0x02, 0x08, 0x0b, 0x02, 0x00, 0x00, 0x00, 0x01, 0x66, 0x00, 0x00, 0x01, 0x01, 0x67,
     ];
-    let want = two_symbols(alloc)?;
-    assert_eq!(rt; is_read(alloc, &payload, &want), Ok(true));
-    Ok(())
+    assert!(rt; says(alloc, &payload, two_symbols(alloc)));
 }
 
 fn add_one_of_each(alloc: Global, linking: &mut Linking) -> Result<(), OutOfMemory> {
@@ -112,7 +119,7 @@ fn one_of_each(alloc: Global) -> Result<Linking, OutOfMemory> {
 }
 
 #[test]
-fn subsections_come_in_any_order(rt: HostRuntime) -> Result<(), Fail> {
+fn subsections_come_in_any_order(rt: HostRuntime) {
     let alloc = rt.alloc();
     let payload = [
         0x02, 0x08, 0x04, 0x01, 0x00, 0x10, 0x03, // symbols
@@ -122,20 +129,13 @@ fn subsections_come_in_any_order(rt: HostRuntime) -> Result<(), Fail> {
         0x06, 0x05, 0x01, 0xff, 0xff, 0x03, 0x00, // init functions
         0x05, 0x09, 0x01, 0x05, 0x2e, 0x64, 0x61, 0x74, 0x61, 0x02, 0x04, // segment info
     ];
-    let want = one_of_each(alloc)?;
-    assert_eq!(rt; is_read(alloc, &payload, &want), Ok(true));
-    Ok(())
+    assert!(rt; says(alloc, &payload, one_of_each(alloc)));
 }
 
-/// Whether this is the payload of a section that says nothing.
-fn is_silent(alloc: Global, payload: &[u8]) -> Result<bool, LinkingFault> {
-    is_read(alloc, payload, &silent(alloc))
-}
-
-/// Whether each of these payloads is.
+/// Whether each of these is the payload of a section that says nothing.
 fn are_silent(alloc: Global, payloads: &[&[u8]]) -> bool {
     for payload in payloads {
-        if is_silent(alloc, payload) != Ok(true) {
+        if !says(alloc, payload, Ok(silent(alloc))) {
             return false;
         }
     }
@@ -154,26 +154,37 @@ fn empty_lists_are_read(rt: HostRuntime) {
     assert!(rt; are_silent(rt.alloc(), &payloads));
 }
 
-/// Whether the symbol at the front has this kind, flags and name, and this index, offset and size,
-/// with these bytes after it.
+fn is_named(name: &Option<Name>, text: Option<&str>) -> bool {
+    match (name, text) {
+        (Some(name), Some(text)) => name.as_slice() == text.as_bytes(),
+        (None, None) => true,
+        _ => false,
+    }
+}
+
+/// Whether a symbol has this kind, flags and name, and this index, offset and size.
+fn has(
+    symbol: &Symbol,
+    (kind, flags, text): (SymbolKind, u32, Option<&str>),
+    places: [u32; 3],
+) -> bool {
+    (symbol.kind, symbol.flags) == (kind, flags)
+        && is_named(&symbol.name, text)
+        && [symbol.index, symbol.offset, symbol.size] == places
+}
+
+/// Whether the symbol at the front is such a one, with these bytes after it.
 fn symbol_is(
     alloc: Global,
     bytes: &[u8],
-    (kind, flags, text): (SymbolKind, u32, Option<&str>),
-    [index, offset, size]: [u32; 3],
+    parts: (SymbolKind, u32, Option<&str>),
+    places: [u32; 3],
     after: &[u8],
-) -> Result<bool, ReadFault> {
-    let name = name_of(alloc, text)?;
-    let want = Symbol {
-        kind,
-        flags,
-        name,
-        index,
-        offset,
-        size,
-    };
-    let (symbol, rest) = symbol_at(alloc, 10, bytes)?;
-    Ok(symbol == want && rest == after)
+) -> bool {
+    match symbol_at(alloc, 10, bytes) {
+        Err(_) => false,
+        Ok((symbol, rest)) => has(&symbol, parts, places) && rest == after,
+    }
 }
 
 fn plain_symbols_are_read(alloc: Global) -> bool {
@@ -182,9 +193,9 @@ fn plain_symbols_are_read(alloc: Global) -> bool {
     let global = (SymbolKind::GlobalVar, 0x14, None);
     let table = (SymbolKind::Table, 0x50, Some("x"));
     let section = (SymbolKind::Section, 0x12, None);
-    symbol_is(alloc, &[2, 0x14, 0x82, 0x01], global, [130, 0, 0], nothing) == Ok(true)
-        && symbol_is(alloc, &[5, 0x50, 0, 1, 0x78, 9], table, [0, 0, 0], nine) == Ok(true)
-        && symbol_is(alloc, &[3, 0x12, 4, 9], section, [4, 0, 0], nine) == Ok(true)
+    symbol_is(alloc, &[2, 0x14, 0x82, 0x01], global, [130, 0, 0], nothing)
+        && symbol_is(alloc, &[5, 0x50, 0, 1, 0x78, 9], table, [0, 0, 0], nine)
+        && symbol_is(alloc, &[3, 0x12, 4, 9], section, [4, 0, 0], nine)
 }
 
 fn functions_and_data_are_read(alloc: Global) -> bool {
@@ -195,9 +206,9 @@ fn functions_and_data_are_read(alloc: Global) -> bool {
     let placed = [1, 0x86, 0x01, 0, 1, 8, 0xac, 0x02, 9];
     let function = (SymbolKind::Function, 0xf6, Some("é"));
     let named = [0, 0xf6, 0x01, 7, 2, 0xc3, 0xa9];
-    symbol_is(alloc, &[1, 0x11, 1, 0x64, 9], undefined, [0, 0, 0], nine) == Ok(true)
-        && symbol_is(alloc, &placed, datum, [1, 8, 300], nine) == Ok(true)
-        && symbol_is(alloc, &named, function, [7, 0, 0], nothing) == Ok(true)
+    symbol_is(alloc, &[1, 0x11, 1, 0x64, 9], undefined, [0, 0, 0], nine)
+        && symbol_is(alloc, &placed, datum, [1, 8, 300], nine)
+        && symbol_is(alloc, &named, function, [7, 0, 0], nothing)
 }
 
 #[test]
@@ -365,25 +376,19 @@ fn flags_say_what_a_symbol_is(rt: HostRuntime) {
 }
 
 /// Whether the list at the front has just these members, with these bytes after it.
-fn members_are(
-    alloc: Global,
-    bytes: &[u8],
-    want: &[Member],
-    after: &[u8],
-) -> Result<bool, ReadFault> {
-    let (members, rest) = vector_at::<Member>(alloc, 10, bytes)?;
-    Ok(members.as_slice() == want && rest == after)
+fn members_are(alloc: Global, bytes: &[u8], want: &[Member], after: &[u8]) -> bool {
+    match vector_at::<Member>(alloc, 10, bytes) {
+        Err(_) => false,
+        Ok((members, rest)) => members.as_slice() == want && rest == after,
+    }
 }
 
 /// The same of init functions.
-fn inits_are(
-    alloc: Global,
-    bytes: &[u8],
-    want: &[InitFunc],
-    after: &[u8],
-) -> Result<bool, ReadFault> {
-    let (inits, rest) = Seq::<InitFunc>::form_at(alloc, 10, bytes)?;
-    Ok(inits.as_slice() == want && rest == after)
+fn inits_are(alloc: Global, bytes: &[u8], want: &[InitFunc], after: &[u8]) -> bool {
+    match Seq::<InitFunc>::form_at(alloc, 10, bytes) {
+        Err(_) => false,
+        Ok((inits, rest)) => inits.as_slice() == want && rest == after,
+    }
 }
 
 /// Whether the segment's info at the front has this name, alignment and flags, with these bytes
@@ -393,17 +398,27 @@ fn info_is(
     bytes: &[u8],
     (text, align, flags): (&str, u32, u32),
     after: &[u8],
-) -> Result<bool, ReadFault> {
-    let want = info(alloc, text, align, flags)?;
-    let (info, rest) = segment_at(alloc, 10, bytes)?;
-    Ok(info == want && rest == after)
+) -> bool {
+    match segment_at(alloc, 10, bytes) {
+        Err(_) => false,
+        Ok((info, rest)) => {
+            info.name.as_slice() == text.as_bytes()
+                && (info.align, info.flags) == (align, flags)
+                && rest == after
+        }
+    }
 }
 
 /// Whether the group at the front has this name and no members, with these bytes after it.
-fn group_is(alloc: Global, bytes: &[u8], text: &str, after: &[u8]) -> Result<bool, ReadFault> {
-    let want = group(alloc, text, &[])?;
-    let (group, rest) = group_at(alloc, 10, bytes)?;
-    Ok(group == want && rest == after)
+fn group_is(alloc: Global, bytes: &[u8], text: &str, after: &[u8]) -> bool {
+    match group_at(alloc, 10, bytes) {
+        Err(_) => false,
+        Ok((group, rest)) => {
+            group.name.as_slice() == text.as_bytes()
+                && group.members.as_slice().is_empty()
+                && rest == after
+        }
+    }
 }
 
 fn items_are_read(alloc: Global) -> bool {
@@ -413,10 +428,10 @@ fn items_are_read(alloc: Global) -> bool {
         symbol: 2,
     };
     let info = ("s", 3, STRINGS);
-    members_are(alloc, &[1, 5, 2, 9], &[member], &[9]) == Ok(true)
-        && inits_are(alloc, &[1, 1, 2], &[init], &[]) == Ok(true)
-        && info_is(alloc, &[1, 0x73, 3, 1, 9], info, &[9]) == Ok(true)
-        && group_is(alloc, &[1, 0x67, 0x80, 0x00, 0], "g", &[]) == Ok(true)
+    members_are(alloc, &[1, 5, 2, 9], &[member], &[9])
+        && inits_are(alloc, &[1, 1, 2], &[init], &[])
+        && info_is(alloc, &[1, 0x73, 3, 1, 9], info, &[9])
+        && group_is(alloc, &[1, 0x67, 0x80, 0x00, 0], "g", &[])
 }
 
 #[test]

@@ -10,42 +10,10 @@ use wasm_module::{
 use wasm_types::{ConstExpr, GlobalType, Limits, TableType, ValType};
 use wl_base::{Item, OutOfMemory, Seq};
 
-/// Where the last instruction of a body ends.
-fn end_of(body: &Body) -> Option<u32> {
-    match body.code.as_slice() {
-        [.., last] => Some(last.end),
-        [] => None,
-    }
-}
-
 fn table(funcref: bool, min: u32, max: u32) -> TableType {
     let max = Some(max);
     let limits = Limits { min, max };
     TableType { funcref, limits }
-}
-
-/// Whether these bytes are a module that is written as the others.
-fn is_written(alloc: Global, text: &[u8], short: &[u8]) -> Result<bool, ModuleFault> {
-    let m = read(alloc, text)?;
-    match write(alloc, &m) {
-        Ok(written) => Ok(written.as_slice() == short),
-        Err(_) => Err(ModuleFault::OutOfMemory),
-    }
-}
-
-/// Whether these bytes are a module that is written again just so.
-fn stays(alloc: Global, text: &[u8]) -> Result<bool, ModuleFault> {
-    is_written(alloc, text, text)
-}
-
-/// Whether each of these is.
-fn stay(alloc: Global, texts: &[&[u8]]) -> bool {
-    for text in texts {
-        if stays(alloc, text) != Ok(true) {
-            return false;
-        }
-    }
-    true
 }
 
 /// Whether a module has two functions of one type, a table, a memory and two exports.
@@ -55,61 +23,6 @@ fn calls_hold(m: &Module) -> bool {
     let memories = m.memories.as_slice() == [Limits { min: 2, max: None }].as_slice();
     let lengths = (m.types.len(), m.exports.len(), m.bodies.len());
     functions && tables && memories && m.data_count.is_none() && lengths == (1, 2, 2)
-}
-
-fn calls_are_read(alloc: Global, text: &[u8]) -> Result<bool, ModuleFault> {
-    let m = read(alloc, text)?;
-    Ok(calls_hold(&m))
-}
-
-#[test]
-fn a_module_is_read_and_written_as_short_as_can_be(rt: HostRuntime) {
-    let alloc = rt.alloc();
-    let text =
-        b"\0asm\x01\0\0\0\x01\x05\x01\x60\x00\x01\x7f\x03\x03\x02\x00\x00\x04\x05\x01\x70\x01\x01\x01\x05\x03\x01\x00\x02\x07\x0e\x02\x06memory\x02\x00\x01f\x00\x00\x0a\x0f\x02\x08\x00\x10\x81\x80\x80\x80\x00\x0b\x04\x00\x41\x07\x0b";
-    assert_eq!(rt; calls_are_read(alloc, text.as_slice()), Ok(true));
-    // the call has its shortest spelling, and the section is four bytes shorter
-    let short =
-        b"\0asm\x01\0\0\0\x01\x05\x01\x60\x00\x01\x7f\x03\x03\x02\x00\x00\x04\x05\x01\x70\x01\x01\x01\x05\x03\x01\x00\x02\x07\x0e\x02\x06memory\x02\x00\x01f\x00\x00\x0a\x0b\x02\x04\x00\x10\x01\x0b\x04\x00\x41\x07\x0b";
-    assert_eq!(rt;
-        is_written(alloc, text.as_slice(), short.as_slice()),
-        Ok(true)
-    );
-}
-
-/// Where the last instruction of a module's only body ends.
-fn end_of_only(alloc: Global, text: &[u8]) -> Option<u32> {
-    match read(alloc, text) {
-        Ok(m) => match m.bodies.as_slice() {
-            [body] => end_of(body),
-            _ => None,
-        },
-        Err(_) => None,
-    }
-}
-
-#[test]
-fn places_are_counted_from_a_body(rt: HostRuntime) {
-    let text =
-        b"\0asm\x01\0\0\0\x01\x04\x01\x60\x00\x00\x03\x02\x01\x00\x0a\x09\x01\x07\x00\x10\x80\x80\x00\x1a\x0b";
-    assert_eq!(rt; end_of_only(rt.alloc(), text.as_slice()), Some(7));
-}
-
-#[test]
-fn modules_of_no_padding_are_written_byte_for_byte(rt: HostRuntime) {
-    let alloc = rt.alloc();
-    // the header alone; a table, a memory and an export; and a function of a f64
-    let nothing = b"\0asm\x01\0\0\0";
-    let memory =
-        b"\0asm\x01\0\0\0\x04\x05\x01\x70\x01\x01\x01\x05\x03\x01\x00\x02\x07\x0a\x01\x06memory\x02\x00";
-    let of_f64 =
-        b"\0asm\x01\0\0\0\x01\x05\x01\x60\x01\x7c\x00\x03\x02\x01\x00\x04\x05\x01\x70\x01\x01\x01\x05\x03\x01\x00\x02\x07\x0e\x02\x06memory\x02\x00\x01f\x00\x00\x0a\x07\x01\x05\x00\x20\x00\x1a\x0b";
-    assert!(rt;
-        stay(
-            alloc,
-            &[nothing.as_slice(), memory.as_slice(), of_f64.as_slice()]
-        )
-    );
 }
 
 fn globals_hold(globals: &[ModuleGlobal]) -> bool {
@@ -160,9 +73,122 @@ fn sections_hold(m: &Module) -> bool {
     counted && functions && tables && globals && elements && segments
 }
 
-fn sections_are_read(alloc: Global, text: &[u8]) -> Result<bool, ModuleFault> {
-    let m = read(alloc, text)?;
-    Ok(sections_hold(&m))
+/// Where the last instruction of a body ends.
+fn end_of(body: &Body) -> Option<u32> {
+    match body.code.as_slice() {
+        [.., last] => Some(last.end),
+        [] => None,
+    }
+}
+
+/// Where the last instruction of a module's only body ends.
+fn end_of_only(m: &Module) -> Option<u32> {
+    match m.bodies.as_slice() {
+        [body] => end_of(body),
+        _ => None,
+    }
+}
+
+fn is_spelled(alloc: Global, m: &Module, text: &[u8]) -> bool {
+    match write(alloc, m) {
+        Ok(written) => written.as_slice() == text,
+        Err(_) => false,
+    }
+}
+
+/// What is looked at in a module.
+#[derive(Clone, Copy)]
+enum Look<'a> {
+    /// That it is one.
+    Whole,
+    /// Two functions of one type, a table, a memory and two exports.
+    Calls,
+    /// One or two items in each section.
+    Sections,
+    /// Where its only body ends.
+    OnlyEnd(u32),
+    /// The bytes that it is written as.
+    Spelled(&'a [u8]),
+}
+
+fn holds(alloc: Global, m: &Module, look: Look) -> bool {
+    match look {
+        Look::Whole => true,
+        Look::Calls => calls_hold(m),
+        Look::Sections => sections_hold(m),
+        Look::OnlyEnd(end) => end_of_only(m) == Some(end),
+        Look::Spelled(text) => is_spelled(alloc, m, text),
+    }
+}
+
+/// Whether these bytes are a module of which this holds.
+fn is_module(alloc: Global, text: &[u8], look: Look) -> Result<bool, ModuleFault> {
+    match read(alloc, text) {
+        Err(fault) => Err(fault),
+        Ok(m) => Ok(holds(alloc, &m, look)),
+    }
+}
+
+/// Whether these bytes are a module that is written as the others.
+fn is_written(alloc: Global, text: &[u8], short: &[u8]) -> Result<bool, ModuleFault> {
+    is_module(alloc, text, Look::Spelled(short))
+}
+
+/// Whether these bytes are a module that is written again just so.
+fn stays(alloc: Global, text: &[u8]) -> Result<bool, ModuleFault> {
+    is_written(alloc, text, text)
+}
+
+/// Whether each of these is.
+fn stay(alloc: Global, texts: &[&[u8]]) -> bool {
+    for text in texts {
+        if stays(alloc, text) != Ok(true) {
+            return false;
+        }
+    }
+    true
+}
+
+#[test]
+fn a_module_is_read_and_written_as_short_as_can_be(rt: HostRuntime) {
+    let alloc = rt.alloc();
+    let text =
+        b"\0asm\x01\0\0\0\x01\x05\x01\x60\x00\x01\x7f\x03\x03\x02\x00\x00\x04\x05\x01\x70\x01\x01\x01\x05\x03\x01\x00\x02\x07\x0e\x02\x06memory\x02\x00\x01f\x00\x00\x0a\x0f\x02\x08\x00\x10\x81\x80\x80\x80\x00\x0b\x04\x00\x41\x07\x0b";
+    assert_eq!(rt; is_module(alloc, text.as_slice(), Look::Calls), Ok(true));
+    // the call has its shortest spelling, and the section is four bytes shorter
+    let short =
+        b"\0asm\x01\0\0\0\x01\x05\x01\x60\x00\x01\x7f\x03\x03\x02\x00\x00\x04\x05\x01\x70\x01\x01\x01\x05\x03\x01\x00\x02\x07\x0e\x02\x06memory\x02\x00\x01f\x00\x00\x0a\x0b\x02\x04\x00\x10\x01\x0b\x04\x00\x41\x07\x0b";
+    assert_eq!(rt;
+        is_written(alloc, text.as_slice(), short.as_slice()),
+        Ok(true)
+    );
+}
+
+#[test]
+fn places_are_counted_from_a_body(rt: HostRuntime) {
+    let text =
+        b"\0asm\x01\0\0\0\x01\x04\x01\x60\x00\x00\x03\x02\x01\x00\x0a\x09\x01\x07\x00\x10\x80\x80\x00\x1a\x0b";
+    assert_eq!(rt;
+        is_module(rt.alloc(), text.as_slice(), Look::OnlyEnd(7)),
+        Ok(true)
+    );
+}
+
+#[test]
+fn modules_of_no_padding_are_written_byte_for_byte(rt: HostRuntime) {
+    let alloc = rt.alloc();
+    // the header alone; a table, a memory and an export; and a function of a f64
+    let nothing = b"\0asm\x01\0\0\0";
+    let memory =
+        b"\0asm\x01\0\0\0\x04\x05\x01\x70\x01\x01\x01\x05\x03\x01\x00\x02\x07\x0a\x01\x06memory\x02\x00";
+    let of_f64 =
+        b"\0asm\x01\0\0\0\x01\x05\x01\x60\x01\x7c\x00\x03\x02\x01\x00\x04\x05\x01\x70\x01\x01\x01\x05\x03\x01\x00\x02\x07\x0e\x02\x06memory\x02\x00\x01f\x00\x00\x0a\x07\x01\x05\x00\x20\x00\x1a\x0b";
+    assert!(rt;
+        stay(
+            alloc,
+            &[nothing.as_slice(), memory.as_slice(), of_f64.as_slice()]
+        )
+    );
 }
 
 #[test]
@@ -171,7 +197,7 @@ fn each_section_is_read_and_written(rt: HostRuntime) {
     let text =
         b"\0asm\x01\0\0\0\x01\x0a\x02\x60\x02\x7f\x7e\x01\x7d\x60\x00\x00\x02\x0e\x02\x01m\x01f\x00\x01\x01m\x01g\x03\x7f\x01\x03\x02\x01\x01\x04\x05\x01\x6f\x01\x01\x02\x05\x03\x01\x00\x01\x06\x0b\x02\x7f\x00\x23\x00\x0b\x7e\x01\x42\x7f\x0b\x07\x09\x02\x01a\x03\x00\x01b\x01\x00\x09\x0e\x02\x00\x41\x00\x0b\x01\x00\x02\x00\x23\x00\x0b\x00\x00\x0c\x01\x02\x0a\x05\x01\x03\x00\x01\x0b\x0b\x0d\x02\x00\x41\x00\x0b\x01\xaa\x02\x00\x41\x01\x0b\x00";
     assert_eq!(rt; stays(alloc, text.as_slice()), Ok(true));
-    assert_eq!(rt; sections_are_read(alloc, text.as_slice()), Ok(true));
+    assert_eq!(rt; is_module(alloc, text.as_slice(), Look::Sections), Ok(true));
 }
 
 #[test]
@@ -189,10 +215,7 @@ fn custom_sections_and_padding_are_read_and_not_written(rt: HostRuntime) {
 fn is_refused(alloc: Global, sections: &[u8]) -> Result<bool, OutOfMemory> {
     let mut text = Seq::from_slice(alloc, b"\0asm\x01\0\0\0".as_slice())?;
     text.extend_from_slice(sections)?;
-    match read(alloc, text.as_slice()) {
-        Ok(_) => Ok(false),
-        Err(fault) => Ok(fault == ModuleFault::NotModule),
-    }
+    Ok(is_module(alloc, text.as_slice(), Look::Whole) == Err(ModuleFault::NotModule))
 }
 
 /// Whether each of these sections behind the header is no module.
@@ -204,12 +227,16 @@ fn are_refused(alloc: Global, cases: &[&[u8]]) -> Result<bool, OutOfMemory> {
     Ok(all)
 }
 
+/// No header, and one of another version.
+fn headers_are_refused(alloc: Global) -> bool {
+    let fault = Err(ModuleFault::NotModule);
+    stays(alloc, &[]) == fault && stays(alloc, b"\0asm\x02\0\0\0".as_slice()) == fault
+}
+
 #[test]
 fn sections_out_of_place_are_refused(rt: HostRuntime) {
     let alloc = rt.alloc();
-    let fault = Err(ModuleFault::NotModule);
-    assert_eq!(rt; stays(alloc, &[]), fault);
-    assert_eq!(rt; stays(alloc, b"\0asm\x02\0\0\0".as_slice()), fault);
+    assert!(rt; headers_are_refused(alloc));
     let cases = [
         // twice, too late, of no known id, cut short, and with a byte left over
         b"\x01\x01\x00\x01\x01\x00".as_slice(),
@@ -227,12 +254,9 @@ fn sections_out_of_place_are_refused(rt: HostRuntime) {
         b"\x00\x02\x02a".as_slice(),
         b"\x00\x02\x01\xff".as_slice(),
     ];
-    assert_eq!(rt; are_refused(alloc, &cases), Ok(true));
+    assert!(rt; are_refused(alloc, &cases) == Ok(true));
     // and a module that isn't refused
-    assert_eq!(rt;
-        are_refused(alloc, &[b"\x00\x01\x00".as_slice()]),
-        Ok(false)
-    );
+    assert!(rt; are_refused(alloc, &[b"\x00\x01\x00".as_slice()]) == Ok(false));
 }
 
 #[test]

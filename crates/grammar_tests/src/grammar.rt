@@ -1,7 +1,6 @@
 //! Bytes, numbers, names, parts and vectors, each read with its place, and what is written.
 
 use std::alloc::Global;
-use std::test::Fail;
 use wasm_grammar::{
     ReadFault, Stop, blob_at, byte_at, bytes_at, cut_back, front_at, many_at, name_at, none_at,
     part_at, place, put_byte, put_bytes, put_count, put_itself, put_s32, put_s64, put_u32,
@@ -135,19 +134,19 @@ fn put_each(to: &mut Seq<u8>) -> Result<(), OutOfMemory> {
     put_vector(to, &[1u32, 300])
 }
 
-/// Whether what was written stays where its writer has not failed, and else is cut.
-fn is_cut_back(to: &mut Seq<u8>) -> bool {
-    cut_back(to, 3, Ok(())) == Ok(())
+/// Whether what is written stays where its writer has not failed, and else is cut.
+fn is_written(to: &mut Seq<u8>) -> bool {
+    put_each(to) == Ok(())
+        && to.as_slice() == WRITTEN.as_slice()
+        && cut_back(to, 3, Ok(())) == Ok(())
         && to.as_slice() == WRITTEN.as_slice()
         && cut_back(to, 3, Err(OutOfMemory)) == Err(OutOfMemory)
         && to.as_slice() == [7, 0x80, 0x01].as_slice()
 }
 
 #[test]
-fn what_is_written_is_as_short_as_can_be(rt: HostRuntime) -> Result<(), Fail> {
+fn what_is_written_is_as_short_as_can_be(rt: HostRuntime) {
     let mut to = Seq::new(rt.alloc());
-    put_each(&mut to)?;
-    assert_eq!(rt; to.as_slice(), WRITTEN.as_slice());
-    assert!(rt; is_cut_back(&mut to));
-    Ok(())
+    let holds = is_written(&mut to);
+    assert!(rt; holds);
 }

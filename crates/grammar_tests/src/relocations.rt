@@ -12,7 +12,12 @@ const NINE: &[u8] = &[9];
 
 /// Whether each of these types is read, or none, and has an addend, or hasn't.
 fn are_known(types: &[u8], read: bool, addend: bool) -> bool {
-    types.iter().all(|kind| is_read(*kind) == read && has_addend(*kind) == addend)
+    for kind in types {
+        if is_read(*kind) != read || has_addend(*kind) != addend {
+            return false;
+        }
+    }
+    true
 }
 
 #[test]
