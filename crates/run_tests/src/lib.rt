@@ -1,7 +1,9 @@
-//! Tests of the crates that run modules: stacks, the words of `wasmrun` and the texts of traces; each call once with
-//! memory there.
+//! Tests of the crates that run modules: stacks, the words and scripts of `wasmrun` and the texts of traces; each call
+//! once with memory there.
 #![tactic(auto)]
 
+#[cfg(test)]
+mod scripts;
 #[cfg(test)]
 mod stacks;
 #[cfg(test)]
