@@ -1,0 +1,211 @@
+//! Searches and response files, over shelves whose files are told by their names.
+
+use driver_words::{ExpandError, FilesError, Finder, Item, expand, files, find_library, tokens};
+use std::alloc::Global;
+use std::test::Fail;
+use wl_base::{OutOfMemory, Seq, Text};
+use wl_outside::{Held, MemShelf, NeverFails, names_differ};
+
+fn file(alloc: Global, name: &str, text: &str) -> Result<Held, OutOfMemory> {
+    Ok(Held {
+        name: Text::new(alloc, name)?,
+        bytes: Seq::from_slice(alloc, text.as_bytes())?,
+    })
+}
+
+/// Files of two folders, and a response file.
+fn all_files(alloc: Global) -> Result<Seq<Held>, OutOfMemory> {
+    let mut all = Seq::new(alloc);
+    for name in ["a/libx.a", "b/libx.a", "b/liby.a", "a/libx.so", "a/z.o"] {
+        all.push(file(alloc, name, "")?)?;
+    }
+    all.push(file(alloc, "r", "m.o \"x y.o\"\n'q'r\\ s.o\n@s")?)?;
+    Ok(all)
+}
+
+/// The files, of which the listed calls fail.
+fn shelf(alloc: Global, failing: &[u32]) -> Option<MemShelf> {
+    let all = all_files(alloc).ok()?;
+    let failing = Seq::from_slice(alloc, failing).ok()?;
+    if !names_differ(all.as_slice()) {
+        return None;
+    }
+    Some(MemShelf::new(alloc, all, failing))
+}
+
+/// The files, with no room for an output.
+fn shelf_for_good(alloc: Global) -> Option<NeverFails> {
+    let all = all_files(alloc).ok()?;
+    let output = Text::new(alloc, "out").ok()?;
+    if !names_differ(all.as_slice()) {
+        return None;
+    }
+    NeverFails::new(alloc, all, output, 0).ok()
+}
+
+fn texts(alloc: Global, names: &[&str]) -> Result<Seq<Text>, OutOfMemory> {
+    let mut all = Seq::new(alloc);
+    for name in names {
+        all.push(Text::new(alloc, name)?)?;
+    }
+    Ok(all)
+}
+
+/// Whether the words are these.
+fn are(words: &[Seq<u8>], these: &[&str]) -> bool {
+    if words.len() != these.len() {
+        return false;
+    }
+    for (word, this) in words.iter().zip(these) {
+        if word.as_slice() != this.as_bytes() {
+            return false;
+        }
+    }
+    true
+}
+
+fn has_tokens(alloc: Global, text: &str, these: &[&str]) -> Result<bool, OutOfMemory> {
+    let words = tokens(alloc, text.as_bytes())?;
+    Ok(are(words.as_slice(), these))
+}
+
+#[test]
+fn a_response_file_is_cut_into_words(rt: HostRuntime) -> Result<(), Fail> {
+    let alloc = rt.alloc();
+    assert!(rt;
+        has_tokens(
+            alloc,
+            "m.o \"x y.o\"\n'q'r\\ s.o\n@s",
+            &["m.o", "x y.o", "qr s.o", "@s"]
+        )?
+    );
+    assert!(rt; has_tokens(alloc, "n.o \"\" -O2\r\n", &["n.o", "-O2"])?);
+    assert!(rt; has_tokens(alloc, "", &[])?);
+    Ok(())
+}
+
+/// Whether the words stand for these.
+fn stand_for(alloc: Global, words: &[&str], these: &[&str]) -> Option<bool> {
+    let mut shelf = shelf(alloc, &[])?;
+    let words = texts(alloc, words).ok()?;
+    match expand(alloc, &mut shelf, words.as_slice()) {
+        Ok(all) => Some(are(all.as_slice(), these)),
+        Err(_) => None,
+    }
+}
+
+/// The place of the word that is blamed where the first load fails.
+fn blamed(alloc: Global, words: &[&str]) -> Option<usize> {
+    let mut shelf = shelf(alloc, &[1])?;
+    let words = texts(alloc, words).ok()?;
+    match expand(alloc, &mut shelf, words.as_slice()) {
+        Err(ExpandError::Unreadable(at)) => Some(at),
+        _ => None,
+    }
+}
+
+#[test]
+fn response_files_stand_in_their_words_places(rt: HostRuntime) -> Result<(), Fail> {
+    let alloc = rt.alloc();
+    assert!(rt;
+        stand_for(
+            alloc,
+            &["-o", "@r", "o"],
+            &["-o", "m.o", "x y.o", "qr s.o", "@s", "o"]
+        ) == Some(true)
+    );
+    assert!(rt; stand_for(alloc, &["@nosuch", "-o"], &["@nosuch", "-o"]) == Some(true));
+    assert!(rt; blamed(alloc, &["m.o", "@r"]) == Some(1));
+    Ok(())
+}
+
+/// Whether a search over this shelf finds just this path.
+fn finds<F: Finder>(
+    alloc: Global,
+    shelf: &F,
+    folders: &[&str],
+    name: &str,
+    path: Option<&str>,
+) -> Option<bool> {
+    let folders = texts(alloc, folders).ok()?;
+    let found = find_library(alloc, shelf, folders.as_slice(), name).ok()?;
+    Some(match (found, path) {
+        (Some(found), Some(path)) => found.as_str() == path,
+        (None, None) => true,
+        _ => false,
+    })
+}
+
+/// Whether a search over files in memory finds just this path.
+fn finds_held(alloc: Global, folders: &[&str], name: &str, path: Option<&str>) -> Option<bool> {
+    let shelf = shelf(alloc, &[])?;
+    finds(alloc, &shelf, folders, name, path)
+}
+
+/// The same over a shelf of which no call fails.
+fn finds_for_good(alloc: Global, folders: &[&str], name: &str, path: Option<&str>) -> Option<bool> {
+    let shelf = shelf_for_good(alloc)?;
+    finds(alloc, &shelf, folders, name, path)
+}
+
+#[test]
+fn the_first_folder_that_has_a_file_decides(rt: HostRuntime) -> Result<(), Fail> {
+    let alloc = rt.alloc();
+    assert!(rt; finds_held(alloc, &["a", "b"], "libx.a", Some("a/libx.a")) == Some(true));
+    assert!(rt; finds_held(alloc, &["b/", "a/"], "libx.a", Some("b/libx.a")) == Some(true));
+    assert!(rt; finds_held(alloc, &["a", "b"], "libq.a", None) == Some(true));
+    assert!(rt; finds_for_good(alloc, &["a", "b"], "liby.a", Some("b/liby.a")) == Some(true));
+    Ok(())
+}
+
+/// Whether the items give these words.
+fn give(alloc: Global, folders: &[&str], items: &[Item<'_>], these: &[&str]) -> Option<bool> {
+    let shelf = shelf(alloc, &[])?;
+    let folders = texts(alloc, folders).ok()?;
+    let words = files(alloc, &shelf, folders.as_slice(), items).ok()?;
+    Some(are_texts(words.as_slice(), these))
+}
+
+fn are_texts(words: &[Text], these: &[&str]) -> bool {
+    if words.len() != these.len() {
+        return false;
+    }
+    for (word, this) in words.iter().zip(these) {
+        if word.as_str() != *this {
+            return false;
+        }
+    }
+    true
+}
+
+/// The place of the item that no folder has.
+fn missing(alloc: Global, folders: &[&str], items: &[Item<'_>]) -> Option<usize> {
+    let shelf = shelf(alloc, &[])?;
+    let folders = texts(alloc, folders).ok()?;
+    match files(alloc, &shelf, folders.as_slice(), items) {
+        Err(FilesError::Missing(at)) => Some(at),
+        _ => None,
+    }
+}
+
+#[test]
+fn items_give_their_words_in_order(rt: HostRuntime) -> Result<(), Fail> {
+    let alloc = rt.alloc();
+    let items = [
+        Item::Word("--whole-archive"),
+        Item::Input("m.o"),
+        Item::Library("x"),
+        Item::File("z.o"),
+    ];
+    assert!(rt;
+        give(
+            alloc,
+            &["b", "a"],
+            &items,
+            &["--whole-archive", "m.o", "b/libx.a", "a/z.o"]
+        ) == Some(true)
+    );
+    assert!(rt; missing(alloc, &["b"], &items) == Some(3));
+    assert!(rt; missing(alloc, &[], &items) == Some(2));
+    Ok(())
+}
