@@ -1,0 +1,84 @@
+#!/usr/bin/env python3
+"""Checks a crate over the libraries that `rt ci` kept on this machine: check_kept.py CRATE [--build] [FLAG..], at the top of a checkout.
+
+`rt check` builds all libraries below a crate anew. This takes those that an earlier `rt ci` proved, the newest of each name, and asks
+nothing more of them: it is for proving, and `rt ci` is the judge. A library that `rt ci` never saw, or that the variable OWN names
+(OWN=a,b), is taken from crates/NAME/out/built here, where --build leaves it. FLAGs are the compiler's: --only PATH, --allow-holes, --test,
+--jobs N, --empty-contracts.
+"""
+
+import glob
+import json
+import os
+import shutil
+import subprocess
+import sys
+
+import build
+
+STORE = f"{os.path.dirname(build.KIT)}/rattle-kept"
+LIBRARIES = f"{build.TOP}/out/kept"
+OWN = set(filter(None, os.environ.get("OWN", "").split(",")))
+
+
+def newest():
+    """The newest entry of each library in the store."""
+    found = {}
+    for path in glob.glob(f"{STORE}/proof-*"):
+        name = os.path.basename(path)[len("proof-") :].rsplit("-", 1)[0]
+        if name not in found or os.stat(path).st_mtime > os.stat(found[name]).st_mtime:
+            found[name] = path
+    return found
+
+
+def laid_out(name, entry):
+    """Whether the entry holds a library, which then lies in LIBRARIES/NAME."""
+    with open(f"{entry}/made.json", encoding="utf-8") as file:
+        files = [(number, path) for number, (path, _) in enumerate(json.load(file)["files"]) if path.startswith("rlib/")]
+    to = f"{LIBRARIES}/{name}"
+    shutil.rmtree(to, ignore_errors=True)
+    for number, path in files:
+        place = f"{to}/{path[len('rlib/'):]}"
+        os.makedirs(os.path.dirname(place), exist_ok=True)
+        shutil.copyfile(f"{entry}/{number}", place)
+    return bool(files)
+
+
+def folders_below(crate):
+    """Where each library below the crate lies."""
+    entries, found = newest(), {}
+    for name in build.below(crate):
+        if name not in OWN and name in entries and laid_out(name, entries[name]):
+            found[name] = f"{LIBRARIES}/{name}"
+        else:
+            found[name] = build.folder_of(name)
+            if not os.path.exists(build.library(name)):
+                sys.exit(f"{name} was never kept: build it first by check_kept.py {name} --build")
+    return found
+
+
+def main():
+    crate, *flags = sys.argv[1:]
+    folders = folders_below(crate)
+    root = "src/main.rt" if os.path.exists(f"{build.TOP}/crates/{crate}/src/main.rt") else "src/lib.rt"
+    words = ["--crate-name", crate, root]
+    for name in ["std", *build.listed()[crate]]:
+        place = f"{folders[name]}/{name}.rlib" if name in folders else f"{build.KIT}/rlibs/{name}.rlib"
+        words += ["--extern", f"{name}={place}"]
+    for folder in [f"{build.KIT}/rlibs", *folders.values()]:
+        words += ["-L", f"dependency={folder}"]
+    words += ["--antt-project", f"{build.KIT}/rattle/logic/antt-project.json", "--logic-built", f"{build.KIT}/logic_built"]
+    words += [] if "--jobs" in flags else ["--jobs", "2"]
+    where = f"{build.TOP}/crates/{crate}"
+    if "--build" in flags:
+        flags.remove("--build")
+        os.makedirs(build.folder_of(crate), exist_ok=True)
+        words = [f"{build.KIT}/bin/rattle", "build", *words, "--statements", "-o", build.library(crate), *flags]
+    else:
+        os.makedirs(f"{where}/out/checked", exist_ok=True)
+        words = [f"{build.KIT}/bin/rattle", "check", *words, "--incremental", f"{where}/out/checked", *flags]
+    sys.exit(subprocess.run(words, cwd=where).returncode)
+
+
+if __name__ == "__main__":
+    main()
