@@ -1,0 +1,5 @@
+//! Modules that are valid and modules that aren't, judged.
+#![tactic(auto)]
+
+#[cfg(test)]
+mod modules;
