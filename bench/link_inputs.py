@@ -3,9 +3,12 @@
 
     link_inputs.py small   FOLDER COUNT    objects of two or three short functions each, a tree of calls
     link_inputs.py library FOLDER COUNT    main.o and library.a, whose members need each the next
+    link_inputs.py fan     FOLDER COUNT    main.o and library.a, whose members main.o needs all
+    link_inputs.py sparse  FOLDER COUNT    main.o and library.a, of whose members main.o needs one in 400
     link_inputs.py large   FOLDER COUNT    objects of 1 MiB of code each
+    link_inputs.py dead    FOLDER COUNT    the same objects, of which nothing can be reached
 
-Every function can be reached from _start. FOLDER/inputs lists the files, one a line. The same words give the same bytes.
+But for `dead` and `sparse` every function can be reached from _start. FOLDER/inputs lists the files, one a line. The same words give the same bytes.
 """
 import os
 import random
@@ -304,11 +307,11 @@ def save(folder, name, content):
         file.write(content)
 
 
-def tree(folder, count, shapes, width):
-    """Objects that call each `width` others, a tree from _start."""
+def tree(folder, count, shapes, width, roots=1):
+    """Objects that call each `width` others, a tree from _start, which calls the first `roots` of them."""
     names = [f"module_{number}_entry" for number in range(count)]
     files = ["main.o"]
-    save(folder, "main.o", start_object(names[:1]))
+    save(folder, "main.o", start_object(names[:roots]))
     for number in range(count):
         others = names[width * number + 1:width * number + 1 + width]
         save(folder, f"{number}.o", shapes.of(number, len(others)).named(names[number], others))
@@ -320,8 +323,9 @@ def member_header(name, size):
     return f"{name:<16}{0:<12}{0:<6}{0:<6}{644:<8}{size:<10}`\n".encode()
 
 
-def library(folder, count):
-    """A library with an index, whose members stand in an order that is not that of need."""
+def library(folder, count, chained, each):
+    """A library with an index, whose members stand in an order that is not that of need. They need each the next, where they are chained, and
+    else main.o needs one of `each`."""
     shapes = Shapes(small_shape)
     names = [f"module_{number}_entry" for number in range(count)]
     order = list(range(count))
@@ -329,7 +333,7 @@ def library(folder, count):
     offered = {number: [] for number in order}
     members = {}
     for number in order:
-        others = names[number + 1:number + 2]
+        others = names[number + 1:number + 2] if chained else []
         shape = shapes.of(number, len(others))
         members[number] = shape.named(names[number], others)
         offered[number] = [names[number]] + [f"{names[number]}_part_{part}" for part in range(1, shape.defined)]
@@ -342,7 +346,7 @@ def library(folder, count):
         index += len(offered[number]) * (at + len(content)).to_bytes(4, "big")
         member = members[number]
         content += member_header(f"{number}.o/", len(member)) + member + b"\n" * (len(member) % 2)
-    save(folder, "main.o", start_object(names[:1]))
+    save(folder, "main.o", start_object(names[:1] if chained else names[::each]))
     save(folder, "library.a", b"!<arch>\n" + member_header("/", size) + index + strings + b"\n" * (size % 2) + content)
     return ["main.o", "library.a"]
 
@@ -352,10 +356,10 @@ def main():
     os.makedirs(folder, exist_ok=True)
     if kind == "small":
         files = tree(folder, count, Shapes(small_shape), 2)
-    elif kind == "large":
-        files = tree(folder, count, Shapes(large_shape, 4), 2)
+    elif kind in ("large", "dead"):
+        files = tree(folder, count, Shapes(large_shape, 4), 2, int(kind == "large"))
     else:
-        files = library(folder, count)
+        files = library(folder, count, kind == "library", 400 if kind == "sparse" else 1)
     save(folder, "inputs", "".join(name + "\n" for name in files).encode())
 
 
