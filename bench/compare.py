@@ -5,9 +5,10 @@
 
 A case is KIND:COUNT of link_inputs.py (small, library, fan, sparse, large, dead), or a program: hello and lines (C, and C++ with its standard
 library, where clang and wasi-libc are installed), and sqlite (where SQLITE names a sqlite3.c; compiled with -g). Without a case all are linked.
---quarter links a quarter of each made case too, and prints how time grows. WASMLD names another program than bin/wasmld, WASM_LD another wasm-ld.
+--quarter links a quarter of each made case too, and prints how time grows. WASMLD names another program than the one that bin/wasmld starts,
+WASM_LD another wasm-ld. It needs GNU time, for the peaks of memory.
 
-Inputs and outputs stand in memory (/dev/shm, where there is one), and the output is removed before each run, so that no run waits for the
+Made inputs and outputs stand in memory (/dev/shm, where there is one), and the output is removed before each run, so that no run waits for the
 pages of the one before. wasm-ld strips names, since wasmld writes none. A time is the least of the runs. It is no part of the gate.
 """
 import os
@@ -185,6 +186,14 @@ def compare(cases, linkers, runs, grown):
     print(*growth, sep="\n")
 
 
+def own_program():
+    """The program itself: the script that starts it would be measured too."""
+    if "WASMLD" in os.environ:
+        return os.path.realpath(os.environ["WASMLD"])
+    subprocess.run([f"{TOP}/bin/wasmld", "--version"], check=True, stdout=subprocess.DEVNULL)
+    return f"{TOP}/out/wasmld"
+
+
 def main():
     words, runs, grown = sys.argv[1:], 7, False
     if words[:1] == ["--runs"]:
@@ -195,7 +204,7 @@ def main():
     # wasm-ld adds library members by recursion: a chain of 20,000 takes more than the usual stack.
     most = resource.getrlimit(resource.RLIMIT_STACK)[1]
     resource.setrlimit(resource.RLIMIT_STACK, (most, most))
-    linkers = {"wasmld": [os.path.realpath(os.environ.get("WASMLD", f"{TOP}/bin/wasmld"))]}
+    linkers = {"wasmld": [own_program()]}
     if other:
         linkers["wasm-ld"] = [other, "--strip-all"]
     compare(words or PROGRAMS + MADE, linkers, runs, grown)
