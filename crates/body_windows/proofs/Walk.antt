@@ -26,8 +26,8 @@ use Rattle.body_windows.specs.declared.fault.Mismatch.{Mismatch}
 use Rattle.body_windows.specs.Operands.{StandIn}
 use Rattle.body_windows.specs.Immediates.{immediates_in, immediates}
 use Rattle.body_windows.specs.Windows.{least_overlap, windows_of}
-use Rattle.body_windows.specs.Merging.{State, offered_all, outlined_immediates, Fit, finished}
-use Rattle.body_windows.specs.Scanning.{scan_of, walked}
+use Rattle.body_windows.specs.Merging.{State, offered_all, walked, outlined_immediates, Fit, finished}
+use Rattle.body_windows.specs.Scanning.{scan_of}
 use Rattle.body_windows.proofs.Merge.{start, merge_is}
 use Rattle.body_windows.proofs.Steps.{outlined_is, order_fits, code_step}
 use Rattle.body_windows.proofs.Order.{instr_order, body_order}

@@ -6,6 +6,7 @@ use Rattle.wasm_instr.specs.declared.instr.BlockKind.TheVariants as blocks
 use Rattle.wasm_instr.specs.declared.instr.Instr.{Instr}
 use Rattle.wasm_instr.specs.declared.instr.Instr.TheVariants as instrs
 use Rattle.reloc_section.specs.declared.entry.Reloc.{Reloc}
+use Rattle.reloc_section.specs.declared.kinds.TheConstants.{FUNCTION_INDEX_LEB, TABLE_INDEX_SLEB, MEMORY_ADDR_LEB, MEMORY_ADDR_SLEB, TYPE_INDEX_LEB, GLOBAL_INDEX_LEB, MEMORY_ADDR_REL_SLEB, TABLE_INDEX_REL_SLEB, TABLE_NUMBER_LEB}
 use Rattle.body_windows.specs.declared.operand.Operand.{Operand}
 use Rattle.body_windows.specs.declared.operand.Operand.TheVariants as operands
 use Rattle.body_windows.specs.declared.immediate.Immediate.{Immediate}
@@ -44,17 +45,16 @@ abbrev pub end_of : ℕ → List Placed → ℕ
 end_of place [] = place
 end_of place (p ∷ code) = end_of p.end code
 
--- Whether a relocation of this type may stand on an immediate: FUNCTION_INDEX_LEB on a function's
--- index; TYPE_INDEX_LEB on a type's; TABLE_NUMBER_LEB on a table's; GLOBAL_INDEX_LEB on a global's;
--- MEMORY_ADDR_LEB on an offset; and on a constant TABLE_INDEX_SLEB, MEMORY_ADDR_SLEB,
--- MEMORY_ADDR_REL_SLEB and TABLE_INDEX_REL_SLEB.
+-- Whether a relocation of this type may stand on an immediate.
 abbrev pub may_stand : ℕ → ImmediateKind → Bool
-may_stand kind FunctionIndex = kind == 0
-may_stand kind TypeIndex = kind == 6
-may_stand kind (TableIndex table) = kind == 20
-may_stand kind GlobalIndex = kind == 7
-may_stand kind MemoryOffset = kind == 3
-may_stand kind Constant = (kind == 1) || (kind == 4) || (kind == 11) || (kind == 12)
+may_stand kind FunctionIndex = kind == FUNCTION_INDEX_LEB
+may_stand kind TypeIndex = kind == TYPE_INDEX_LEB
+may_stand kind (TableIndex table) = kind == TABLE_NUMBER_LEB
+may_stand kind GlobalIndex = kind == GLOBAL_INDEX_LEB
+may_stand kind MemoryOffset = kind == MEMORY_ADDR_LEB
+may_stand kind Constant =
+    (kind == TABLE_INDEX_SLEB) || (kind == MEMORY_ADDR_SLEB)
+    || (kind == MEMORY_ADDR_REL_SLEB) || (kind == TABLE_INDEX_REL_SLEB)
 
 -- Whether a relocation has to stand on it: an index of the object means nothing in the output. Table 0
 -- alone needs none; it is the indirect function table.
@@ -80,5 +80,5 @@ fills base reloc i = ((base + i.place) == reloc.offset) && (i.len == 5) && may_s
 -- symbol.
 abbrev pub operand_of : Immediate → Reloc → Operand
 operand_of i reloc =
-    if reloc.kind == 6 then operands.TypeRef i.place reloc.index
+    if reloc.kind == TYPE_INDEX_LEB then operands.TypeRef i.place reloc.index
     else operands.Symbol reloc.kind i.place reloc.index reloc.addend

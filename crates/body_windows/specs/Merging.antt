@@ -1,6 +1,10 @@
--- What one pass over immediates and relocations keeps, and its step.
-use Rattle.std.specs.Prelude.{ℕ, ◌+◌, nat_le, if◌then◌else◌, ◌<◌, ◌^◌, true, List, [], ◌∷◌, ◌++◌, Option, Some, None, Result}
+-- The words of the pass that the code makes over immediates and relocations: what it keeps, and its
+-- steps. Contracts of private functions alone cite them. What they come to is `operands_at` (Windows).
+use Rattle.std.specs.Prelude.{ℕ, ◌+◌, nat_le, if◌then◌else◌, ◌<◌, ◌^◌, true, List, [], ◌∷◌, ◌++◌, length, Option, Some, None, Result, Ok}
 use Rattle.wasm_instr.specs.wl_base.Choice.{first_some, unless}
+use Rattle.wasm_instr.specs.wasm_grammar.declared.fault.Stop.{Stop}
+use Rattle.wasm_instr.specs.wasm_grammar.Reading.{◌>>=◌}
+use Rattle.wasm_instr.specs.Bodies.{Nest, code_at}
 use Rattle.wasm_instr.specs.declared.outline.Outline.{Outline}
 use Rattle.wasm_instr.specs.declared.outline.Outline.TheVariants as outlines
 use Rattle.reloc_section.specs.declared.entry.Reloc.{Reloc}
@@ -10,7 +14,7 @@ use Rattle.body_windows.specs.declared.immediate.ImmediateKind.TheVariants as ki
 use Rattle.body_windows.specs.declared.fault.Mismatch.{Mismatch}
 use Rattle.body_windows.specs.declared.fault.Mismatch.TheVariants.{Overlap, OffImmediate, BareIndex}
 use Rattle.body_windows.specs.Windows.{fault_with}
-use Rattle.body_windows.specs.Immediates.{between, needs_window, plain_operand, fills, operand_of}
+use Rattle.body_windows.specs.Immediates.{immediates, between, needs_window, plain_operand, fills, operand_of}
 
 -- What is known behind some immediates: the relocations that are left, the operands so far, the first
 -- window that is off, and the first bare place.
@@ -49,6 +53,12 @@ offered s i = offered_to s i s.off s.left
 abbrev pub offered_all : State → List Immediate → State
 offered_all s [] = s
 offered_all s (i ∷ is) = offered_all (offered s i) is
+
+-- What one pass knows behind the code that these bytes are, where these blocks are open.
+unfoldable pub walked : State → ℕ → Nest → List ℕ → Result State Stop
+walked s end nest bytes = do
+  code ← code_at (length bytes) end nest bytes
+  Ok (offered_all s (immediates code))
 
 -- The immediates of an instruction, by its outline.
 abbrev pub outlined_immediates : Outline → ℕ → ℕ → ℕ → List Immediate

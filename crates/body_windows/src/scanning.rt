@@ -3,7 +3,8 @@ ghost use Rattle.std.specs.Prelude.{◌≡◌, ◌↔◌, IsTrue, ◌+◌, ◌<�
 ghost use Rattle.wasm_instr.specs.wasm_grammar.Fault.{Gives};
 ghost use Rattle.wasm_instr.specs.declared.outline.Outline.TheVariants as outlines;
 ghost use Rattle.body_windows.specs.Operands.{StandIn};
-ghost use Rattle.body_windows.specs.Scanning.{scan_of, walked};
+ghost use Rattle.body_windows.specs.Scanning.{scan_of};
+ghost use Rattle.body_windows.specs.Merging.{walked};
 
 use crate::fault::Mismatch;
 use crate::merging::Merger;

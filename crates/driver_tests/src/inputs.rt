@@ -2,7 +2,7 @@
 ghost use Rattle.std.specs.Prelude.{◌≡◌, ◌<◌, ◌≤◌, ◌^◌, Some, None, length, IfSome, IfOk};
 ghost use Rattle.link_program.specs.link_plan.Plan.{IsPlan};
 
-use link_inputs::{InputError, Inputs, load_inputs};
+use link_inputs::{Inputs, LinkError, load_inputs};
 use link_plan::{InputWord, Plan};
 use std::alloc::Global;
 use std::sync::atomic::{AtomicU64, Ordering};
@@ -156,7 +156,7 @@ fn loaded<R: Threads + Sync, G: Gate>(
     second: Word,
     threads: u32,
     gate: &G,
-) -> Result<Inputs, InputError>
+) -> Result<Inputs, LinkError>
     requires { (1 ≤ threads) × (threads ≤ 64) }
 {
     let words = two_words(alloc, first, second)?;
@@ -171,7 +171,7 @@ fn generated<R: Threads + Sync>(
     alloc: Global,
     first: Word,
     second: Word,
-) -> Result<Inputs, InputError> {
+) -> Result<Inputs, LinkError> {
     let files = two_files(alloc, first, second)?;
     let plan = plan_of(alloc, Seq::new(alloc), Some(2), 2);
     load_inputs(rt, alloc, &plan, files.as_slice(), &OpenGate)
@@ -186,7 +186,7 @@ fn input_at(inputs: &Inputs, at: usize) -> u32 {
 }
 
 /// What the call answers.
-fn told(answer: Result<Inputs, InputError>) -> Outcome {
+fn told(answer: Result<Inputs, LinkError>) -> Outcome {
     match answer {
         Ok(inputs) => Outcome::Loaded(
             [
@@ -196,8 +196,8 @@ fn told(answer: Result<Inputs, InputError>) -> Outcome {
             ],
             inputs.objects().len(),
         ),
-        Err(InputError::Refused(Fault::Malformed { input, part: _ })) => Outcome::Malformed(input),
-        Err(InputError::Refused(Fault::Library { file, fault: _ })) => Outcome::NoLibrary(file),
+        Err(LinkError::Refused(Fault::Malformed { input, part: _ })) => Outcome::Malformed(input),
+        Err(LinkError::Refused(Fault::Library { file, fault: _ })) => Outcome::NoLibrary(file),
         Err(_) => Outcome::Other,
     }
 }
@@ -268,10 +268,10 @@ fn the_least_fault_or_what_is_needed(rt: HostRuntime) {
     }
 }
 
-/// Where the input begins, as its file and its first byte there.
-fn home_at(inputs: &Inputs, at: usize) -> Option<(u32, u64)> {
+/// Where the input stands, as its file, its first byte there, and how many bytes it has.
+fn home_at(inputs: &Inputs, at: usize) -> Option<(u32, u64, u64)> {
     let home = inputs.homes().get(at)?;
-    Some((home.file, home.start))
+    Some((home.file, home.start, home.len))
 }
 
 #[test]
@@ -287,9 +287,9 @@ fn each_input_has_a_home(rt: HostRuntime) -> Result<(), Fail> {
     .ok()
     .ok_or("inputs")?;
     assert_eq!(rt; inputs.homes().len(), 3);
-    assert_eq!(rt; home_at(&inputs, 0), Some((0, 144)));
-    assert_eq!(rt; home_at(&inputs, 1), Some((0, 252)));
-    assert_eq!(rt; home_at(&inputs, 2), Some((1, 0)));
+    assert_eq!(rt; home_at(&inputs, 0), Some((0, 144, 47)));
+    assert_eq!(rt; home_at(&inputs, 1), Some((0, 252, 47)));
+    assert_eq!(rt; home_at(&inputs, 2), Some((1, 0, 47)));
     assert_eq!(rt; inputs.objects().len(), 0);
     Ok(())
 }

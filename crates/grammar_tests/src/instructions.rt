@@ -4,7 +4,7 @@ use std::alloc::Global;
 use wasm_grammar::{ReadFault, Stop};
 use wasm_instr::{
     BlockKind, Body, BodyFault, Instr, LocalRun, Outline, Placed, body_at, instr_at, outline_step,
-    put_body, read_body, skim_at, skip_locals_at, write_instr,
+    put_body, put_instr, read_body, skim_at, skip_locals_at, write_instr,
 };
 use wasm_types::ValType;
 use wl_base::{Item, OutOfMemory, Seq};
@@ -159,6 +159,13 @@ fn is_written(alloc: Global, instr: &Instr, bytes: &[u8]) -> bool {
     write_instr(&mut written, instr).is_ok() && written.as_slice() == bytes
 }
 
+/// Whether the instruction is put behind a byte that is there.
+fn is_put(alloc: Global, instr: &Instr, bytes: &[u8]) -> Result<bool, OutOfMemory> {
+    let mut to = Seq::from_slice(alloc, &[9])?;
+    put_instr(&mut to, instr)?;
+    Ok(to.as_slice()[0] == 9 && &to.as_slice()[1..] == bytes)
+}
+
 fn is_read(alloc: Global, instr: &Instr, bytes: &[u8], last: &[u8]) -> bool {
     match instr_at(alloc, bytes.len(), bytes) {
         Ok((found, mid, rest)) => found == *instr && mid == last && rest.is_empty(),
@@ -181,6 +188,7 @@ fn is_spelled(alloc: Global, instr: Instr, outline: Outline, head: &[u8], last: 
     };
     let text = bytes.as_slice();
     is_written(alloc, &instr, text)
+        && is_put(alloc, &instr, text) == Ok(true)
         && instr.outline() == outline
         && skim_at(text.len(), text) == Ok((outline, last, [].as_slice()))
         && is_read(alloc, &instr, text, last)
@@ -359,6 +367,8 @@ fn only_the_if_has_one(opens: &mut Seq<bool>) -> bool {
         && opens.as_slice() == [false, false].as_slice()
         && outline_step(opens, 5, Outline::End) == Ok(())
         && outline_step(opens, 6, Outline::Else) == Err(ReadFault::Stopped(Stop::Broken(6)))
+        // The block that may have no `else` stays open.
+        && opens.as_slice() == [false].as_slice()
 }
 
 fn only_the_if_has_an_else(alloc: Global) -> bool {

@@ -10,4 +10,6 @@ mod relocations;
 #[cfg(test)]
 mod sections;
 #[cfg(test)]
+mod text;
+#[cfg(test)]
 mod types;

@@ -4,8 +4,9 @@ use std::alloc::Global;
 use wasm_grammar::{ReadFault, Spell, Stop, put_vector, vector_at};
 use wasm_types::{
     ConstExpr, FormFault, FuncType, GlobalType, Import, ImportKind, Limits, PlainFault, TableType,
-    ValType, const_expr_at, import_at, import_kind_at, put_const_expr, read_func_type,
-    read_global_type, read_limits, write_func_type, write_global_type, write_limits,
+    ValType, const_expr_at, func_type_at, import_at, import_kind_at, put_const_expr, put_func_type,
+    put_global_type, put_import_kind, put_limits, put_table_type, read_func_type, read_global_type,
+    read_limits, write_func_type, write_global_type, write_limits,
 };
 use wl_base::{Item, OutOfMemory, Seq};
 
@@ -62,6 +63,21 @@ fn is_spelled(alloc: Global, to: &mut Seq<u8>, t: &FuncType) -> bool {
         && is_type(read_func_type(alloc, &bytes), t)
 }
 
+fn is_type_at(read: Result<(FuncType, &[u8]), ReadFault>, t: &FuncType) -> bool {
+    match read {
+        Ok((found, rest)) => found == *t && rest == [7].as_slice(),
+        Err(_) => false,
+    }
+}
+
+/// Whether a type is put so, and is what stands there before a byte more.
+fn is_put(alloc: Global, to: &mut Seq<u8>, t: &FuncType) -> bool {
+    let bytes = [0x60, 2, 0x7f, 0x7e, 1, 0x7d, 7];
+    put_func_type(to, t).is_ok()
+        && to.as_slice() == &bytes[..6]
+        && is_type_at(func_type_at(alloc, 7, &bytes), t)
+}
+
 fn function_type(alloc: Global) -> Result<FuncType, OutOfMemory> {
     let params = Seq::from_slice(alloc, &[ValType::I32, ValType::I64])?;
     let results = Seq::from_slice(alloc, &[ValType::F32])?;
@@ -74,9 +90,16 @@ fn a_type_is_spelled(alloc: Global) -> Result<bool, OutOfMemory> {
     Ok(is_spelled(alloc, &mut to, &t))
 }
 
+fn a_type_is_put(alloc: Global) -> Result<bool, OutOfMemory> {
+    let t = function_type(alloc)?;
+    let mut to = Seq::new(alloc);
+    Ok(is_put(alloc, &mut to, &t))
+}
+
 #[test]
 fn function_types_are_written_and_read_again(rt: HostRuntime) {
     assert!(rt; a_type_is_spelled(rt.alloc()) == Ok(true));
+    assert!(rt; a_type_is_put(rt.alloc()) == Ok(true));
 }
 
 fn limits_have_ends() -> bool {
@@ -130,6 +153,28 @@ fn are_spelled(to: &mut Seq<u8>) -> bool {
 fn limits_and_global_types_are_written(rt: HostRuntime) {
     let mut to = Seq::new(rt.alloc());
     let holds = are_spelled(&mut to);
+    assert!(rt; holds);
+}
+
+fn are_put(to: &mut Seq<u8>) -> bool {
+    let limits = Limits {
+        min: 1,
+        max: Some(2),
+    };
+    let kind = ValType::I64;
+    let funcref = true;
+    put_limits(to, &limits).is_ok()
+        && put_global_type(to, &GlobalType { kind, var: false }).is_ok()
+        && put_table_type(to, &TableType { funcref, limits }).is_ok()
+        && put_import_kind(to, &ImportKind::Function(5)).is_ok()
+        && put_import_kind(to, &ImportKind::Memory(limits)).is_ok()
+        && to.as_slice() == [1, 1, 2, 0x7e, 0, 0x70, 1, 1, 2, 0, 5, 2, 1, 1, 2].as_slice()
+}
+
+#[test]
+fn types_and_kinds_are_put(rt: HostRuntime) {
+    let mut to = Seq::new(rt.alloc());
+    let holds = are_put(&mut to);
     assert!(rt; holds);
 }
 

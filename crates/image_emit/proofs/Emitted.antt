@@ -1,9 +1,10 @@
 -- What is measured and written is the bytes of the module.
-use Rattle.std.proofs.Common.{◌≡◌, ℕ, zero, suc, ◌+◌, ◌-◌, ◌^◌, ◌<◌, ◌≤◌, List, [], ◌∷◌, ◌++◌, length, take, drop, slice_index_or, Bool, true, false, nat_lt, nat_le, ◌&&◌, min, max, pos, Ok, Err, refl, sym, ap, ◌∙◌, subst, arith, rules}
+use Rattle.std.proofs.Common.{◌≡◌, ℕ, zero, suc, ◌+◌, ◌-◌, ◌^◌, ◌<◌, ◌≤◌, List, [], ◌∷◌, ◌++◌, length, take, drop, slice_index_or, Bool, true, false, nat_lt, nat_le, ◌&&◌, min, max, pos, Option, Ok, Err, refl, sym, ap, ◌∙◌, subst, arith, rules}
 use Rattle.std.proofs.lemmas.List.{length-take-le, length-drop, drop-drop}
 use Rattle.std.proofs.Math.Seq.{take-length}
 use Rattle.std.specs.List.{All, list_all}
 use Rattle.std.specs.Prelude.{if◌then◌else◌, slice_range}
+use Rattle.wasm_instr.specs.wl_base.declared.span.Span.{Span}
 use Rattle.wasm_instr.specs.wl_base.declared.fault.What.TheVariants.{OutputLength}
 use Rattle.wasm_instr.specs.wl_base.declared.layout_error.LayoutError.TheVariants.{Overflow}
 use Rattle.wl_fan.specs.Slices.{Works}
@@ -15,7 +16,7 @@ use Rattle.image_emit.specs.declared.tree.PlacedSource.{PlacedSource}
 use Rattle.image_emit.specs.declared.measuring.Measured.{Measured}
 use Rattle.image_emit.specs.Bytes.{Tree, tree_of, source_bytes, bytes_of}
 use Rattle.image_emit.specs.Pieces.{source_places}
-use Rattle.image_emit.specs.Sizes.{source_len, bodies_len, data_len, image_len, image_places}
+use Rattle.image_emit.specs.Sizes.{source_len, bodies_len, data_len, image_len, image_code, image_places}
 use Rattle.image_emit.specs.Parts.{Sums, part_start}
 use Rattle.image_emit.specs.PartLaws.{start_rises, start_zero}
 use Rattle.image_emit.specs.Measures.{Lies, LieIn, lies, placed_lies, measured, measure_of, image_measure}
@@ -32,15 +33,16 @@ and_right false b holds = search rules
 
 -- A measure
 
-measured_step : (len : ℕ) (places : List ℕ) (m : Measured) (b : Bool) → nat_lt (2 ^ 31 - 1) len ≡ b → measured len places ≡ Ok m → (len < 2 ^ 31) × (m.len ≡ len) × (m.places ≡ places)
-measured_step len places m true is said =
-    let refused : measured len places ≡ Err (Overflow OutputLength (pos (min len (2 ^ 63 - 1)))) =
-    ap (λ c. if c then Err (Overflow OutputLength (pos (min len (2 ^ 63 - 1)))) else Ok (record { len = len; places = places })) is in
+measured_step : (len : ℕ) (code : Option Span) (places : List ℕ) (m : Measured) (b : Bool) → nat_lt (2 ^ 31 - 1) len ≡ b → measured len code places ≡ Ok m
+    → (len < 2 ^ 31) × (m.len ≡ len) × (m.places ≡ places)
+measured_step len code places m true is said =
+    let refused : measured len code places ≡ Err (Overflow OutputLength (pos (min len (2 ^ 63 - 1)))) =
+    ap (λ c. if c then Err (Overflow OutputLength (pos (min len (2 ^ 63 - 1)))) else Ok (record { len = len; code = code; places = places })) is in
     absurd (cc)
-measured_step len places m false is said =
-    let given : measured len places ≡ Ok (record { len = len; places = places }) =
-    ap (λ c. if c then Err (Overflow OutputLength (pos (min len (2 ^ 63 - 1)))) else Ok (record { len = len; places = places })) is in
-    let now : Measured = record { len = len; places = places } in
+measured_step len code places m false is said =
+    let given : measured len code places ≡ Ok (record { len = len; code = code; places = places }) =
+    ap (λ c. if c then Err (Overflow OutputLength (pos (min len (2 ^ 63 - 1)))) else Ok (record { len = len; code = code; places = places })) is in
+    let now : Measured = record { len = len; code = code; places = places } in
     let same : m ≡ now = cc in
     let low : len < 2 ^ 31 = search rules in
     (low, ap (λ (x : Measured). x.len) same, ap (λ (x : Measured). x.places) same)
@@ -63,6 +65,28 @@ module _ (files : List (List ℕ)) where
       each test [] all k d below = absurd (omega (arith, below))
       each test (x ∷ xs) all zero d below = and_left (test x) (list_all test xs) all
       each test (x ∷ xs) all (suc k) d below = each test xs (and_right (test x) (list_all test xs) all) k d (omega (arith, below))
+
+  -- and back
+  lies_back : (s : Source) → Lies files s → lies files s ≡ true
+  lies_back (File f) lie = within f.span.start f.span.len (length (slice_index_or files f.file [])) lie
+    where
+      within : (start n len : ℕ) → start + n ≤ len → (nat_le start len && nat_le n (len - start)) ≡ true
+      within start n len lie = search rules
+  lies_back (Own bytes) lie = refl
+
+  all_lie : (ss : List Source) → All (Lies files) ss → list_all (lies files) ss ≡ true
+  all_lie [] all = refl
+  all_lie (s ∷ ss) all = rw (lies_back s (all 0 s (omega arith))) (all_lie ss (λ k d below. all (suc k) d (omega (arith, below))))
+
+  all_placed_lie : (ps : List PlacedSource) → All (λ p. Lies files p.source) ps → list_all (placed_lies files) ps ≡ true
+  all_placed_lie [] all = refl
+  all_placed_lie (p ∷ ps) all = rw (lies_back p.source (all 0 p (omega arith))) (all_placed_lie ps (λ k d below. all (suc k) d (omega (arith, below))))
+
+  pub bodies_back : (i : Image) → LieIn files i → list_all (lies files) i.bodies ≡ true
+  bodies_back i lie = all_lie i.bodies lie.of_bodies
+
+  pub lie_back : (i : Image) → LieIn files i → (list_all (lies files) i.bodies && list_all (placed_lies files) i.blocks) ≡ true
+  lie_back i lie = rw (all_lie i.bodies lie.of_bodies) (all_placed_lie i.blocks lie.of_blocks)
 
   source_long : (s : Source) → Lies files s → length (source_bytes files s) ≡ source_len s
   source_long (File f) lies =
@@ -94,7 +118,7 @@ module _ (files : List (List ℕ)) where
 
     module _ (m : Measured) (is : image_measure i ≡ Ok m) where
       said : (image_len i < 2 ^ 31) × (m.len ≡ image_len i) × (m.places ≡ image_places i)
-      said = measured_step (image_len i) (image_places i) m (nat_lt (2 ^ 31 - 1) (image_len i)) refl (sym (blank_measure i) ∙ is)
+      said = measured_step (image_len i) (image_code i) (image_places i) m (nat_lt (2 ^ 31 - 1) (image_len i)) refl (sym (blank_measure i) ∙ is)
 
       pub long : m.len ≡ length (bytes_of (tree_of files i))
       long = said.1 ∙ sym (len_is (source_bytes files) i bodies_long blocks_long)

@@ -1,8 +1,9 @@
 -- How long a tree with the sources of an image is, and where they stand.
-use Rattle.std.proofs.Common.{◌≡◌, ℕ, suc, ◌+◌, ◌-◌, ◌≤◌, List, [], ◌∷◌, ◌++◌, length, map, replicate, refl, sym, ap, ◌∙◌, arith, rules, false, ◌==◌, length-append}
+use Rattle.std.proofs.Common.{◌≡◌, ℕ, suc, ◌+◌, ◌-◌, ◌≤◌, List, [], ◌∷◌, ◌++◌, length, map, replicate, refl, sym, ap, ◌∙◌, arith, rules, false, ◌==◌, length-append, Option, Some, None}
 use Rattle.std.specs.Prelude.{if◌then◌else◌}
 use Rattle.std.proofs.lemmas.List.{length-replicate, length-map}
 use Rattle.std.specs.List.{flat_map}
+use Rattle.wasm_instr.specs.wl_base.declared.span.Span.{Span}
 use Rattle.wasm_instr.specs.wasm_types.declared.const_expr.ConstExpr.{ConstExpr}
 use Rattle.wasm_instr.specs.leb_codec.Shortest.{u32}
 use Rattle.image_emit.specs.declared.tree.Image.{Image}
@@ -10,8 +11,8 @@ use Rattle.image_emit.specs.declared.tree.Source.{Source}
 use Rattle.image_emit.specs.declared.tree.Source.TheVariants.{File, Own}
 use Rattle.image_emit.specs.declared.tree.PlacedSource.{PlacedSource}
 use Rattle.image_emit.specs.Bytes.{Block, tree_of, sized, vector, laid, data_bytes, bytes_of, const_expr}
-use Rattle.image_emit.specs.Pieces.{Piece, joined, body_piece, block_pieces, data_head, data_pieces, pieces, sections, code_head, front, places, source_places}
-use Rattle.image_emit.specs.Sizes.{source_len, bodies_len, blocks_len, data_len, code_head_len, data_head_len, body_places, block_places, data_places, front_len, image_len, image_places}
+use Rattle.image_emit.specs.Pieces.{Piece, joined, body_piece, block_pieces, data_head, data_pieces, pieces, sections, code_head, front, places, code_place, source_places}
+use Rattle.image_emit.specs.Sizes.{source_len, bodies_len, blocks_len, data_len, code_head_len, data_head_len, body_places, block_places, data_places, front_len, code_len, code_span, image_code, image_len, image_places}
 use Rattle.image_emit.specs.Measures.{tree_with, blank, measured, measure_of, image_measure}
 use Rattle.image_emit.specs.Some.{u32_some}
 use Rattle.image_emit.proofs.Joined.{joined_both, pieces_are_bytes, laid_is}
@@ -55,6 +56,22 @@ module _ (f : Source → List ℕ) where
       omega (arith, few, size, length-append (u32 (length (vector sized bs))) (u32 (length bs))) in
       ap length (some (length (map f ss)) [] (10 ∷ u32 (length (vector sized bs)) ++ u32 (length bs))) ∙ both
       ∙ sym (some (length ss) 0 (1 + length (u32 (length (u32 (length (s ∷ ss))) + bodies_len (s ∷ ss))) + length (u32 (length (s ∷ ss)))))
+
+  payload_len : (ss : List Source) → Long ss → length (vector sized (map f ss)) ≡ code_len (length ss) (bodies_len ss)
+  payload_len ss l =
+      let bs = map f ss in
+      let few = ap (λ n. length (u32 n)) (length-map ss f) in
+      omega (arith, few, flat_len ss l, length-append (u32 (length bs)) (flat_map sized bs))
+
+  code_span_is : (before : ℕ) (ss : List Source) → Long ss
+      → (if length (map f ss) == 0 then None else Some (record { start = before + 1 + length (u32 (length (vector sized (map f ss)))); len = length (vector sized (map f ss)) }))
+      ≡ code_span before (length ss) (bodies_len ss)
+  code_span_is before [] l = refl
+  code_span_is before (s ∷ ss) l =
+      let at : ℕ → Span = λ n. record { start = before + 1 + length (u32 n); len = n } in
+      some (length (map f ss)) None (Some (at (length (vector sized (map f (s ∷ ss))))))
+      ∙ ap (λ n. Some (at n)) (payload_len (s ∷ ss) l)
+      ∙ sym (some (length ss) None (Some (at (code_len (length (s ∷ ss)) (bodies_len (s ∷ ss))))))
 
   bodies_joined : (ss : List Source) → Long ss → length (joined (map body_piece (map f ss))) ≡ bodies_len ss
   bodies_joined [] l = refl
@@ -159,8 +176,15 @@ module _ (f : Source → List ℕ) where
         ∙ (bodies_stand (front_len i) i.bodies (data_pieces t.data_offset t.blocks) lb
         ∙ ap (λ zs. body_places (front_len i) i.bodies ++ zs) (data_stand (front_len i + bodies_len i.bodies) i.data_offset i.blocks ld))
 
-    pub measure_is : measure_of (tree_with f i) ≡ measured (image_len i) (image_places i)
-    measure_is = ap (λ n. measured n (source_places (tree_with f i))) len_is ∙ ap (measured (image_len i)) places_are
+    pub code_is_at : code_place (tree_with f i) ≡ image_code i
+    unfolding image_code code_place
+    code_is_at = code_span_is (length (sections (tree_of [] i))) i.bodies lb
+
+    pub measure_is : measure_of (tree_with f i) ≡ measured (image_len i) (image_code i) (image_places i)
+    measure_is =
+        ap (λ n. measured n (code_place (tree_with f i)) (source_places (tree_with f i))) len_is
+        ∙ ap (λ s. measured (image_len i) s (source_places (tree_with f i))) code_is_at
+        ∙ ap (measured (image_len i) (image_code i)) places_are
 
 blank_len : (s : Source) → length (blank s) ≡ source_len s
 blank_len (File s) = length-replicate {A = ℕ} s.span.len 0
@@ -174,5 +198,5 @@ blank_placed : (ps : List PlacedSource) → PlacedLong blank ps
 blank_placed [] = tt
 blank_placed (p ∷ ps) = (blank_len p.source, blank_placed ps)
 
-pub blank_measure : (i : Image) → image_measure i ≡ measured (image_len i) (image_places i)
+pub blank_measure : (i : Image) → image_measure i ≡ measured (image_len i) (image_code i) (image_places i)
 blank_measure i = measure_is blank i (blank_long i.bodies) (blank_placed i.blocks)

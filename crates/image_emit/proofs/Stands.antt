@@ -1,7 +1,10 @@
 -- Each source stands at its place.
-use Rattle.std.proofs.Common.{◌≡◌, ℕ, zero, suc, ◌+◌, ◌<◌, List, [], ◌∷◌, ◌++◌, length, map, take, drop, slice_index_or, refl, sym, ap, ◌∙◌, subst, arith, append_assoc, length-append}
-use Rattle.image_emit.specs.Bytes.{Tree, Block, bytes_of}
-use Rattle.image_emit.specs.Pieces.{Piece, joined, body_piece, block_pieces, data_pieces, pieces, front, places, source_places, sources}
+use Rattle.std.proofs.Common.{◌≡◌, ℕ, zero, suc, ◌+◌, ◌<◌, ◌==◌, List, [], ◌∷◌, ◌++◌, length, map, take, drop, slice_index_or, false, refl, sym, ap, ◌∙◌, subst, arith, rules, append_assoc, length-append, Option, Some, None}
+use Rattle.std.specs.Prelude.{if◌then◌else◌}
+use Rattle.wasm_instr.specs.leb_codec.Shortest.{u32}
+use Rattle.wasm_instr.specs.wl_base.declared.span.Span.{Span}
+use Rattle.image_emit.specs.Bytes.{Tree, Block, bytes_of, vector, sized, section, data_section}
+use Rattle.image_emit.specs.Pieces.{Piece, joined, body_piece, block_pieces, data_pieces, pieces, front, sections, code_place, places, source_places, sources}
 use Rattle.image_emit.proofs.Joined.{pieces_are_bytes}
 
 abbrev pub bytes_in : Piece → List ℕ
@@ -33,6 +36,49 @@ take_front (x ∷ xs) ys = ap (λ zs. x ∷ zs) (take_front xs ys)
 drop_front : (xs ys : List ℕ) → drop (length xs) (xs ++ ys) ≡ ys
 drop_front [] ys = refl
 drop_front (x ∷ xs) ys = drop_front xs ys
+
+-- the payload of the code section stands behind the sections before it, its number and its size
+abbrev place : List ℕ → List (List ℕ) → Option Span
+place before bodies =
+    let payload = vector sized bodies in
+    if length bodies == 0 then None else Some (record { start = length before + 1 + length (u32 (length payload)); len = length payload })
+
+some_body : {A : Type 0} (n : ℕ) (x y : A) → (if suc n == 0 then x else y) ≡ y
+some_body n x y = let none : (suc n == 0) ≡ false = search rules in rw none refl
+
+payload_stands : (before after : List ℕ) (bodies : List (List ℕ)) (s : Span) → place before bodies ≡ Some s
+    → take s.len (drop s.start ((before ++ section 10 sized bodies) ++ after)) ≡ vector sized bodies
+payload_stands before after [] s e = absurd (cc)
+payload_stands before after (b ∷ bs) s e =
+    let payload : List ℕ = vector sized (b ∷ bs) in
+    let lead : List ℕ = 10 ∷ u32 (length payload) in
+    let here : Span = record { start = length before + 1 + length (u32 (length payload)); len = length payload } in
+    let told : Some here ≡ Some s = sym (some_body (length bs) None (Some here)) ∙ e in
+    let same : here ≡ s = cc in
+    let start : length before + 1 + length (u32 (length payload)) ≡ length (before ++ lead) = omega (arith, length-append before lead) in
+    let whole : (before ++ section 10 sized (b ∷ bs)) ++ after ≡ (before ++ lead) ++ (payload ++ after) =
+    ap (λ zs. (before ++ zs) ++ after) (some_body (length bs) [] (lead ++ payload)) ∙ ap (λ zs. zs ++ after) (sym (append_assoc before lead payload)) ∙ append_assoc (before ++ lead) payload after in
+    subst (λ (z : Span). take z.len (drop z.start ((before ++ section 10 sized (b ∷ bs)) ++ after)) ≡ payload) same
+    (ap (λ zs. take (length payload) (drop (length before + 1 + length (u32 (length payload))) zs)) whole
+    ∙ ap (λ n. take (length payload) (drop n ((before ++ lead) ++ (payload ++ after)))) start
+    ∙ ap (take (length payload)) (drop_front (before ++ lead) (payload ++ after))
+    ∙ take_front payload after)
+
+pub code_stands : (t : Tree) (s : Span) → code_place t ≡ Some s → take s.len (drop s.start (bytes_of t)) ≡ vector sized t.bodies
+unfolding bytes_of code_place
+code_stands t s e = payload_stands (sections t) (data_section t.data_offset t.blocks) t.bodies s e
+
+pub no_code : (t : Tree) → code_place t ≡ None → t.bodies ≡ []
+unfolding code_place
+no_code t e = by_bodies (sections t) t.bodies e
+  where
+    by_bodies : (before : List ℕ) (bodies : List (List ℕ)) → place before bodies ≡ None → bodies ≡ []
+    by_bodies before [] e = refl
+    by_bodies before (b ∷ bs) e =
+        let payload : List ℕ = vector sized (b ∷ bs) in
+        let here : Span = record { start = length before + 1 + length (u32 (length payload)); len = length payload } in
+        let told : Some here ≡ None = sym (some_body (length bs) None (Some here)) ∙ e in
+        absurd (cc)
 
 -- behind what stands before the pieces
 stands : (before : List ℕ) (ps : List Piece) (k : ℕ) → k < length (map bytes_in ps)

@@ -1,5 +1,6 @@
 -- How long an image is, and where its sources stand.
-use Rattle.std.specs.Prelude.{ℕ, ◌+◌, ◌-◌, ◌^◌, ◌≤◌, nat_lt, nat_le, Bool, true, ◌&&◌, min, pos, All, List, [], length, map, replicate, slice_index_or, if◌then◌else◌, Result, Ok, Err}
+use Rattle.std.specs.Prelude.{ℕ, ◌+◌, ◌-◌, ◌^◌, ◌≤◌, nat_lt, nat_le, Bool, true, ◌&&◌, min, pos, All, List, [], length, map, replicate, slice_index_or, if◌then◌else◌, Option, Result, Ok, Err}
+use Rattle.wasm_instr.specs.wl_base.declared.span.Span.{Span}
 use Rattle.wasm_instr.specs.wl_base.declared.fault.What.TheVariants.{OutputLength}
 use Rattle.wasm_instr.specs.wl_base.declared.layout_error.LayoutError.{LayoutError}
 use Rattle.wasm_instr.specs.wl_base.declared.layout_error.LayoutError.TheVariants.{Overflow}
@@ -9,7 +10,7 @@ use Rattle.image_emit.specs.declared.tree.Source.TheVariants.{File, Own}
 use Rattle.image_emit.specs.declared.tree.PlacedSource.{PlacedSource}
 use Rattle.image_emit.specs.declared.measuring.Measured.{Measured}
 use Rattle.image_emit.specs.Bytes.{Tree, tree_of, bytes_of}
-use Rattle.image_emit.specs.Pieces.{source_places}
+use Rattle.image_emit.specs.Pieces.{code_place, source_places}
 
 -- The tree of an image whose sources stand for these bytes.
 abbrev pub tree_with : (Source → List ℕ) → Image → Tree
@@ -43,13 +44,13 @@ pub record LieIn (files : List (List ℕ)) (i : Image) : Type 0 where
   pub of_bodies : All (Lies files) i.bodies
   pub of_blocks : All (λ p. Lies files p.source) i.blocks
 
--- The length of a module and the places of its sources, unless it has more than 2^31 - 1 bytes. The length that is told then
+-- The length of a module, the place of its code section's payload and those of its sources, unless it has more than 2^31 - 1 bytes. The length that is told then
 -- is the module's, or the greatest of an i64.
-abbrev pub measured : ℕ → List ℕ → Result Measured LayoutError
-measured len places = if nat_lt (2 ^ 31 - 1) len then Err (Overflow OutputLength (pos (min len (2 ^ 63 - 1)))) else Ok (record { len = len; places = places })
+abbrev pub measured : ℕ → Option Span → List ℕ → Result Measured LayoutError
+measured len code places = if nat_lt (2 ^ 31 - 1) len then Err (Overflow OutputLength (pos (min len (2 ^ 63 - 1)))) else Ok (record { len = len; code = code; places = places })
 
 abbrev pub measure_of : Tree → Result Measured LayoutError
-measure_of t = measured (length (bytes_of t)) (source_places t)
+measure_of t = measured (length (bytes_of t)) (code_place t) (source_places t)
 
 -- The same of an image, with as many zeros in the place of each part of a file.
 abbrev pub image_measure : Image → Result Measured LayoutError

@@ -1,6 +1,7 @@
 -- The bytes of a module as pieces: what stands before the first source, and then each source behind what leads to it.
-use Rattle.std.specs.Prelude.{ℕ, ◌+◌, ◌-◌, ◌==◌, List, [], ◌∷◌, ◌++◌, length, map, replicate, if◌then◌else◌}
+use Rattle.std.specs.Prelude.{ℕ, ◌+◌, ◌-◌, ◌==◌, List, [], ◌∷◌, ◌++◌, length, map, replicate, if◌then◌else◌, Option, Some, None}
 use Rattle.wasm_instr.specs.leb_codec.Shortest.{u32}
+use Rattle.wasm_instr.specs.wl_base.declared.span.Span.{Span}
 use Rattle.wasm_instr.specs.wasm_types.declared.const_expr.ConstExpr.{ConstExpr}
 use Rattle.image_emit.specs.Bytes.{Tree, Block, header, custom_section, section, func_type, import_entry, table, limits, global, export, element, sized, vector, const_expr, data_bytes}
 
@@ -57,6 +58,13 @@ code_head bodies = if length bodies == 0 then [] else 10 ∷ u32 (length (vector
 -- What stands before the first source.
 abbrev pub front : Tree → List ℕ
 front t = sections t ++ code_head t.bodies
+
+-- Where the payload of the code section stands in the bytes of the module: behind the sections before it, its number and its
+-- size (Core 5.5.2). Its first byte begins the count of bodies. With no body there is no code section.
+unfoldable pub code_place : Tree → Option Span
+code_place t =
+    let payload = vector sized t.bodies in
+    if length t.bodies == 0 then None else Some (record { start = length (sections t) + 1 + length (u32 (length payload)); len = length payload })
 
 -- Where the source of each piece begins, from the place at which the first piece begins.
 abbrev pub places : ℕ → List Piece → List ℕ

@@ -5,6 +5,7 @@ use Rattle.wasm_instr.specs.wasm_types.declared.value.ValType.TheVariants.{I32, 
 use Rattle.wasm_instr.specs.wasm_types.declared.import.ImportKind.TheVariants as kinds
 use Rattle.wasm_instr.specs.wasm_types.declared.const_expr.ConstExpr.TheVariants as constants
 use Rattle.image_emit.specs.Bytes.{Tree, bytes_of}
+use Rattle.image_emit.specs.Pieces.{code_place}
 
 -- f calls g, which gives 7
 abbrev pub call_tree : Tree
@@ -36,6 +37,11 @@ call_worked : bytes_of call_tree ≡ call_bytes
 unfolding bytes_of u32
 call_worked = refl
 
+-- its code section's payload is the last 15 of these bytes
+call_code : code_place call_tree ≡ Some (record { start = 50; len = 15 })
+unfolding u32 code_place
+call_code = refl
+
 -- three bytes at 16 and one at 20 of a data segment: the one byte between is 0
 abbrev pub data_tree : Tree
 data_tree = record call_tree {
@@ -48,6 +54,10 @@ data_tree = record call_tree {
   data_offset = constants.I32 (pos 16);
   blocks = record { address = 16; bytes = 1 ∷ 2 ∷ 3 ∷ [] } ∷ record { address = 20; bytes = 4 ∷ [] } ∷ [];
 }
+
+no_code : code_place data_tree ≡ None
+unfolding code_place
+no_code = refl
 
 data_worked : bytes_of data_tree ≡ 0x00 ∷ 0x61 ∷ 0x73 ∷ 0x6D ∷ 0x01 ∷ 0x00 ∷ 0x00 ∷ 0x00
     ∷ 0x0B ∷ 0x0B ∷ 0x01 ∷ 0x00 ∷ 0x41 ∷ 0x10 ∷ 0x0B ∷ 0x05 ∷ 0x01 ∷ 0x02 ∷ 0x03 ∷ 0x00 ∷ 0x04 ∷ []

@@ -1,6 +1,7 @@
 -- How long the parts of an image are, whatever its files hold.
-use Rattle.std.specs.Prelude.{ℕ, ◌+◌, ◌-◌, ◌==◌, List, [], ◌∷◌, ◌++◌, length, if◌then◌else◌}
+use Rattle.std.specs.Prelude.{ℕ, ◌+◌, ◌-◌, ◌==◌, List, [], ◌∷◌, ◌++◌, length, if◌then◌else◌, Option, Some, None}
 use Rattle.wasm_instr.specs.leb_codec.Shortest.{u32}
+use Rattle.wasm_instr.specs.wl_base.declared.span.Span.{Span}
 use Rattle.wasm_instr.specs.wasm_types.declared.const_expr.ConstExpr.{ConstExpr}
 use Rattle.image_emit.specs.Bytes.{const_expr, tree_of}
 use Rattle.image_emit.specs.Pieces.{sections}
@@ -53,6 +54,17 @@ data_places at (p ∷ ps) = block_places at p.address (p ∷ ps)
 -- what stands before the first source
 abbrev pub front_len : Image → ℕ
 front_len i = length (sections (tree_of [] i)) + code_head_len (length i.bodies) (bodies_len i.bodies)
+
+-- the payload of the code section with so many bodies, of so many bytes
+abbrev pub code_len : ℕ → ℕ → ℕ
+code_len count len = length (u32 count) + len
+
+-- where it stands behind so many bytes of sections
+abbrev pub code_span : ℕ → ℕ → ℕ → Option Span
+code_span before count len = if count == 0 then None else Some (record { start = before + 1 + length (u32 (code_len count len)); len = code_len count len })
+
+unfoldable pub image_code : Image → Option Span
+image_code i = code_span (length (sections (tree_of [] i))) (length i.bodies) (bodies_len i.bodies)
 
 -- the first block's head
 abbrev pub image_data_head : Image → ℕ

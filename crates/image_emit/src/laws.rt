@@ -1,9 +1,11 @@
 //! What holds of the bytes of a module, as calls that do nothing: their contracts are the laws.
-ghost use Rattle.std.specs.Prelude.{◌≡◌, ◌≤◌, ◌↔◌, length, Ok};
+ghost use Rattle.std.specs.Prelude.{◌≡◌, ◌≤◌, ◌↔◌, [], length, take, drop, Some, None, Ok};
 ghost use Rattle.wasm_module.specs.declared.structure.Module.{Module};
 ghost use Rattle.wasm_module.specs.Modules.{IsModule};
 ghost use Rattle.wasm_module.specs.ModuleReading.{module_of};
-ghost use Rattle.image_emit.specs.Bytes.{Tree, bytes_of};
+ghost use Rattle.wasm_instr.specs.wl_base.declared.span.Span.{Span as Place};
+ghost use Rattle.image_emit.specs.Bytes.{Tree, bytes_of, sized, vector};
+ghost use Rattle.image_emit.specs.Pieces.{code_place};
 ghost use Rattle.image_emit.specs.Rows.{call_tree};
 ghost use Rattle.image_emit.specs.Spelled.{IsTree, IsSpellable, entries, named_in_elements};
 
@@ -20,6 +22,12 @@ pub fn bytes_are_the_module()
 /// The bytes of a tree are no other module.
 pub fn bytes_are_no_other()
     ensures { (t : Tree) (m other : Module) → IsSpellable t → IsTree m t → IsModule other (bytes_of t) → other ≡ m }
+{}
+
+/// The payload of the code section stands in the bytes where `code_place` says, and it says none only where there is no body.
+pub fn the_code_stands_at_its_place()
+    ensures stands { (t : Tree) (s : Place) → code_place t ≡ Some s → take s.len (drop s.start (bytes_of t)) ≡ vector sized t.bodies }
+    ensures none { (t : Tree) → code_place t ≡ None → t.bodies ≡ [] }
 {}
 
 /// The bytes are at least as many as the entries of all sections, and as the functions that element segments name.

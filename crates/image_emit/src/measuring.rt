@@ -1,11 +1,11 @@
 //! How long an image is.
-ghost use Rattle.std.specs.Prelude.{◌≡◌, ◌+◌, ◌<◌, ◌≤◌, ◌^◌, ◌++◌, length, OnOk, IfOk};
+ghost use Rattle.std.specs.Prelude.{◌≡◌, ◌+◌, ◌<◌, ◌≤◌, ◌^◌, ◌++◌, [], length, OnOk, IfOk};
 ghost use Rattle.wasm_instr.specs.wl_base.Answers.{Answers};
 ghost use Rattle.image_emit.specs.Bytes.{tree_of};
 ghost use Rattle.image_emit.specs.Measures.{image_measure};
 ghost use Rattle.image_emit.specs.Pieces.{sections};
 ghost use Rattle.image_emit.specs.Put.{capped};
-ghost use Rattle.image_emit.specs.Sizes.{bodies_len, blocks_len, data_len, body_places, block_places, data_places, image_len, front_len, image_data_head, image_places};
+ghost use Rattle.image_emit.specs.Sizes.{bodies_len, blocks_len, data_len, body_places, block_places, data_places, image_len, front_len, image_data_head, image_places, image_code};
 
 use crate::put::{plus, u32_size};
 use crate::sizes::{
@@ -13,12 +13,15 @@ use crate::sizes::{
 };
 use crate::{Image, PlacedSource, Source};
 use std::alloc::Global;
-use wl_base::{LayoutError, OutOfMemory, Seq, What};
+use wl_base::{LayoutError, OutOfMemory, Seq, Span, What};
 
-/// The length of an image's bytes, and where the bytes of each source begin in them.
+/// The length of an image's bytes, and where the code and the bytes of each source stand in them.
 #[derive(Debug, Drop)]
 pub struct Measured {
     pub len: u64,
+    /// The payload of the code section, from the count of its bodies on (Core 5.5.13), or none where there is no body and so no
+    /// such section. Debugging information counts its addresses from there.
+    pub code: Option<Span>,
     /// One place for each source in the order of the output: the bodies, then the blocks.
     pub places: Seq<u64>,
 }
@@ -45,14 +48,19 @@ pub fn measure(alloc: Global, image: &Image) -> Result<Measured, LayoutError>
             needed,
         });
     }
+    let code = code_place(image, lengths.sections, lengths.bodies);
     let places = source_places(alloc, image, lengths.front, lengths.data_head)?;
-    Ok(Measured { len, places })
+    Ok(Measured { len, code, places })
 }
 
 // Lengths in an image, as far as 64 bits hold them.
 #[derive(Clone, Copy)]
 struct Lengths {
     all: u64,
+    // the sections before the code section
+    sections: u64,
+    // the bodies, each behind its size
+    bodies: u64,
     // what stands before the first body
     front: u64,
     // what stands between the bodies and the first block
@@ -61,18 +69,40 @@ struct Lengths {
 
 fn lengths_of(image: &Image) -> Lengths
     ensures all { result.all ≡ capped (image_len image.now) }
+    ensures parts { (result.sections ≡ capped (length (sections (tree_of [] image.now)))) × (result.bodies ≡ capped (bodies_len image.now.bodies)) }
     ensures heads { (result.front ≡ capped (front_len image.now)) × (result.data_head ≡ capped (image_data_head image.now)) }
 {
     let bodies = bodies_size(image.bodies.as_slice());
     let code_head = code_head_size(image.bodies.len(), bodies);
-    let front = plus(sections_size(image), code_head);
+    let sections = sections_size(image);
+    let front = plus(sections, code_head);
     let data = data_size(image.blocks.as_slice());
     let data_head = data_head_size(&image.data_offset, image.blocks.len(), data);
     Lengths {
         all: plus(plus(front, bodies), plus(data_head, data)),
+        sections,
+        bodies,
         front,
         data_head,
     }
+}
+
+// Where the payload of the code section stands in an image that isn't too long, whose other sections before it and whose bodies
+// take so many bytes.
+#[tactic(auto, unfolding(crate::specs::Sizes::image_code))]
+fn code_place(image: &Image, before: u64, bodies: u64) -> Option<Span>
+    requires short { image_len image.now < 2 ^ 31 }
+    requires parts { (before ≡ length (sections (tree_of [] image.now))) × (bodies ≡ bodies_len image.now.bodies) }
+    ensures { result ≡ image_code image.now }
+{
+    if image.bodies.is_empty() {
+        return None;
+    }
+    let len = u32_size(image.bodies.len() as u64) + bodies;
+    Some(Span {
+        start: before + 1 + u32_size(len),
+        len,
+    })
 }
 
 // Where each source of an image begins that isn't too long.

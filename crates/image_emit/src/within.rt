@@ -6,10 +6,11 @@ ghost use Rattle.image_emit.specs.Measures.{LieIn, lies, placed_lies};
 use crate::{Image, PlacedSource, Source};
 use wl_base::Seq;
 
-/// Whether all parts of files lie in them.
-#[tactic(auto, using(crate::proofs::Emitted::lie_from))]
+/// Whether all parts of files lie in them: true exactly where they do.
+#[tactic(auto, using(crate::proofs::Emitted::lie_from, crate::proofs::Emitted::lie_back))]
 pub fn lie_in(files: &[Seq<u8>], image: &Image) -> bool
-    ensures { result ≡ true → LieIn files.now image.now }
+    ensures lie { result ≡ true → LieIn files.now image.now }
+    ensures only { LieIn files.now image.now → result ≡ true }
 {
     sources_lie(files, image.bodies.as_slice()) && blocks_lie(files, image.blocks.as_slice())
 }

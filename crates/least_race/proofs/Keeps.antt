@@ -57,8 +57,8 @@ module _ (width jobs : ℕ) (base : List ℕ) (next : ℕ) (words : List ℕ) (v
     each = each_set (IsParty jobs base) vs p w k.each record { passes = mine.passes; ended = mine.ended; same = mine.same; idle = λ z. absurd (omega arith) };
   }
 
-  pub claims_past : jobs ≤ next → v.ended ≡ false → 0 < v.width → Kept width jobs base (next + 1) words (set vs p (with_pass v))
-  claims_past past running wide = let w : Party = with_pass v in record {
+  pub claims_past : jobs ≤ next → v.ended ≡ false → 0 < v.width → Kept width jobs base (next + 1) words (set vs p (with_pass v next))
+  claims_past past running wide = let w : Party = with_pass v next in record {
     small = k.small;
     few = k.few;
     long = k.long;

@@ -96,7 +96,7 @@ pub alone : (f : Party → ℕ) (vs : List Party) (p : ℕ) (v : Party) → get_
 alone f vs p v at none whole q u e = let s = total_set f vs p v spent at in let l = total_le f (set vs p spent) q u e in omega arith
 
 pub below_jobs : (v : Party) (n : ℕ) → n < v.jobs → claimed v n ≡ with_claim v n
-below_jobs v n l = let t : ltb n v.jobs ≡ true = grind (arith, nat_tests) in ap (λ (b : Bool). cond b (with_claim v n) (with_pass v)) t
+below_jobs v n l = let t : ltb n v.jobs ≡ true = grind (arith, nat_tests) in ap (λ (b : Bool). cond b (with_claim v n) (with_pass v n)) t
 
-pub past_jobs : (v : Party) (n : ℕ) → v.jobs ≤ n → claimed v n ≡ with_pass v
-past_jobs v n l = let t : ltb n v.jobs ≡ false = grind (arith, nat_tests) in ap (λ (b : Bool). cond b (with_claim v n) (with_pass v)) t
+pub past_jobs : (v : Party) (n : ℕ) → v.jobs ≤ n → claimed v n ≡ with_pass v n
+past_jobs v n l = let t : ltb n v.jobs ≡ false = grind (arith, nat_tests) in ap (λ (b : Bool). cond b (with_claim v n) (with_pass v n)) t

@@ -24,7 +24,7 @@ least i base (o ∷ os) = cond (o.word == i) (min o.rank (least i base os)) (lea
 
 -- the one party at the start, which has the whole width
 abbrev pub starter : ℕ → ℕ → List ℕ → Party
-starter width jobs base = record { width = width; claims = []; passes = 0; ended = false; proposals = []; find = 0; jobs = jobs; base = base }
+starter width jobs base = record { width = width; claims = []; passes = 0; last = 0; ended = false; proposals = []; find = 0; jobs = jobs; base = base }
 
 -- a party that was joined into another is none from then on
 abbrev pub spent : Party
@@ -32,21 +32,21 @@ spent = starter 0 0 []
 
 -- a party after it drew the number of a job
 abbrev pub with_claim : Party → ℕ → Party
-with_claim v n = record v { claims = v.claims ++ n ∷ [] }
+with_claim v n = record v { claims = v.claims ++ n ∷ []; last = n }
 
 -- a party after it drew a number that is no job's
-abbrev pub with_pass : Party → Party
-with_pass v = record v { passes = v.passes + 1; ended = true }
+abbrev pub with_pass : Party → ℕ → Party
+with_pass v n = record v { passes = v.passes + 1; last = n; ended = true }
 
 -- a party after it drew n
 abbrev pub claimed : Party → ℕ → Party
-claimed v n = cond (ltb n v.jobs) (with_claim v n) (with_pass v)
+claimed v n = cond (ltb n v.jobs) (with_claim v n) (with_pass v n)
 
 -- a party after it proposed the offer and found n
 abbrev pub proposed : Party → Offer → ℕ → Party
 proposed v o n = record v { proposals = v.proposals ++ o ∷ []; find = n }
 
--- what a party keeps where the width w is split off, and the new party; passes go with the width, and the rest stays
+-- what a party keeps where the width w is split off, and the new party, which drew nothing yet; passes go with the width, and the rest stays
 abbrev pub kept_part : ℕ → Party → Party
 kept_part w v = record v { width = v.width - w; passes = v.passes - min w v.passes }
 

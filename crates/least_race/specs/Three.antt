@@ -20,7 +20,7 @@ pub shared_words : (end before shared).words ≡ 4 ∷ 7 ∷ []
 shared_words = refl
 
 abbrev pub left : Party
-left = record (starter 2 3 (99 ∷ 99 ∷ [])) { claims = 0 ∷ 2 ∷ 1 ∷ []; passes = 1; ended = true; proposals = offer 0 9 ∷ offer 0 4 ∷ offer 1 7 ∷ []; find = 99 }
+left = record (starter 2 3 (99 ∷ 99 ∷ [])) { claims = 0 ∷ 2 ∷ 1 ∷ []; passes = 1; last = 2; ended = true; proposals = offer 0 9 ∷ offer 0 4 ∷ offer 1 7 ∷ []; find = 99 }
 
 pub shared_parties : (end before shared).parties ≡ spent ∷ left ∷ []
 shared_parties = refl

@@ -17,6 +17,8 @@ pub struct Party {
     pub claims: LinkedList<u64>,
     /// How many numbers it drew that are no job's.
     pub passes: u64,
+    /// The number that it drew last, a job's or not, and 0 before its first draw.
+    pub last: u64,
     /// Whether it may draw no more.
     pub ended: bool,
     /// The offers that it made, in order.

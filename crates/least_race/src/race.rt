@@ -96,9 +96,9 @@ impl<J: Jobs> LeastRace<J> {
         &self.jobs
     }
 
-    /// Draws the next number, which is greater than each that this seat claimed before. `Some` is
-    /// the job of this number, which the seat has then claimed. `None` comes exactly where no job
-    /// has the number; the seat has then ended and may not draw again, so by its own calls a seat
+    /// Draws the next number, which is greater than each that this seat claimed before, and which
+    /// `last` then is. `Some` is the job of this number, which the seat has then claimed. `None` comes
+    /// exactly where no job has the number; the seat has then ended and may not draw again, so by its own calls a seat
     /// draws at most one number more than there are jobs.
     pub fn claim(&self, seat: &mut RaceSeat) -> Option<u32>
         requires own { IsSeatOf self.now seat.old }
@@ -106,7 +106,7 @@ impl<J: Jobs> LeastRace<J> {
         ensures own { IsSeatOf self.now seat.new }
         ensures later { (x : ℕ) → 0 < times x seat.old.party.claims → x < seat.new.last }
         ensures some { IfSome result (λ n. (n ≡ seat.new.last) × (n < length self.now.jobs) × (seat.new.party ≡ with_claim seat.old.party n)) }
-        ensures none { IfNone result ((length self.now.jobs ≤ seat.new.last) × (seat.new.party ≡ with_pass seat.old.party)) }
+        ensures none { IfNone result ((length self.now.jobs ≤ seat.new.last) × (seat.new.party ≡ with_pass seat.old.party seat.new.last)) }
         ensures few { length seat.new.party.claims ≤ length self.now.jobs }
     {
         let n = self.table.shared.fetch_add::<Claim>(&mut seat.seat, 0, 1);

@@ -3,3 +3,4 @@ pub mod Values
 pub mod Laws
 pub mod Computed
 pub mod Written
+pub mod Ranges

@@ -130,7 +130,7 @@ signed_within k bytes ends few nine =
       | inr high ↦ rw (le-ltb _ _ high) (omega (arith, ints), omega (arith, ints), omega (arith, ints))
     ]
 
-or_true : (x y : Bool) → (x || y) ≡ true → (x ≡ true) ⊎ (y ≡ true)
+pub or_true : (x y : Bool) → (x || y) ≡ true → (x ≡ true) ⊎ (y ≡ true)
 or_true true y e = inl refl
 or_true false y e = inr e
 

@@ -1,7 +1,7 @@
 //! Laws of the definitions that the contracts cite. Their functions do nothing: the contract is the law.
 ghost use Rattle.std.specs.Prelude.{◌≡◌, ◌≤◌, ◌<◌, ◌<ℤ◌, ◌≤ℤ◌, ◌^◌, ◌++◌, ℕ, ℤ, pos, neg_ℤ, List, length, Ok};
 ghost use Rattle.leb_codec.specs.declared.form.Form.{Form};
-ghost use Rattle.leb_codec.specs.declared.form.Form.TheVariants.{U32, S32, S64};
+ghost use Rattle.leb_codec.specs.declared.form.Form.TheVariants.{U32, S32, S33, S64};
 ghost use Rattle.leb_codec.specs.Spelling.{magnitude, signed_value, Spells};
 ghost use Rattle.leb_codec.specs.Reading.{number_at};
 ghost use Rattle.leb_codec.specs.Shortest.{u32 as computed_u32, u32_padded, s32 as computed_s32, s32_padded, s64 as computed_s64};
@@ -56,4 +56,15 @@ pub fn read_again()
         → Spells magnitude form bytes n → number_at magnitude form (bytes ++ rest) ≡ Ok (n, length bytes) }
     ensures signed { (form : Form) (bytes rest : List ℕ) (n : ℤ)
         → Spells signed_value form bytes n → number_at signed_value form (bytes ++ rest) ≡ Ok (n, length bytes) }
+{}
+
+/// A number that is spelled lies in the range of its form, so one that is read does.
+pub fn spelled_in_range()
+    ensures of_u32 { (n : ℕ) (bytes : List ℕ) → Spells magnitude U32 bytes n → n < 2 ^ 32 }
+    ensures of_s32 { (n : ℤ) (bytes : List ℕ) → Spells signed_value S32 bytes n
+        → (neg_ℤ (pos (2 ^ 31)) ≤ℤ n) × (n <ℤ pos (2 ^ 31)) }
+    ensures of_s33 { (n : ℤ) (bytes : List ℕ) → Spells signed_value S33 bytes n
+        → (neg_ℤ (pos (2 ^ 32)) ≤ℤ n) × (n <ℤ pos (2 ^ 32)) }
+    ensures of_s64 { (n : ℤ) (bytes : List ℕ) → Spells signed_value S64 bytes n
+        → (neg_ℤ (pos (2 ^ 63)) ≤ℤ n) × (n <ℤ pos (2 ^ 63)) }
 {}

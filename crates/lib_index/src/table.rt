@@ -1,11 +1,12 @@
 //! The names of a library, each with the least member that is given for it.
-ghost use Rattle.std.specs.Prelude.{◌≡◌, ◌<◌, ◌==◌, length, OnOk, IfSome, option_map, position};
+ghost use Rattle.std.specs.Prelude.{◌≡◌, OnOk, option_map};
 ghost use Rattle.std.specs.Map.{lookup};
 ghost use Rattle.std.specs.Str.{bytes_eq};
 ghost use Rattle.lib_index.specs.Reading.{Answers, name_at, entries_at, offers};
 ghost use Rattle.lib_index.specs.Table.{shown, offered_onto, is_kept};
 
 use crate::fault::LibError;
+use byte_text::first_zero;
 use indexmap::IndexMap;
 use std::alloc::Global;
 use wl_base::{LibFault, OutOfMemory};
@@ -41,19 +42,11 @@ fn offer(alloc: Global, table: &mut Table, name: &[u8], number: u32) -> Result<(
     Ok(())
 }
 
-/// The place of the first 0.
-fn zero_at(bytes: &[u8]) -> Option<usize>
-    ensures value { result ≡ position (λ b. b == 0) bytes.now }
-    ensures within { IfSome result (λ at. at < length bytes.now) }
-{
-    bytes.iter().position(|b| *b == 0)
-}
-
 /// The bytes before the first 0, and those after it.
 fn name_at(bytes: &[u8]) -> Option<(&[u8], &[u8])>
     ensures { option_map (λ x. (x.0.now, x.1.now)) result ≡ name_at bytes.now }
 {
-    let at = zero_at(bytes)?;
+    let at = first_zero(bytes)?;
     Some((&bytes[..at], &bytes[at + 1..]))
 }
 

@@ -16,13 +16,13 @@ use Rattle.object_file.specs.wl_base.Choice.{first_some, has_name}
 use Rattle.object_file.specs.declared.object.Object.{Object}
 use Rattle.made_symbols.specs.declared.mode.Mode.{Mode}
 use Rattle.made_symbols.specs.Made.{made}
-use Rattle.lib_rounds.specs.declared.given.LibraryFile.{LibraryFile}
+use Rattle.round_rules.specs.declared.given.LibraryFile.{LibraryFile}
 use Rattle.lib_rounds.specs.declared.adds.Wanted.{Wanted}
-use Rattle.lib_rounds.specs.Rounds.{Candidate, Added, added_fault, added_fault_in, least_name, defined_names, is_defined, is_just}
+use Rattle.round_rules.specs.Rounds.{Candidate, Added, added_fault, added_fault_in, least_name, defined_names, is_defined, is_just}
 use Rattle.lib_rounds.specs.Lean.{Entry}
 use Rattle.lib_rounds.specs.Held.{Held, absent, loaded, loaded_objects, held_as, held_by, is_loaded_slot}
-use Rattle.lib_rounds.specs.declared.given.RoundError.{RoundError}
-use Rattle.lib_rounds.specs.declared.given.RoundError.TheVariants.{Refused, OutOfMemory}
+use Rattle.lib_rounds.specs.declared.error.RoundError.{RoundError}
+use Rattle.lib_rounds.specs.declared.error.RoundError.TheVariants.{Refused, OutOfMemory}
 use Rattle.lib_rounds.specs.State.{seen_entry, World, FailsBy, is_other, IsOffer, IsEntry, Hold, Defines, Enters, seen_entries, slot_at, by_slot, or_in, added_of, added_at, candidate_at, no_candidate}
 use Rattle.lib_rounds.proofs.Rising.{numbers_rise, stands}
 use Rattle.lib_rounds.proofs.Kept.{contains_head, contains_tail}

@@ -6,11 +6,11 @@ use Rattle.std.proofs.lemmas.List.Elements.{filter-append}
 use Rattle.object_file.specs.wl_base.declared.span.Span.{Span}
 use Rattle.object_file.specs.wl_base.declared.fault.Fault.{Fault}
 use Rattle.object_file.specs.wl_base.Choice.{first_some}
-use Rattle.lib_rounds.specs.declared.given.Given.{Given}
-use Rattle.lib_rounds.specs.declared.given.LibraryFile.{LibraryFile}
-use Rattle.lib_rounds.specs.Rounds.{Candidate, fault_in, object_fault, is_loaded, at_once, is_given, given_fault}
-use Rattle.lib_rounds.specs.RoundLaws.{inputs_in, Rise}
-use Rattle.lib_rounds.specs.Inputs.{AreGiven, members_from, members_of, AreCandidates}
+use Rattle.round_rules.specs.declared.given.GivenObject.{GivenObject}
+use Rattle.round_rules.specs.declared.given.LibraryFile.{LibraryFile}
+use Rattle.round_rules.specs.Rounds.{Candidate, fault_in, object_fault, is_loaded, at_once, is_always_read, always_read_fault}
+use Rattle.round_rules.specs.RoundLaws.{inputs_in, Rise}
+use Rattle.round_rules.specs.Inputs.{AreGiven, members_from, members_of, AreCandidates}
 use Rattle.lib_rounds.proofs.Kept.{contains_head, contains_tail, contains_none, contains_cases, kept}
 use Rattle.lib_rounds.proofs.Picked.{picked}
 use Rattle.lib_rounds.proofs.Offering.{member_candidate}
@@ -30,7 +30,7 @@ first_keep (Some fault) os qs e = refl
 
 -- members of whole libraries, of the candidates: the others that are read at once have no fault
 only_members : (cs : List Candidate) → ((c : Candidate) → Contains cs c → c.is_member ≡ false → object_fault c ≡ None)
-    → first_some (map object_fault (filter is_given cs)) ≡ first_some (map object_fault (filter (λ c. not c.by_need) (filter (λ c. c.is_member) cs)))
+    → first_some (map object_fault (filter is_always_read cs)) ≡ first_some (map object_fault (filter (λ c. not c.by_need) (filter (λ c. c.is_member) cs)))
 only_members [] h = refl
 only_members (c ∷ cs) h =
     let others = only_members cs (λ d m. h d (contains_tail c cs d m)) in
@@ -39,13 +39,13 @@ only_members (c ∷ cs) h =
         | inl need ↦ rw (member, need) others
         | inr whole ↦
             rw (member, whole)
-            (first_keep (object_fault c) (map object_fault (filter is_given cs))
+            (first_keep (object_fault c) (map object_fault (filter is_always_read cs))
             (map object_fault (filter (λ c. not c.by_need) (filter (λ c. c.is_member) cs))) others)
       ]
-      | inr object ↦ rw object (first_skip (object_fault c) (map object_fault (filter is_given cs)) (h c (contains_head c cs) object) ∙ others)
+      | inr object ↦ rw object (first_skip (object_fault c) (map object_fault (filter is_always_read cs)) (h c (contains_head c cs) object) ∙ others)
     ]
 
-no_fault : (cs : List Candidate) (gs : List Given) → AreGiven cs gs → (c : Candidate) → Contains cs c → object_fault c ≡ None
+no_fault : (cs : List Candidate) (gs : List GivenObject) → AreGiven cs gs → (c : Candidate) → Contains cs c → object_fault c ≡ None
 no_fault [] [] h c m = absurd (contains_none c m)
 no_fault [] (g ∷ gs) h c m = absurd h
 no_fault (d ∷ ds) [] h c m = absurd h
@@ -104,10 +104,10 @@ libraries_whole files (l ∷ ls) =
     ]
 
 -- The first fault of what is read at once is that of the members of the whole libraries.
-pub given_fault_is : (all : List Candidate) (given : List Given) (libraries : List LibraryFile) (files : List (List ℕ))
+pub always_read_fault_is : (all : List Candidate) (given : List GivenObject) (libraries : List LibraryFile) (files : List (List ℕ))
     → AreCandidates all given libraries files
-    → given_fault all ≡ first_some (map object_fault (flat_map (members_of files) (filter (λ l. l.whole) libraries)))
-given_fault_is all given libraries files are =
+    → always_read_fault all ≡ first_some (map object_fault (flat_map (members_of files) (filter (λ l. l.whole) libraries)))
+always_read_fault_is all given libraries files are =
     only_members all
     (λ c m object. no_fault (filter (λ c. not c.is_member) all) given are.objects c (kept (λ c. not c.is_member) all c m (rw object refl)))
     ∙ ap (λ (cs : List Candidate). first_some (map object_fault (filter (λ c. not c.by_need) cs))) are.members

@@ -14,13 +14,15 @@ use Rattle.std.proofs.lemmas.List.Sums.{sum_by-cons}
 use Rattle.object_file.specs.wl_base.declared.fault.Fault.{Fault}
 use Rattle.object_file.specs.wl_base.Choice.{first_some, has_name}
 use Rattle.made_symbols.specs.declared.mode.Mode.{Mode}
+use Rattle.made_symbols.specs.declared.roles.Role.TheVariants.{CallCtors}
 use Rattle.made_symbols.specs.Made.{MadeSymbol, made, made_at, made_function}
 use Rattle.object_file.specs.declared.object.Object.{Object}
-use Rattle.lib_rounds.specs.declared.given.Given.{Given}
-use Rattle.lib_rounds.specs.declared.given.LibraryFile.{LibraryFile}
-use Rattle.lib_rounds.specs.Rounds.{Candidate, is_defined, defined_names}
-use Rattle.lib_rounds.specs.RoundLaws.{Rise}
-use Rattle.lib_rounds.specs.Inputs.{IsGivenAs, lazy_offer, lazy_offer_in}
+use Rattle.round_rules.specs.declared.given.GivenObject.{GivenObject}
+use Rattle.round_rules.specs.declared.given.LibraryFile.{LibraryFile}
+use Rattle.round_rules.specs.Rounds.{Candidate, is_defined, defined_names}
+use Rattle.round_rules.specs.RoundLaws.{Rise}
+use Rattle.round_rules.specs.Inputs.{IsGivenAs}
+use Rattle.lib_rounds.specs.Offers.{lazy_offer, lazy_offer_in}
 use Rattle.lib_rounds.specs.Held.{Held, absent, waiting, loaded, holding, held_as, held_by, is_loaded_slot, loaded_objects}
 use Rattle.lib_rounds.specs.State.{World, Defines, Enters}
 use Rattle.lib_rounds.specs.Begin.{IsPut, KnowsGiven, PutsAll, starts, held_of}
@@ -44,7 +46,7 @@ made_more mode k n name before after lt is was now =
     now ∙ ap (λ (x : Option ℕ). cond (bytes_eq n name) (Some 0) x) was
     ∙ two_ways (list_any (λ m. bytes_eq n m.name) (take k (made mode))) (bytes_eq n name) 0
     ∙ ap (λ (x : List ℕ). cond (list_any (λ m. bytes_eq n m.name) (take k (made mode)) || bytes_eq n x) (Some 0) None) is
-    ∙ ap (λ (b : Bool). cond b (Some 0) None) (sym (list_any_more (λ (m : MadeSymbol). bytes_eq n m.name) (made mode) k (made_function []) lt))
+    ∙ ap (λ (b : Bool). cond b (Some 0) None) (sym (list_any_more (λ (m : MadeSymbol). bytes_eq n m.name) (made mode) k (made_function CallCtors []) lt))
 
 pub made_all : (mode : Mode) (k : ℕ) (n : List ℕ) (now : Option ℕ) → length (made mode) ≤ k → now ≡ cond (list_any (λ m. bytes_eq n m.name)
     (take k (made mode))) (Some 0) None
@@ -76,11 +78,11 @@ put_none w slots lazies definers are none d = record { slots_are = are ∙ absen
     absents (c ∷ cs) = ap (λ (hs : List Held). absent ∷ hs) (absents cs)
 
 -- its input isn't among later ones
-later_apart : (left : List Given) (g : Given) (done : List Given) → Rise (map (λ g. g.object.input) (left ++ g ∷ done)) → list_any
+later_apart : (left : List GivenObject) (g : GivenObject) (done : List GivenObject) → Rise (map (λ g. g.object.input) (left ++ g ∷ done)) → list_any
     (λ h. h.object.input == g.object.input) done ≡ false
-later_apart [] g done rise = apart_from done (λ h m. below (λ (h : Given). h.object.input) g done rise h m)
+later_apart [] g done rise = apart_from done (λ h m. below (λ (h : GivenObject). h.object.input) g done rise h m)
   where
-    apart_from : (hs : List Given) → ((h : Given) → Contains hs h → g.object.input < h.object.input) → list_any
+    apart_from : (hs : List GivenObject) → ((h : GivenObject) → Contains hs h → g.object.input < h.object.input) → list_any
         (λ h. h.object.input == g.object.input) hs ≡ false
     apart_from [] above = refl
     apart_from (h ∷ hs) above =
@@ -123,27 +125,27 @@ put_slot : (need m lazy : Bool) (r : Result Object Fault) (o : Object) → m ≡
 put_slot need m true r o e f g = rw (e, f, g) refl
 put_slot need m false r o e f g = rw (e, f, g) refl
 
-offer_lazy : (n : List ℕ) (g : Given) (rest : Option ℕ) (others : List (Option ℕ)) → g.lazy ≡ true → rest ≡ first_some others → cond (has_name
+offer_lazy : (n : List ℕ) (g : GivenObject) (rest : Option ℕ) (others : List (Option ℕ)) → g.lazy ≡ true → rest ≡ first_some others → cond (has_name
     (defined_names g.object) n) (Some g.object.input) rest ≡ first_some (lazy_offer_in n g ∷ others)
 offer_lazy n g rest others e is = elim (cases_Bool (has_name (defined_names g.object) n)) [ inl has ↦ rw (e, has) refl | inr none ↦ rw (e, none) is ]
 
-offer_plain : (n : List ℕ) (g : Given) (rest : Option ℕ) (others : List (Option ℕ)) → g.lazy ≡ false → rest ≡ first_some others
+offer_plain : (n : List ℕ) (g : GivenObject) (rest : Option ℕ) (others : List (Option ℕ)) → g.lazy ≡ false → rest ≡ first_some others
     → rest ≡ first_some (lazy_offer_in n g ∷ others)
 offer_plain n g rest others e is = rw e is
 
-module _ (w : World) (given : List Given) (knows : KnowsGiven w.all given) (left : List Given) (g : Given) (done : List Given)
+module _ (w : World) (given : List GivenObject) (knows : KnowsGiven w.all given) (left : List GivenObject) (g : GivenObject) (done : List GivenObject)
     (parts : left ++ g ∷ done ≡ given)
     (slots after : List Held) (lazies lazies_now definers definers_now : List (List ℕ × ℕ)) (before : PutsAll w done slots lazies definers)
     (put : IsPut g slots after lazies lazies_now definers definers_now) where
   its_candidate : (c : Candidate) × (slice_get w.all (g.object.input - 1) ≡ Some c) × IsGivenAs c g
   its_candidate =
-      let p = place_of given g (subst (λ (gs : List Given). Contains gs g) parts (Contains-append_right left (g ∷ done) g (contains_head g done))) in
+      let p = place_of given g (subst (λ (gs : List GivenObject). Contains gs g) parts (Contains-append_right left (g ∷ done) g (contains_head g done))) in
       knows.at p.0 g p.1
 
   fresh : list_any (λ h. h.object.input == its_candidate.0.input) done ≡ false
   fresh =
       ap (λ (k : ℕ). list_any (λ h. h.object.input == k) done) its_candidate.2.input
-      ∙ later_apart left g done (subst (λ (gs : List Given). Rise (map (λ g. g.object.input) gs)) (sym parts) knows.rise)
+      ∙ later_apart left g done (subst (λ (gs : List GivenObject). Rise (map (λ g. g.object.input) gs)) (sym parts) knows.rise)
 
   slot_was : slice_get slots (g.object.input - 1) ≡ Some absent
   slot_was =
@@ -185,11 +187,11 @@ module _ (w : World) (given : List Given) (knows : KnowsGiven w.all given) (left
   put_more = let r = by_kind g.lazy refl put.names in record { slots_are = slots_now; lazy = r.0; defines = r.1 }
 
 -- its slot is there
-pub put_within : (w : World) (given : List Given) → KnowsGiven w.all given → (left : List Given) (g : Given) (done : List Given)
+pub put_within : (w : World) (given : List GivenObject) → KnowsGiven w.all given → (left : List GivenObject) (g : GivenObject) (done : List GivenObject)
     → left ++ g ∷ done ≡ given → (slots : List Held) → slots ≡ map (held_of done) w.all
     → (0 < g.object.input) × (g.object.input ≤ length slots)
 put_within w given knows left g done parts slots are =
-    let p = place_of given g (subst (λ (gs : List Given). Contains gs g) parts (Contains-append_right left (g ∷ done) g (contains_head g done))) in
+    let p = place_of given g (subst (λ (gs : List GivenObject). Contains gs g) parts (Contains-append_right left (g ∷ done) g (contains_head g done))) in
     let c = knows.at p.0 g p.1 in
     let inside = slice_get_within w.all (g.object.input - 1) c.0 c.1 in
     let n = knows.numbered (g.object.input - 1) c.0 c.1 in

@@ -8,8 +8,8 @@ use Rattle.std.proofs.lemmas.List.Folds.{list_any-append}
 use Rattle.object_file.specs.wl_base.Choice.{first_some, unless, ◌>>=◌}
 use Rattle.object_file.specs.wl_base.declared.fault.Fault.{Fault}
 use Rattle.made_symbols.specs.declared.mode.Mode.{Mode}
-use Rattle.lib_rounds.specs.Rounds.{Candidate, Added, is_loaded, objects_of, wanted_names, added_with, adds_any, added_fault, inputs_of, go_on, next_adds, rounds, at_once, given_fault, loaded_inputs}
-use Rattle.lib_rounds.specs.RoundLaws.{inputs_in, Differ, next_round, round_after, round_fault, fault_within, Grows, IsFirstEqual, RoundsEnd, LoadedIsFirstEqual, NothingIsLeft, AddedRise, RoundsOnce, LoadedOnce}
+use Rattle.round_rules.specs.Rounds.{Candidate, Added, is_loaded, objects_of, wanted_names, added_with, adds_any, added_fault, inputs_of, go_on, next_adds, rounds, at_once, always_read_fault, loaded_inputs}
+use Rattle.round_rules.specs.RoundLaws.{inputs_in, Differ, next_round, round_after, round_fault, fault_within, Grows, IsFirstEqual, RoundsEnd, LoadedIsFirstEqual, NothingIsLeft, AddedRise, RoundsOnce, LoadedOnce}
 use Rattle.lib_rounds.proofs.Kept.{contains_head, all_from, contains_any, was_kept, kept, fewer_by, fewest, contains_map, was_mapped, pairs_joined, pairs_kept}
 
 not_true : (b : Bool) → not b ≡ true → b ≡ false
@@ -154,10 +154,10 @@ module _ (mode : Mode) (asked : List (List ℕ)) (all : List Candidate) where
   few : (k : ℕ) (loaded : List ℕ) → Ends k loaded → k ≤ length all
   few k loaded e = let f = fewest (λ c. not (is_loaded loaded c)) all in omega (arith, e.2, f)
 
-  loaded_of : (k : ℕ) → Ends k (at_once all) → loaded_inputs mode asked all ≡ unless (first_some (given_fault all ∷ fault_within mode asked all k (at_once all) ∷ [])) (round_after mode asked all k (at_once all))
+  loaded_of : (k : ℕ) → Ends k (at_once all) → loaded_inputs mode asked all ≡ unless (first_some (always_read_fault all ∷ fault_within mode asked all k (at_once all) ∷ [])) (round_after mode asked all k (at_once all))
   loaded_of k e =
       let f = few k (at_once all) e in
-      behind (given_fault all) (at_once all) (rounds mode asked all (length all + 1)) (fault_within mode asked all k (at_once all)) (round_after mode asked all k (at_once all))
+      behind (always_read_fault all) (at_once all) (rounds mode asked all (length all + 1)) (fault_within mode asked all k (at_once all)) (round_after mode asked all k (at_once all))
       (answer_of k (length all + 1) (at_once all) e (omega (arith, f)))
 
   -- ---- exactly what is added
@@ -226,7 +226,7 @@ loaded_is_first_equal mode asked all =
 last_is : (mode : Mode) (asked : List (List ℕ)) (all : List Candidate) (loaded : List ℕ) → loaded_inputs mode asked all ≡ Ok loaded → round_after mode asked all (end_of mode asked all (at_once all)).0 (at_once all) ≡ loaded
 last_is mode asked all loaded e =
     let r = end_of mode asked all (at_once all) in
-    is_answer (first_some (given_fault all ∷ fault_within mode asked all r.0 (at_once all) ∷ [])) (round_after mode asked all r.0 (at_once all)) loaded (sym (loaded_of mode asked all r.0 r.1) ∙ e)
+    is_answer (first_some (always_read_fault all ∷ fault_within mode asked all r.0 (at_once all) ∷ [])) (round_after mode asked all r.0 (at_once all)) loaded (sym (loaded_of mode asked all r.0 r.1) ∙ e)
 
 pub nothing_is_left : NothingIsLeft
 nothing_is_left mode asked all loaded e =

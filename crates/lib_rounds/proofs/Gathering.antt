@@ -16,11 +16,11 @@ use Rattle.object_file.specs.wl_base.declared.fault.Fault.{Fault}
 use Rattle.object_file.specs.linking_section.declared.symbol.Symbol.{Symbol}
 use Rattle.object_file.specs.linking_section.Flags.{is_strong_reference}
 use Rattle.object_file.specs.declared.object.Object.{Object}
-use Rattle.lib_rounds.specs.declared.given.LibraryFile.{LibraryFile}
+use Rattle.round_rules.specs.declared.given.LibraryFile.{LibraryFile}
 use Rattle.lib_rounds.specs.declared.offer.Offer.{Offer}
 use Rattle.lib_rounds.specs.declared.adds.Wanted.{Wanted}
-use Rattle.lib_rounds.specs.Rounds.{Candidate, is_loaded, offering}
-use Rattle.lib_rounds.specs.RoundLaws.{inputs_in, Rise}
+use Rattle.round_rules.specs.Rounds.{Candidate, is_loaded, offering}
+use Rattle.round_rules.specs.RoundLaws.{inputs_in, Rise}
 use Rattle.lib_rounds.specs.Lean.{Entry, HoldNames}
 use Rattle.lib_rounds.specs.Held.{Held, absent, held_as, held_by, is_loaded_slot, name_if}
 use Rattle.lib_rounds.specs.State.{Hold, by_slot, World, Knows, Defines, IsOffer, IsEntry, Shows, Looked, Looks, is_undefined, pushed, seen_entry, seen_entries, slot_at}

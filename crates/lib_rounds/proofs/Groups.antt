@@ -10,8 +10,8 @@ use Rattle.std.proofs.lemmas.Bool.{and_parts, and_from, ne_eqb}
 use Rattle.std.proofs.lemmas.List.Elements.{All-contains}
 use Rattle.std.proofs.lemmas.Map.Keys.{below_from_sorted, IsDistinct-from_sorted}
 use Rattle.std.proofs.lemmas.Map.Entries.{place_from_lookup, lookup_from_place}
-use Rattle.lib_rounds.specs.Rounds.{Candidate, Added, is_loaded, names_for, added_with, adds_any, round_adds}
-use Rattle.lib_rounds.specs.RoundLaws.{inputs_in, Rise}
+use Rattle.round_rules.specs.Rounds.{Candidate, Added, is_loaded, names_for, added_with, adds_any, round_adds}
+use Rattle.round_rules.specs.RoundLaws.{inputs_in, Rise}
 use Rattle.lib_rounds.specs.Lean.{Entry, AreAdds, IsFresh, HoldNames}
 use Rattle.lib_rounds.proofs.Kept.{contains_map, was_mapped, was_kept, kept, pairs_kept}
 use Rattle.lib_rounds.proofs.Picked.{is_picked, adds_are}

@@ -7,8 +7,8 @@ use Rattle.object_file.specs.wl_base.Choice.{first_some, unless, ◌>>=◌}
 use Rattle.object_file.specs.wl_base.declared.fault.Fault.{Fault}
 use Rattle.object_file.specs.declared.object.Object.{Object}
 use Rattle.made_symbols.specs.declared.mode.Mode.{Mode}
-use Rattle.lib_rounds.specs.Rounds.{Candidate, Added, object_in, is_loaded, objects_of, strong_names, is_defined, wanted_names, offering, is_just, names_for, added_with, adds_any, added_fault, inputs_of, go_on, next_adds, rounds, at_once, given_fault, loaded_inputs}
-use Rattle.lib_rounds.specs.RoundLaws.{inputs_in, Rise, next_round}
+use Rattle.round_rules.specs.Rounds.{Candidate, Added, object_in, is_loaded, objects_of, strong_names, is_defined, wanted_names, offering, is_just, names_for, added_with, adds_any, added_fault, inputs_of, go_on, next_adds, rounds, at_once, always_read_fault, loaded_inputs}
+use Rattle.round_rules.specs.RoundLaws.{inputs_in, Rise, next_round}
 use Rattle.lib_rounds.specs.Lean.{names_of, first_names, lean_on, lean_adds, lean}
 use Rattle.lib_rounds.proofs.Kept.{contains_head, contains_tail, contains_none, contains_cases, contains_any, kept}
 use Rattle.lib_rounds.proofs.Offers.{next_is, is_that}
@@ -230,5 +230,5 @@ module _ (mode : Mode) (asked : List (List ℕ)) (all : List Candidate) (rise : 
 -- The loaded inputs, or the first fault, are those of the rounds that look only at new names.
 pub lean_is : (mode : Mode) (asked : List (List ℕ)) (all : List Candidate) → Rise (inputs_in all)
     → loaded_inputs mode asked all ≡
-    (unless (given_fault all) (at_once all) >>= λ l. lean mode all (length all + 1) l (first_names asked (objects_of all l)))
-lean_is mode asked all rise = from_start mode asked all rise (given_fault all) (length all + 1) (at_once all)
+    (unless (always_read_fault all) (at_once all) >>= λ l. lean mode all (length all + 1) l (first_names asked (objects_of all l)))
+lean_is mode asked all rise = from_start mode asked all rise (always_read_fault all) (length all + 1) (at_once all)

@@ -8,8 +8,8 @@ use Rattle.std.specs.List.Sorted.{IsStrictlySortedBy}
 use Rattle.std.proofs.lemmas.Bool.{cases_Bool, eq-eqb, ne_eqb}
 use Rattle.std.proofs.lemmas.List.{append-nil, length-append}
 use Rattle.std.proofs.lemmas.List.Elements.{All-nil, All-contains, filter-append}
-use Rattle.lib_rounds.specs.Rounds.{Candidate, is_loaded, offering, is_just, names_for}
-use Rattle.lib_rounds.specs.RoundLaws.{inputs_in, Rise}
+use Rattle.round_rules.specs.Rounds.{Candidate, is_loaded, offering, is_just, names_for}
+use Rattle.round_rules.specs.RoundLaws.{inputs_in, Rise}
 use Rattle.lib_rounds.specs.Lean.{Entry, IsFresh, HoldNames}
 use Rattle.lib_rounds.proofs.Kept.{all_from}
 use Rattle.lib_rounds.proofs.Picked.{same_input}

@@ -15,7 +15,7 @@ use Rattle.object_file.specs.wl_base.Choice.{has_name}
 use Rattle.object_file.specs.linking_section.declared.symbol.Symbol.{Symbol}
 use Rattle.std.specs.Ordering.{nat_cmp, is_lt}
 use Rattle.std.specs.Cmp.Lexicographic.{slice_cmp}
-use Rattle.lib_rounds.specs.Rounds.{comes_before, lesser_name, least_name}
+use Rattle.round_rules.specs.Rounds.{comes_before, lesser_name, least_name}
 use Rattle.lib_rounds.specs.Held.{name_if}
 
 abbrev pub plain : Vec ℕ × ℕ → List ℕ × ℕ

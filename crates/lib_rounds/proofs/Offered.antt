@@ -5,9 +5,9 @@ use Rattle.std.specs.Map.{lookup}
 use Rattle.std.specs.Str.{bytes_eq}
 use Rattle.std.proofs.lemmas.Option.{slice_get-get_or, slice_get_within}
 use Rattle.object_file.specs.declared.object.Object.{Object}
-use Rattle.lib_rounds.specs.declared.given.LibraryFile.{LibraryFile}
+use Rattle.round_rules.specs.declared.given.LibraryFile.{LibraryFile}
 use Rattle.lib_rounds.specs.declared.offer.Offer.{Offer}
-use Rattle.lib_rounds.specs.Rounds.{Candidate}
+use Rattle.round_rules.specs.Rounds.{Candidate}
 use Rattle.lib_rounds.specs.State.{Knows, IsOffer, IsMember}
 use Rattle.lib_rounds.proofs.Names.{there}
 

@@ -13,11 +13,12 @@ use Rattle.object_file.specs.wl_base.Choice.{first_some, has_name}
 use Rattle.lib_index.specs.Library.{IsLibrary, leasts, bytes_of}
 use Rattle.lib_index.proofs.LibraryLaws.{library_offers}
 use Rattle.object_file.specs.ObjectOf.{object_of}
-use Rattle.lib_rounds.specs.declared.given.Given.{Given}
-use Rattle.lib_rounds.specs.declared.given.LibraryFile.{LibraryFile}
-use Rattle.lib_rounds.specs.Rounds.{Candidate, defined_names, offering, is_just}
-use Rattle.lib_rounds.specs.RoundLaws.{inputs_in, Rise}
-use Rattle.lib_rounds.specs.Inputs.{IsGivenAs, AreGiven, names_of_member, members_from, members_of, AreCandidates, IsRead, offer_in, library_offer, lazy_offer_in, lazy_offer, lesser}
+use Rattle.round_rules.specs.declared.given.GivenObject.{GivenObject}
+use Rattle.round_rules.specs.declared.given.LibraryFile.{LibraryFile}
+use Rattle.round_rules.specs.Rounds.{Candidate, defined_names, offering, is_just}
+use Rattle.round_rules.specs.RoundLaws.{inputs_in, Rise}
+use Rattle.round_rules.specs.Inputs.{IsGivenAs, AreGiven, names_of_member, members_from, members_of, AreCandidates, IsRead}
+use Rattle.lib_rounds.specs.Offers.{offer_in, library_offer, lazy_offer_in, lazy_offer, lesser}
 use Rattle.lib_rounds.proofs.Kept.{contains_head, contains_tail, contains_none, contains_cases, was_kept, pairs_later}
 use Rattle.lib_rounds.proofs.Rising.{below, numbers_rise, stands, at_place}
 
@@ -65,7 +66,7 @@ first_of_two p kind (c ∷ cs) rise =
 
 -- ---- lazy objects
 
-lazy_is : (name : List ℕ) (input : ℕ) (offers : List (List ℕ)) (g : Given) (rest : Option ℕ) (others : List (Option ℕ)) → input ≡ g.object.input
+lazy_is : (name : List ℕ) (input : ℕ) (offers : List (List ℕ)) (g : GivenObject) (rest : Option ℕ) (others : List (Option ℕ)) → input ≡ g.object.input
     → offers ≡ (if g.lazy then defined_names g.object else []) → rest ≡ first_some others
     → (if has_name offers name then Some input else rest) ≡ first_some (lazy_offer_in name g ∷ others)
 lazy_is name input offers g rest others i o e = elim (cases_Bool g.lazy) [
@@ -73,7 +74,7 @@ lazy_is name input offers g rest others i o e = elim (cases_Bool g.lazy) [
   | inr not_so ↦ rw (o, not_so) e
 ]
 
-given_first : (name : List ℕ) (cs : List Candidate) (gs : List Given) → AreGiven cs gs
+given_first : (name : List ℕ) (cs : List Candidate) (gs : List GivenObject) → AreGiven cs gs
     → first_input (λ c. has_name c.offers name) cs ≡ lazy_offer gs name
 given_first name [] [] h = refl
 given_first name [] (g ∷ gs) h = absurd h
@@ -249,7 +250,7 @@ in_libraries files (x ∷ xs) l c h m = elim (contains_cases x xs l h) [
   | inr later ↦ Contains-append_right (members_of files x) (flat_map (members_of files) xs) c (in_libraries files xs l c later m)
 ]
 
-in_given : (cs : List Candidate) (gs : List Given) → AreGiven cs gs → (j : ℕ) (g : Given) → slice_get gs j ≡ Some g
+in_given : (cs : List Candidate) (gs : List GivenObject) → AreGiven cs gs → (j : ℕ) (g : GivenObject) → slice_get gs j ≡ Some g
     → (c : Candidate) × Contains cs c × IsGivenAs c g
 in_given [] [] h j g e = absurd cc
 in_given [] (x ∷ gs) h j g e = absurd h
@@ -259,7 +260,7 @@ in_given (c ∷ cs) (x ∷ gs) h (suc j) g e = let r = in_given cs gs h.1 j g e 
 
 -- ---- the whole
 
-module _ (all : List Candidate) (given : List Given) (libraries : List LibraryFile) (files : List (List ℕ))
+module _ (all : List Candidate) (given : List GivenObject) (libraries : List LibraryFile) (files : List (List ℕ))
     (are : AreCandidates all given libraries files) where
   -- The candidate of least input that offers a name: a lazy object, or what a library offers first.
   pub offering_is : All (IsRead files) libraries → (name : List ℕ) → offering all name ≡ lesser (lazy_offer given name) (library_offer libraries name)
@@ -290,7 +291,7 @@ module _ (all : List Candidate) (given : List Given) (libraries : List LibraryFi
       )
 
   -- So is an object of the words.
-  pub given_at : (j : ℕ) (g : Given) → slice_get given j ≡ Some g → (c : Candidate) × (slice_get all (g.object.input - 1) ≡ Some c) × IsGivenAs c g
+  pub given_at : (j : ℕ) (g : GivenObject) → slice_get given j ≡ Some g → (c : Candidate) × (slice_get all (g.object.input - 1) ≡ Some c) × IsGivenAs c g
   given_at j g e =
       let r = in_given (filter (λ c. not c.is_member) all) given are.objects j g e in
       let here = (was_kept (λ c. not c.is_member) all r.0 r.1).0 in

@@ -5,8 +5,8 @@ use Rattle.std.proofs.lemmas.Bool.{cases_Bool, eqb-true, eq-eqb, ne_eqb}
 use Rattle.std.proofs.lemmas.List.Elements.{All-contains, Contains-append_left, Contains-append_right, Contains-append_cases}
 use Rattle.object_file.specs.wl_base.Choice.{has_name}
 use Rattle.made_symbols.specs.declared.mode.Mode.{Mode}
-use Rattle.lib_rounds.specs.Rounds.{Candidate, is_loaded, offering, is_just, names_for, inputs_of, next_adds}
-use Rattle.lib_rounds.specs.RoundLaws.{inputs_in, next_round, NextIs, LeastOffers}
+use Rattle.round_rules.specs.Rounds.{Candidate, is_loaded, offering, is_just, names_for, inputs_of, next_adds}
+use Rattle.round_rules.specs.RoundLaws.{inputs_in, next_round, NextIs, LeastOffers}
 use Rattle.lib_rounds.proofs.Kept.{contains_head, contains_tail, contains_none, contains_cases, any_contains, was_kept, kept, contains_map, pairs_first, pairs_later}
 use Rattle.lib_rounds.proofs.Ends.{wants, new_from, new_again}
 

@@ -10,8 +10,8 @@ use Rattle.object_file.specs.wl_base.declared.fault.Fault.{Fault}
 use Rattle.object_file.specs.declared.object.Object.{Object}
 use Rattle.made_symbols.specs.declared.mode.Mode.{Mode}
 use Rattle.made_symbols.specs.Made.{made}
-use Rattle.lib_rounds.specs.Rounds.{Candidate, Added, object_in, is_loaded, objects_of, defined_names, is_defined, added_with, adds_any, round_adds, inputs_of}
-use Rattle.lib_rounds.specs.RoundLaws.{inputs_in, Rise}
+use Rattle.round_rules.specs.Rounds.{Candidate, Added, object_in, is_loaded, objects_of, defined_names, is_defined, added_with, adds_any, round_adds, inputs_of}
+use Rattle.round_rules.specs.RoundLaws.{inputs_in, Rise}
 use Rattle.lib_rounds.specs.Lean.{new_objects}
 use Rattle.lib_rounds.proofs.Kept.{contains_head, contains_tail, contains_none, contains_cases, any_contains, contains_any, was_kept, kept, contains_map, was_mapped, pairs_first, pairs_later}
 

@@ -4,8 +4,8 @@ use Rattle.std.specs.Prelude.{Contains, map, slice_get}
 use Rattle.std.proofs.lemmas.List.Elements.{All-contains}
 use Rattle.std.proofs.lemmas.List.Kept.{AllPairs-cons}
 use Rattle.std.proofs.lemmas.Option.{slice_get-get_or, slice_get_within, get_or_from_slice_get}
-use Rattle.lib_rounds.specs.Rounds.{Candidate}
-use Rattle.lib_rounds.specs.RoundLaws.{inputs_in, Rise}
+use Rattle.round_rules.specs.Rounds.{Candidate}
+use Rattle.round_rules.specs.RoundLaws.{inputs_in, Rise}
 use Rattle.lib_rounds.proofs.Kept.{contains_head, contains_tail, contains_none, contains_cases, all_from, contains_map, was_mapped, pairs_none, pairs_first, pairs_later}
 
 -- ---- two rising lists of the same elements

@@ -12,12 +12,12 @@ use Rattle.object_file.specs.wl_base.Choice.{first_some, unless, ◌>>=◌}
 use Rattle.object_file.specs.wl_base.declared.fault.Fault.{Fault}
 use Rattle.made_symbols.specs.declared.mode.Mode.{Mode}
 use Rattle.object_file.specs.declared.object.Object.{Object}
-use Rattle.lib_rounds.specs.declared.given.LibraryFile.{LibraryFile}
-use Rattle.lib_rounds.specs.declared.given.RoundError.{RoundError}
-use Rattle.lib_rounds.specs.declared.given.RoundError.TheVariants.{Refused, OutOfMemory}
+use Rattle.round_rules.specs.declared.given.LibraryFile.{LibraryFile}
+use Rattle.lib_rounds.specs.declared.error.RoundError.{RoundError}
+use Rattle.lib_rounds.specs.declared.error.RoundError.TheVariants.{Refused, OutOfMemory}
 use Rattle.lib_rounds.specs.declared.adds.Wanted.{Wanted}
-use Rattle.lib_rounds.specs.Rounds.{Candidate, Added, is_loaded, objects_of, is_defined, round_adds, added_fault, inputs_of, at_once, given_fault, load, rounds}
-use Rattle.lib_rounds.specs.RoundLaws.{inputs_in, Rise}
+use Rattle.round_rules.specs.Rounds.{Candidate, Added, is_loaded, objects_of, is_defined, round_adds, added_fault, inputs_of, at_once, always_read_fault, load, rounds}
+use Rattle.round_rules.specs.RoundLaws.{inputs_in, Rise}
 use Rattle.lib_rounds.specs.Lean.{Entry, AreAdds, names_of, first_names, lean_adds, lean, lean_on}
 use Rattle.lib_rounds.specs.Held.{Held, absent, held_as, held_by, is_loaded_slot, loaded_objects}
 use Rattle.lib_rounds.specs.State.{World, Hold, Defines, Shows, IsEntry, Looked, AddedAll, RoundDone, Fails, FailsBy, by_slot, or_in, slot_at, is_undefined, seen_entries, seen_entry, names_at, added_of, added_at}
@@ -298,13 +298,13 @@ first_is w numbered libraries files slots inputs asked adds shows h =
 abbrev with_objects : List Candidate → Result (List ℕ) Fault → Result (List Object) Fault
 with_objects all r = r >>= λ loaded. Ok (objects_of all loaded)
 
-pub load_lean : (mode : Mode) (asked : List (List ℕ)) (all : List Candidate) → Rise (inputs_in all) → given_fault all ≡ None
+pub load_lean : (mode : Mode) (asked : List (List ℕ)) (all : List Candidate) → Rise (inputs_in all) → always_read_fault all ≡ None
     → load mode asked all ≡ with_objects all (lean mode all (length all + 1) (at_once all) (first_names asked (objects_of all (at_once all))))
 unfolding load
 load_lean mode asked all up none = ap (with_objects all) (lean_is mode asked all up
     ∙ ap (λ (f : Option Fault). unless f (at_once all) >>= λ l. lean mode all (length all + 1) l (first_names asked (objects_of all l))) none)
 
-pub load_refused : (mode : Mode) (asked : List (List ℕ)) (all : List Candidate) (e : RoundError) → FailsBy e (given_fault all) → Fails e
+pub load_refused : (mode : Mode) (asked : List (List ℕ)) (all : List Candidate) (e : RoundError) → FailsBy e (always_read_fault all) → Fails e
     (load mode asked all)
 unfolding load
 load_refused mode asked all OutOfMemory f = tt

@@ -7,8 +7,8 @@ use Rattle.std.proofs.lemmas.List.Folds.{list_any-append}
 use Rattle.std.proofs.lemmas.Option.{slice_get-map}
 use Rattle.object_file.specs.wl_base.declared.fault.Fault.{Fault}
 use Rattle.object_file.specs.declared.object.Object.{Object}
-use Rattle.lib_rounds.specs.Rounds.{Candidate, object_in, is_loaded, objects_of, at_once}
-use Rattle.lib_rounds.specs.RoundLaws.{inputs_in, Rise}
+use Rattle.round_rules.specs.Rounds.{Candidate, object_in, is_loaded, objects_of, at_once}
+use Rattle.round_rules.specs.RoundLaws.{inputs_in, Rise}
 use Rattle.lib_rounds.specs.Held.{Held, absent, waiting, loaded, loaded_in, loaded_objects, held_as, held_by, is_loaded_slot}
 use Rattle.lib_rounds.proofs.Kept.{contains_head, contains_tail, pairs_later}
 use Rattle.lib_rounds.proofs.Picked.{picked}

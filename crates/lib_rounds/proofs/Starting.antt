@@ -21,11 +21,12 @@ use Rattle.object_file.specs.declared.object.Object.{Object}
 use Rattle.object_file.specs.ObjectOf.{object_of}
 use Rattle.lib_index.specs.Library.{bytes_of}
 use Rattle.lib_index.proofs.LibraryLaws.{library_within}
-use Rattle.lib_rounds.specs.declared.given.Given.{Given}
-use Rattle.lib_rounds.specs.declared.given.LibraryFile.{LibraryFile}
-use Rattle.lib_rounds.specs.Rounds.{Candidate, fault_in, object_fault, is_loaded, is_defined, defined_names, at_once, is_given, given_fault}
-use Rattle.lib_rounds.specs.RoundLaws.{inputs_in, Rise}
-use Rattle.lib_rounds.specs.Inputs.{AreGiven, AreCandidates, IsRead, members_from, members_of, library_offer, lazy_offer, lazy_offer_in, lesser}
+use Rattle.round_rules.specs.declared.given.GivenObject.{GivenObject}
+use Rattle.round_rules.specs.declared.given.LibraryFile.{LibraryFile}
+use Rattle.round_rules.specs.Rounds.{Candidate, fault_in, object_fault, is_loaded, is_defined, defined_names, at_once, is_always_read, always_read_fault}
+use Rattle.round_rules.specs.RoundLaws.{inputs_in, Rise}
+use Rattle.round_rules.specs.Inputs.{AreGiven, AreCandidates, IsRead, members_from, members_of}
+use Rattle.lib_rounds.specs.Offers.{library_offer, lazy_offer, lazy_offer_in, lesser}
 use Rattle.lib_rounds.specs.Held.{Held, absent, held_as, held_by, loaded_objects}
 use Rattle.lib_rounds.specs.State.{World, Knows, Shows, Defines, IsOffer, or_in}
 use Rattle.lib_rounds.specs.Begin.{KnowsGiven, KnowsMembers, starts, held_of, input_count}
@@ -39,7 +40,7 @@ use Rattle.lib_rounds.proofs.Whole.{whole_members, members_long, held_alike}
 
 -- ---- how many candidates there are
 
-as_many_given : (cs : List Candidate) (gs : List Given) → AreGiven cs gs → length cs ≡ length gs
+as_many_given : (cs : List Candidate) (gs : List GivenObject) → AreGiven cs gs → length cs ≡ length gs
 as_many_given [] [] h = refl
 as_many_given [] (g ∷ gs) h = absurd h
 as_many_given (c ∷ cs) [] h = absurd h
@@ -52,7 +53,7 @@ as_many_members files (l ∷ ls) =
     ∙ ap (λ (n : ℕ). n + length (flat_map (members_of files) ls)) (members_long l (slice_index_or files l.file []) l.first 0 l.library.members)
     ∙ ap (λ (n : ℕ). member_count l + n) (as_many_members files ls) ∙ sym (sum_by-cons member_count l ls)
 
-module _ (all : List Candidate) (given : List Given) (libraries : List LibraryFile) (files : List (List ℕ))
+module _ (all : List Candidate) (given : List GivenObject) (libraries : List LibraryFile) (files : List (List ℕ))
     (are : AreCandidates all given libraries files) where
   pub count_is : input_count (length given) libraries ≡ length all
   count_is =
@@ -68,7 +69,7 @@ module _ (all : List Candidate) (given : List Given) (libraries : List LibraryFi
   rising : Rise (inputs_in all)
   rising = numbers_rise all are.numbered
 
-  given_inputs : (cs : List Candidate) (gs : List Given) → AreGiven cs gs → inputs_in cs ≡ map (λ g. g.object.input) gs
+  given_inputs : (cs : List Candidate) (gs : List GivenObject) → AreGiven cs gs → inputs_in cs ≡ map (λ g. g.object.input) gs
   given_inputs [] [] h = refl
   given_inputs [] (g ∷ gs) h = absurd h
   given_inputs (c ∷ cs) [] h = absurd h
@@ -99,7 +100,7 @@ members_at l bytes input member (x ∷ ss) (suc k) s e =
     members_at l bytes (input + 1) (member + 1) ss k s e ∙ ap (λ (n : ℕ). Some (member_candidate l bytes n ((member + 1) + k) s)) p ∙ ap (λ
     (n : ℕ). Some (member_candidate l bytes (input + suc k) n s)) q
 
-pub knows_members : (all : List Candidate) (given : List Given) (libraries : List LibraryFile) (files : List (List ℕ))
+pub knows_members : (all : List Candidate) (given : List GivenObject) (libraries : List LibraryFile) (files : List (List ℕ))
     → AreCandidates all given libraries files → All (IsRead files) libraries → KnowsMembers all libraries files
 knows_members all given libraries files are read = record { numbered = are.numbered; few = are.few; member = one }
   where
@@ -171,7 +172,7 @@ start_defines mode k definers is = record {
 
 -- ---- after all is put
 
-pub put_all : (w : World) (given : List Given) (libraries : List LibraryFile) (files : List (List ℕ)) → AreCandidates w.all given libraries files
+pub put_all : (w : World) (given : List GivenObject) (libraries : List LibraryFile) (files : List (List ℕ)) → AreCandidates w.all given libraries files
     → map (held_of given) w.all ≡ map (held_by starts) w.all
 put_all w given libraries files are = alike w.all (λ c m. by_kind c m c.is_member refl)
   where
@@ -190,7 +191,7 @@ put_all w given libraries files are = alike w.all (λ c m. by_kind c m c.is_memb
     either true h e = refl
     either false h e = sym e
 
-    its_given : (c : Candidate) (cs : List Candidate) (gs : List Given) → AreGiven cs gs → Contains cs c → list_any
+    its_given : (c : Candidate) (cs : List Candidate) (gs : List GivenObject) → AreGiven cs gs → Contains cs c → list_any
         (λ g. g.object.input == c.input) gs ≡ true
     its_given c [] gs h m = absurd (contains_none c m)
     its_given c (d ∷ ds) [] h m = absurd h
@@ -211,7 +212,7 @@ put_all w given libraries files are = alike w.all (λ c m. by_kind c m c.is_memb
 
 -- ---- what is known
 
-lazy_case : (g : Given) (gs : List Given) (n : List ℕ) (input : ℕ) → lazy_offer (g ∷ gs) n ≡ Some input → (g.object.input ≡ input) ⊎
+lazy_case : (g : GivenObject) (gs : List GivenObject) (n : List ℕ) (input : ℕ) → lazy_offer (g ∷ gs) n ≡ Some input → (g.object.input ≡ input) ⊎
     (lazy_offer gs n ≡ Some input)
 lazy_case g gs n input e = by_offer (lazy_offer_in n g) refl e
   where
@@ -225,14 +226,14 @@ lazy_case g gs n input e = by_offer (lazy_offer_in n g) refl e
     by_offer None is e = inr e
     by_offer (Some k) is e = let same : k ≡ input = cc in inl (only g.lazy (has_name (defined_names g.object) n) k is ∙ same)
 
-lazy_from : (gs : List Given) (n : List ℕ) (input : ℕ) → lazy_offer gs n ≡ Some input → (g : Given) × Contains gs g × (g.object.input ≡ input)
+lazy_from : (gs : List GivenObject) (n : List ℕ) (input : ℕ) → lazy_offer gs n ≡ Some input → (g : GivenObject) × Contains gs g × (g.object.input ≡ input)
 lazy_from [] n input e = absurd cc
 lazy_from (g ∷ gs) n input e = elim (lazy_case g gs n input e) [
   | inl here ↦ (g, contains_head g gs, here)
   | inr later ↦ let r = lazy_from gs n input later in (r.0, contains_tail g gs r.0 r.1, r.2)
 ]
 
-pub knows_all : (all : List Candidate) (given : List Given) (libraries : List LibraryFile) (files : List (List ℕ)) (lazies : List (List ℕ × ℕ))
+pub knows_all : (all : List Candidate) (given : List GivenObject) (libraries : List LibraryFile) (files : List (List ℕ)) (lazies : List (List ℕ × ℕ))
     → AreCandidates all given libraries files → All (IsRead files) libraries
     → ((n : List ℕ) → lookup (bytes_eq n) lazies ≡ lazy_offer given n) → Knows all libraries files lazies
 knows_all all given libraries files lazies are read lazy = record {
@@ -284,17 +285,17 @@ read_of : (r : Result Object Fault) → fault_in r ≡ None → (o : Object) × 
 read_of (Ok o) e = (o, refl)
 read_of (Err fault) e = absurd cc
 
-pub shows_at_once : (w : World) (given : List Given) (libraries : List LibraryFile) (files : List (List ℕ))
+pub shows_at_once : (w : World) (given : List GivenObject) (libraries : List LibraryFile) (files : List (List ℕ))
     → AreCandidates w.all given libraries files → (old slots : List Held) → old ≡ map (held_of given) w.all
     → ((p : Candidate → Bool) → old ≡ map (held_by p) w.all → slots ≡ map (held_by (or_in p (inputs_in (whole_members files libraries)))) w.all)
-    → given_fault w.all ≡ None → Shows w.all slots (at_once w.all)
+    → always_read_fault w.all ≡ None → Shows w.all slots (at_once w.all)
 shows_at_once w given libraries files are old slots puts loads no_fault = record {
   slots_are = loads starts (puts ∙ put_all w given libraries files are)
       ∙ held_alike (or_in starts (inputs_in (whole_members files libraries))) (is_loaded (at_once w.all)) w.all loaded_so;
   read = λ c m is.
       let need : not c.by_need ≡ true = sym (loaded_at_once w.all (numbers_rise w.all are.numbered) c m) ∙ is in
-      let one : is_given c ≡ true = elim (cases_Bool c.is_member) [ inl e ↦ rw e need | inr e ↦ rw e refl ] in
-      read_of c.object (none_of object_fault (filter is_given w.all) no_fault c (kept is_given w.all c m one));
+      let one : is_always_read c ≡ true = elim (cases_Bool c.is_member) [ inl e ↦ rw e need | inr e ↦ rw e refl ] in
+      read_of c.object (none_of object_fault (filter is_always_read w.all) no_fault c (kept is_always_read w.all c m one));
 }
   where
     members_are : whole_members files libraries ≡ filter (λ c. c.is_member && not c.by_need) w.all

@@ -7,8 +7,8 @@ use Rattle.std.proofs.lemmas.Option.{slice_get-map, get_or_from_slice_get}
 use Rattle.object_file.specs.wl_base.Choice.{first_some}
 use Rattle.object_file.specs.wl_base.declared.fault.Fault.{Fault}
 use Rattle.object_file.specs.declared.object.Object.{Object}
-use Rattle.lib_rounds.specs.Rounds.{Candidate, Added, fault_in, object_in, object_fault, is_loaded, strong_names, added_with, round_adds, added_fault, added_fault_in, inputs_of, at_once, is_given, given_fault}
-use Rattle.lib_rounds.specs.RoundLaws.{inputs_in, Rise}
+use Rattle.round_rules.specs.Rounds.{Candidate, Added, fault_in, object_in, object_fault, is_loaded, strong_names, added_with, round_adds, added_fault, added_fault_in, inputs_of, at_once, is_always_read, always_read_fault}
+use Rattle.round_rules.specs.RoundLaws.{inputs_in, Rise}
 use Rattle.lib_rounds.specs.Lean.{new_objects, names_of}
 use Rattle.lib_rounds.specs.Held.{absent, object_held, held_as, held_by}
 use Rattle.lib_rounds.specs.State.{slot_at, names_at}
@@ -70,11 +70,11 @@ read_added : (a : Added) (r : Result Object Fault) → added_fault_in a r ≡ No
 read_added a (Ok o) e = (o, refl)
 read_added a (Err fault) e = absurd cc
 
-pub read_at_once : (all : List Candidate) → Rise (inputs_in all) → given_fault all ≡ None → AreRead all (at_once all)
+pub read_at_once : (all : List Candidate) → Rise (inputs_in all) → always_read_fault all ≡ None → AreRead all (at_once all)
 read_at_once all rise e c h is =
     let need : not c.by_need ≡ true = sym (loaded_at_once all rise c h) ∙ is in
-    let one : is_given c ≡ true = elim (cases_Bool c.is_member) [ inl m ↦ rw m need | inr m ↦ rw m refl ] in
-    read_of c.object (none_first object_fault (filter is_given all) e c (kept is_given all c h one))
+    let one : is_always_read c ≡ true = elim (cases_Bool c.is_member) [ inl m ↦ rw m need | inr m ↦ rw m refl ] in
+    read_of c.object (none_first object_fault (filter is_always_read all) e c (kept is_always_read all c h one))
 
 pub read_after : (all : List Candidate) → Rise (inputs_in all) → (wanted : List (List ℕ)) (loaded : List ℕ) → AreRead all loaded
     → first_some (map added_fault (round_adds all wanted loaded)) ≡ None

@@ -10,12 +10,12 @@ use Rattle.object_file.specs.wl_base.declared.fault.Fault.{Fault}
 use Rattle.object_file.specs.wl_base.declared.span.Span.{Span}
 use Rattle.object_file.specs.wl_base.Choice.{first_some}
 use Rattle.object_file.specs.declared.object.Object.{Object}
-use Rattle.lib_rounds.specs.declared.given.LibraryFile.{LibraryFile}
-use Rattle.lib_rounds.specs.declared.given.RoundError.{RoundError}
-use Rattle.lib_rounds.specs.declared.given.RoundError.TheVariants.{Refused, OutOfMemory}
-use Rattle.lib_rounds.specs.Rounds.{Candidate, fault_in, object_fault}
-use Rattle.lib_rounds.specs.RoundLaws.{inputs_in}
-use Rattle.lib_rounds.specs.Inputs.{members_from, members_of}
+use Rattle.round_rules.specs.declared.given.LibraryFile.{LibraryFile}
+use Rattle.lib_rounds.specs.declared.error.RoundError.{RoundError}
+use Rattle.lib_rounds.specs.declared.error.RoundError.TheVariants.{Refused, OutOfMemory}
+use Rattle.round_rules.specs.Rounds.{Candidate, fault_in, object_fault}
+use Rattle.round_rules.specs.RoundLaws.{inputs_in}
+use Rattle.round_rules.specs.Inputs.{members_from, members_of}
 use Rattle.lib_rounds.specs.Held.{Held, absent, loaded, held_as, held_by, is_loaded_slot}
 use Rattle.lib_rounds.specs.State.{World, Hold, Defines, Enters, Fails, FailsBy, or_in, by_slot, IsOffer, candidate_at, no_candidate}
 use Rattle.lib_rounds.specs.Begin.{KnowsMembers, LoadedAll}

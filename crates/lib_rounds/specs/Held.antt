@@ -4,7 +4,7 @@ use Rattle.std.specs.Global.{Box}
 use Rattle.object_file.specs.wl_base.declared.fault.Fault.{Fault}
 use Rattle.object_file.specs.linking_section.declared.symbol.Symbol.{Symbol}
 use Rattle.object_file.specs.declared.object.Object.{Object}
-use Rattle.lib_rounds.specs.Rounds.{Candidate}
+use Rattle.round_rules.specs.Rounds.{Candidate}
 
 -- An object that isn't read; that is read and not loaded; that is loaded.
 pub data Held : Type 0 where

@@ -8,7 +8,7 @@ use Rattle.object_file.specs.wl_base.Choice.{first_some, unless, ◌>>=◌}
 use Rattle.object_file.specs.wl_base.declared.fault.Fault.{Fault}
 use Rattle.object_file.specs.declared.object.Object.{Object}
 use Rattle.made_symbols.specs.declared.mode.Mode.{Mode}
-use Rattle.lib_rounds.specs.Rounds.{Candidate, Added, object_in, objects_of, strong_names, is_defined, round_adds, added_fault, inputs_of, is_loaded, names_for}
+use Rattle.round_rules.specs.Rounds.{Candidate, Added, object_in, objects_of, strong_names, is_defined, round_adds, added_fault, inputs_of, is_loaded, names_for}
 
 -- The objects that a round adds, by rising input.
 abbrev pub new_objects : List Added → List Object

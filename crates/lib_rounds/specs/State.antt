@@ -13,15 +13,15 @@ use Rattle.lib_index.specs.Library.{bytes_of}
 use Rattle.object_file.specs.declared.object.Object.{Object}
 use Rattle.object_file.specs.ObjectOf.{object_of}
 use Rattle.made_symbols.specs.declared.mode.Mode.{Mode}
-use Rattle.lib_rounds.specs.declared.given.LibraryFile.{LibraryFile}
-use Rattle.lib_rounds.specs.declared.given.RoundError.{RoundError}
-use Rattle.lib_rounds.specs.declared.given.RoundError.TheVariants.{Refused, OutOfMemory}
+use Rattle.round_rules.specs.declared.given.LibraryFile.{LibraryFile}
+use Rattle.lib_rounds.specs.declared.error.RoundError.{RoundError}
+use Rattle.lib_rounds.specs.declared.error.RoundError.TheVariants.{Refused, OutOfMemory}
 use Rattle.lib_rounds.specs.declared.offer.Offer.{Offer}
 use Rattle.lib_rounds.specs.declared.adds.Wanted.{Wanted}
-use Rattle.lib_rounds.specs.Rounds.{Candidate, Added, added_fault, inputs_of, defined_names, strong_names, is_loaded, is_defined, is_just, offering}
+use Rattle.round_rules.specs.Rounds.{Candidate, Added, added_fault, inputs_of, defined_names, strong_names, is_loaded, is_defined, is_just, offering}
 use Rattle.lib_rounds.specs.Lean.{Entry, HoldNames, AreAdds, lean_adds, names_of}
 use Rattle.lib_rounds.specs.Held.{Held, absent, loaded, loaded_objects, object_held, held_by, is_loaded_slot}
-use Rattle.lib_rounds.specs.Inputs.{lesser, library_offer}
+use Rattle.lib_rounds.specs.Offers.{lesser, library_offer}
 
 -- What a call answered, seen by view, is what is said. Want of memory alone is free.
 abbrev pub Fails : {Y : Type 0} → RoundError → Result Y Fault → Type 0

@@ -5,20 +5,21 @@ ghost use Rattle.std.specs.Map.{lookup};
 ghost use Rattle.std.specs.Str.{bytes_eq};
 ghost use Rattle.lib_index.specs.Table.{shown};
 ghost use Rattle.made_symbols.specs.Made.{made};
-ghost use Rattle.lib_rounds.specs.declared.given.LibraryFile.{LibraryFile as AtLibrary};
+ghost use Rattle.round_rules.specs.declared.given.LibraryFile.{LibraryFile as AtLibrary};
 ghost use Rattle.lib_rounds.specs.Held.{absent};
-ghost use Rattle.lib_rounds.specs.Inputs.{members_of, AreCandidates, IsRead};
+ghost use Rattle.round_rules.specs.Inputs.{members_of, AreCandidates, IsRead};
 ghost use Rattle.lib_rounds.specs.State.{World, Hold, Defines};
 ghost use Rattle.lib_rounds.specs.Begin.{IsPut, KnowsGiven, PutsAll, KnowsMembers, LoadsAll, Begins, input_count};
 
 use crate::early::Early;
-use crate::given::{Given, LibraryFile, RoundError};
+use crate::error::RoundError;
 use crate::loading::load;
 use crate::offer::{Inputs, Offer};
 use crate::slot::Slot;
 use crate::table::{Table, define, put};
 use indexmap::IndexMap;
 use made_symbols::Mode;
+use round_rules::{GivenObject, LibraryFile};
 use std::alloc::Global;
 use wl_base::{OutOfMemory, Seq};
 
@@ -85,7 +86,7 @@ fn slots_for<'a>(
 /// Puts an object of the words into its slot.
 fn put_one(
     alloc: Global,
-    given: Given,
+    given: GivenObject,
     slots: &mut Vec<Slot<'_>>,
     lazies: &mut Table,
     definers: &mut Table,
@@ -93,7 +94,7 @@ fn put_one(
     requires { (0 < given.object.input) × (given.object.input ≤ length slots.old.items) }
     ensures { OnOk result (IsPut given slots.old.items slots.new.items (shown lazies.old) (shown lazies.new) (shown definers.old) (shown definers.new)) }
 {
-    let Given { object, lazy } = given;
+    let GivenObject { object, lazy } = given;
     let input = object.input;
     if lazy {
         define(alloc, lazies, &object, input)?;
@@ -107,7 +108,7 @@ fn put_one(
 /// Puts the objects of the words into their slots.
 fn put_given(
     alloc: Global,
-    given: Seq<Given>,
+    given: Seq<GivenObject>,
     slots: &mut Vec<Slot<'_>>,
     lazies: &mut Table,
     definers: &mut Table,
@@ -191,7 +192,7 @@ pub struct Start<'a> {
 /// libraries. The members that are read early are kept.
 pub fn begin<'a>(
     inputs: Inputs<'_>,
-    given: Seq<Given>,
+    given: Seq<GivenObject>,
     early: Vec<Early<'a>>,
     mode: Mode,
 ) -> Result<Start<'a>, RoundError>

@@ -1,19 +1,20 @@
 //! Which inputs are loaded.
 ghost use Rattle.std.specs.Prelude.{◌≡◌, None, All, List};
 ghost use Rattle.lib_index.specs.Table.{shown};
-ghost use Rattle.lib_rounds.specs.Rounds.{Candidate, at_once, given_fault, load};
-ghost use Rattle.lib_rounds.specs.Inputs.{AreCandidates, IsRead};
+ghost use Rattle.round_rules.specs.Rounds.{Candidate, at_once, always_read_fault, load};
+ghost use Rattle.round_rules.specs.Inputs.{AreCandidates, IsRead};
 ghost use Rattle.lib_rounds.specs.State.{World, Knows, Shows, Defines, Answers};
 
 use crate::begin::{Start, begin};
 use crate::early::Early;
+use crate::error::RoundError;
 use crate::foresight::read_early;
 use crate::gather::{Sight, first_adds};
-use crate::given::{Given, LibraryFile, RoundError};
 use crate::loaded::Loaded;
 use crate::offer::Inputs;
 use crate::running::run;
 use made_symbols::Mode;
+use round_rules::{GivenObject, LibraryFile};
 use std::alloc::Global;
 use std::thread::Threads;
 use wl_base::{Name, Seq};
@@ -25,7 +26,7 @@ fn load_needed(inputs: Inputs<'_>, start: Start<'_>, wanted: &[Name]) -> Result<
     requires knows { Knows w.all inputs.libraries.now inputs.files.now (shown start.lazies) }
     requires shows { Shows w.all start.slots.items (at_once w.all) }
     requires defines { Defines w.mode start.slots.items (shown start.definers) }
-    requires fine { given_fault w.all ≡ None }
+    requires fine { always_read_fault w.all ≡ None }
     ensures { Answers (λ l. l) result (load w.mode wanted.now w.all) }
 {
     let Start {
@@ -48,7 +49,7 @@ fn load_needed(inputs: Inputs<'_>, start: Start<'_>, wanted: &[Name]) -> Result<
 /// The same, with the mode in what is shared.
 fn load_all(
     inputs: Inputs<'_>,
-    given: Seq<Given>,
+    given: Seq<GivenObject>,
     early: Vec<Early<'_>>,
     wanted: &[Name],
     mode: Mode,
@@ -79,7 +80,7 @@ fn load_all(
 pub fn load_rounds<R: Threads + Sync>(
     rt: &R,
     alloc: Global,
-    given: Seq<Given>,
+    given: Seq<GivenObject>,
     libraries: &[LibraryFile],
     files: &[Seq<u8>],
     wanted: &[Name],

@@ -5,12 +5,12 @@
 //! back, and its faults aren't told.
 
 use crate::early::Early;
-use crate::given::{Given, LibraryFile};
 use crate::needs::Needs;
 use crate::offer::Inputs;
 use crate::reading::read_all;
 use crate::table::wanted_at;
 use object_file::Object;
+use round_rules::{GivenObject, LibraryFile};
 use std::thread::Threads;
 use wl_base::{InputId, Name, OutOfMemory};
 use wl_fan::Workers;
@@ -94,7 +94,7 @@ impl<'a> Foreseen<'a> {
     }
 
     /// Looks at the names that the objects of the words refer to strongly.
-    fn look_given(&mut self, inputs: Inputs<'a>, given: &[Given]) -> Result<(), OutOfMemory> {
+    fn look_given(&mut self, inputs: Inputs<'a>, given: &[GivenObject]) -> Result<(), OutOfMemory> {
         for at in 0..given.len() {
             self.look_object(inputs, &given[at].object)?;
         }
@@ -151,7 +151,7 @@ impl<'a> Foreseen<'a> {
 /// The members that are foreseen, none of them read.
 fn foresee<'a>(
     inputs: Inputs<'a>,
-    given: &[Given],
+    given: &[GivenObject],
     wanted: &[Name],
 ) -> Result<Vec<Early<'a>>, OutOfMemory> {
     let alloc = inputs.alloc;
@@ -170,7 +170,7 @@ fn foresee<'a>(
 pub fn read_early<'a, R: Threads + Sync>(
     rt: &R,
     inputs: Inputs<'a>,
-    given: &[Given],
+    given: &[GivenObject],
     wanted: &[Name],
     workers: Workers,
 ) -> Result<Vec<Early<'a>>, OutOfMemory> {

@@ -3,7 +3,7 @@ ghost use Rattle.std.specs.Prelude.{◌≡◌, ℕ, List, ◌∷◌, [], ◌++�
 ghost use Rattle.std.specs.Ordering.{nat_cmp};
 ghost use Rattle.std.specs.BTreeMap.{IsOrdered, get, is_at};
 ghost use Rattle.lib_index.specs.Table.{shown};
-ghost use Rattle.lib_rounds.specs.Rounds.{strong_names};
+ghost use Rattle.round_rules.specs.Rounds.{strong_names};
 ghost use Rattle.lib_rounds.specs.Lean.{first_names};
 ghost use Rattle.lib_rounds.specs.Held.{object_held, loaded_objects};
 ghost use Rattle.lib_rounds.specs.State.{World, Knows, Hold, Defines, Shows, Looked, Looks, pushed, slot_at, names_at};

@@ -1,5 +1,5 @@
 //! What holds of the rounds of loading, as a call that does nothing: its contract is the laws.
-ghost use Rattle.lib_rounds.specs.RoundLaws.{RoundsEnd, LoadedIsFirstEqual, NothingIsLeft, NextIs, LeastOffers, AddedRise, RoundsOnce, LoadedOnce};
+ghost use Rattle.round_rules.specs.RoundLaws.{RoundsEnd, LoadedIsFirstEqual, NothingIsLeft, NextIs, LeastOffers, AddedRise, RoundsOnce, LoadedOnce};
 
 /// The rounds end after at most as many as there are candidates and one more, and the loaded inputs are the
 /// first round that equals its successor, or the first fault of the rounds before it.

@@ -1,13 +1,14 @@
-//! Which inputs of a link are loaded.
+//! Loads the inputs that a link needs, as the definition in `round_rules` has it: at once, and then
+//! round after round. Several threads read the members ahead that will probably be needed.
 #![tactic(auto)]
 
 mod adds;
 mod begin;
 mod call;
 mod early;
+mod error;
 mod foresight;
 mod gather;
-mod given;
 pub mod laws;
 mod lies;
 mod loaded;
@@ -20,5 +21,6 @@ mod slot;
 mod table;
 
 pub use call::load_rounds;
-pub use given::{Given, LibraryFile, RoundError};
+pub use error::RoundError;
 pub use loaded::Loaded;
+pub use round_rules::{GivenObject, LibraryFile};

@@ -1,7 +1,7 @@
 //! Names that an index gives and an object doesn't define.
 ghost use Rattle.std.specs.Prelude.{◌≡◌, not, filter, option_copied};
 ghost use Rattle.lib_index.specs.Table.{shown};
-ghost use Rattle.lib_rounds.specs.Rounds.{comes_before, lesser_name, least_name};
+ghost use Rattle.round_rules.specs.Rounds.{comes_before, lesser_name, least_name};
 ghost use Rattle.lib_rounds.specs.State.{is_other};
 
 use crate::table::{Table, input_of};

@@ -8,12 +8,12 @@ ghost use Rattle.object_file.specs.wl_base.declared.fault.Fault.{Fault as Why};
 ghost use Rattle.object_file.specs.wl_base.declared.fault.Fault.TheVariants as faults;
 ghost use Rattle.object_file.specs.declared.object.Object.{Object as Read};
 ghost use Rattle.lib_index.specs.Table.{shown};
-ghost use Rattle.lib_rounds.specs.Rounds.{Candidate, Added, is_just};
+ghost use Rattle.round_rules.specs.Rounds.{Candidate, Added, is_just};
 ghost use Rattle.lib_rounds.specs.Held.{held_as};
 ghost use Rattle.lib_rounds.specs.State.{World, IsMember, IsOffer, IsEntry, Hold, Defines, Answers, Fills, Loads, AddsOne, AddsAll, FailsBy, seen_entries};
 
 use crate::adds::{Adds, Wanted};
-use crate::given::RoundError;
+use crate::error::RoundError;
 use crate::lies::least_lie;
 use crate::offer::{Inputs, Offer};
 use crate::slot::Slot;

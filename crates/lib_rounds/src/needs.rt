@@ -2,6 +2,7 @@
 //! ends it.
 
 use leb_codec::read_u32;
+use linking_section::{EXPLICIT_NAME, SymbolKind, UNDEFINED, WEAK};
 
 /// The id of a custom section.
 const CUSTOM: u8 = 0;
@@ -11,18 +12,6 @@ const IMPORT: u8 = 2;
 
 /// The part of a section `linking` that has the symbols.
 const SYMBOL_TABLE: u8 = 8;
-
-/// A symbol's kind, of data.
-const DATUM: u8 = 1;
-
-/// A symbol's kind, of a section.
-const SECTION: u8 = 3;
-
-const WEAK: u32 = 0x01;
-
-const UNDEFINED: u32 = 0x10;
-
-const EXPLICIT_NAME: u32 = 0x40;
 
 /// Bytes that are read from the front.
 #[derive(Clone, Copy)]
@@ -98,7 +87,7 @@ impl<'a> Bytes<'a> {
         let kind = self.byte()?;
         let flags = self.number()?;
         let is_defined = flags & UNDEFINED == 0;
-        if kind == DATUM {
+        if kind == SymbolKind::Datum.code() {
             let name = self.sized()?;
             if is_defined {
                 self.number()?;
@@ -109,7 +98,7 @@ impl<'a> Bytes<'a> {
             return Some(if is_needed { name } else { &[] });
         }
         self.number()?;
-        if kind != SECTION && (is_defined || flags & EXPLICIT_NAME != 0) {
+        if kind != SymbolKind::Section.code() && (is_defined || flags & EXPLICIT_NAME != 0) {
             self.sized()?;
         }
         Some(&[])

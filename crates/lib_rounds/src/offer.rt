@@ -3,12 +3,12 @@ ghost use Rattle.std.specs.Prelude.{◌≡◌, ◌<◌, ◌+◌, ◌-◌, ◌^�
 ghost use Rattle.std.specs.Map.{lookup};
 ghost use Rattle.std.specs.Str.{bytes_eq};
 ghost use Rattle.lib_index.specs.Table.{shown};
-ghost use Rattle.lib_rounds.specs.Rounds.{Candidate, offering};
-ghost use Rattle.lib_rounds.specs.Inputs.{library_offer, lesser};
+ghost use Rattle.round_rules.specs.Rounds.{Candidate, offering};
+ghost use Rattle.lib_rounds.specs.Offers.{library_offer, lesser};
 ghost use Rattle.lib_rounds.specs.State.{IsOffer, Knows};
 
-use crate::given::LibraryFile;
 use crate::table::{Table, input_of};
+use round_rules::LibraryFile;
 use std::alloc::Global;
 use wl_base::{InputId, Seq};
 

@@ -7,8 +7,8 @@ ghost use Rattle.lib_rounds.specs.Lean.{AreAdds, lean_adds, lean};
 ghost use Rattle.lib_rounds.specs.State.{World, Knows, Hold, Defines, Shows, IsEntry, seen_entries, DoesRound, RunsTo};
 
 use crate::adds::Adds;
+use crate::error::RoundError;
 use crate::gather::{Sight, next_adds};
-use crate::given::RoundError;
 use crate::loading::add_all;
 use crate::offer::Inputs;
 use crate::slot::Slot;

@@ -6,7 +6,7 @@ ghost use Rattle.object_file.specs.wl_base.Choice.{has_name};
 ghost use Rattle.lib_index.specs.Table.{shown};
 ghost use Rattle.object_file.specs.linking_section.Flags.{is_definition, is_strong_reference};
 ghost use Rattle.lib_rounds.specs.Held.{name_if};
-ghost use Rattle.lib_rounds.specs.Rounds.{defined_names};
+ghost use Rattle.round_rules.specs.Rounds.{defined_names};
 
 use indexmap::IndexMap;
 use object_file::Object;

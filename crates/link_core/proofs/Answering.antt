@@ -9,7 +9,7 @@ use Rattle.link_program.specs.wl_base.declared.layout_error.LayoutError.{LayoutE
 use Rattle.link_program.specs.wl_base.declared.layout_error.LayoutError.TheVariants as layouts
 use Rattle.link_program.specs.object_file.declared.object.Object.{Object}
 use Rattle.link_program.specs.made_symbols.declared.mode.Mode.TheVariants.{Plain}
-use Rattle.link_program.specs.lib_rounds.Rounds.{Candidate, load}
+use Rattle.link_program.specs.round_rules.Rounds.{Candidate, load}
 use Rattle.link_program.specs.memory_layout.Memory.{memory_overflow}
 use Rattle.link_program.specs.table_layout.Slots.{table_overflow}
 use Rattle.link_program.specs.reloc_apply.declared.window.Window.{Window}
@@ -25,12 +25,7 @@ use Rattle.link_program.specs.link_rules.Keys.{numbers}
 use Rattle.link_program.specs.link_rules.Values.{rules_of, shapes}
 use Rattle.link_program.specs.link_rules.Output.{layout, image, source_windows}
 use Rattle.link_program.specs.link_rules.LinkOf.{asked_names, the_readers, exporting, marked, laid_out, written, length_fault, link_program, link_of}
-use Rattle.link_inputs.specs.declared.fault.InputError.{InputError}
-use Rattle.link_inputs.specs.declared.fault.InputError.TheVariants as inputs
-use Rattle.link_inputs.specs.Answers.{Fails}
 use Rattle.link_inputs.specs.Inputs.{loaded_of}
-use Rattle.program_build.specs.declared.error.BuildError.{BuildError}
-use Rattle.program_build.specs.declared.error.BuildError.TheVariants as builds
 use Rattle.program_build.specs.Found.{Finds, found_of}
 use Rattle.link_layout.specs.Placed.{AnswersPlaced, IsPlaced}
 use Rattle.link_numbers.specs.Numbered.{TellsOverflow, IsNumbering}
@@ -40,26 +35,30 @@ use Rattle.link_program.specs.Live.{Stage, AreLive, AllMeant}
 use Rattle.link_program.specs.Program.{IsProgram}
 use Rattle.link_program.specs.Stand.{PartsStand}
 use Rattle.link_layout.specs.Layout.{IsLayout}
-use Rattle.link_layout.specs.declared.layout.Layout.{Layout as LayoutData}
+use Rattle.link_layout.specs.declared.values.Layout.{Layout as LayoutData}
 use Rattle.link_output.specs.Written.{Measures, Writes, StandInSources}
-use Rattle.link_core.specs.declared.error.LinkError.{LinkError}
-use Rattle.link_core.specs.declared.error.LinkError.TheVariants.{Refused}
-use Rattle.link_core.specs.Answers.{Answers, of_inputs, of_build, of_layout}
+use Rattle.link_program.specs.declared.error.LinkError.{LinkError}
+use Rattle.link_program.specs.declared.error.LinkError.TheVariants.{Refused, OutOfMemory}
+use Rattle.link_program.specs.Answers.{Fails, Stops, of_layout}
+use Rattle.link_core.specs.Answers.{Answers}
 use Rattle.link_core.proofs.Steps as steps
 
 -- an error that is passed on
 passed : {E : Type 0} (f : E → LinkError) (said : Result (List ℕ) Fault) (e : E) (x : LinkError) → x ≡ f e → Answers (Err (f e)) said → Answers (Err x) said
 passed f said e x is a = subst (λ x. Answers (Err x) said) (sym is) a
 
+pub fails_by : (said : Result (List ℕ) Fault) (e x : LinkError) → x ≡ e → Fails e said → Fails x said
+fails_by said e x is fails = subst (λ x. Fails x said) (sym is) fails
+
 -- ---- loading
 
-pub load_failed : (plan : Plan) (files : List (List ℕ)) (e : InputError) (x : LinkError) → x ≡ of_inputs e → Fails e (loaded_of Plain plan files) → Answers (Err x) (link_of plan files)
+pub load_failed : (plan : Plan) (files : List (List ℕ)) (e x : LinkError) → x ≡ e → Fails e (loaded_of Plain plan files) → Answers (Err x) (link_of plan files)
 unfolding loaded_of
-load_failed plan files e x is fails = passed of_inputs (link_of plan files) e x is (by e fails)
+load_failed plan files e x is fails = fails_by (link_of plan files) e x is (by e fails)
   where
-    by : (e : InputError) → Fails e (loaded_of Plain plan files) → Answers (Err (of_inputs e)) (link_of plan files)
-    by (inputs.Refused f) fails = steps.not_loaded plan files f fails
-    by inputs.OutOfMemory fails = tt
+    by : (e : LinkError) → Fails e (loaded_of Plain plan files) → Answers (Err e) (link_of plan files)
+    by (Refused f) fails = steps.not_loaded plan files f fails
+    by OutOfMemory fails = tt
 
 pub goes_on_loaded : (plan : Plan) (files : List (List ℕ)) (all : List Candidate) (objects : List Object) (r : Result (List ℕ) LinkError)
     → candidates_of the_readers plan files ≡ Ok all → load Plain (asked_names plan) all ≡ Ok objects
@@ -68,14 +67,14 @@ goes_on_loaded plan files all objects r found given a = subst (Answers r) (sym (
 
 -- ---- names
 
-pub find_failed : (plan : Plan) (objects : List Object) (p : Program) (e : BuildError) (x : LinkError) → x ≡ of_build e → Finds Plain (Err e) plan objects p → Answers (Err x) (link_program Plain p)
-find_failed plan objects p e x is finds = passed of_build (link_program Plain p) e x is (by e finds)
+pub find_failed : (plan : Plan) (objects : List Object) (p : Program) (e x : LinkError) → x ≡ e → Finds Plain (Err e) plan objects p → Answers (Err x) (link_program Plain p)
+find_failed plan objects p e x is finds = fails_by (link_program Plain p) e x is (by e finds)
   where
-    by : (e : BuildError) → Finds Plain (Err e) plan objects p → Answers (Err (of_build e)) (link_program Plain p)
-    by (builds.Refused f) finds = steps.not_named p f finds
-    by builds.OutOfMemory finds = tt
+    by : (e : LinkError) → Finds Plain (Err e) plan objects p → Answers (Err e) (link_program Plain p)
+    by (Refused f) finds = steps.not_named p f finds
+    by OutOfMemory finds = tt
 
-pub goes_on_found : (p : Program) (r : Result (List ℕ) LinkError) → found_of p ≡ Ok p → Answers r (exporting Plain p (exported Plain p)) → Answers r (link_program Plain p)
+goes_on_found : (p : Program) (r : Result (List ℕ) LinkError) → found_of p ≡ Ok p → Answers r (exporting Plain p (exported Plain p)) → Answers r (link_program Plain p)
 goes_on_found p r found a = subst (Answers r) (sym (steps.named p found)) a
 
 -- ---- exports and marks
@@ -84,17 +83,32 @@ pub exports_are_winners : (p : Program) → All (Contains p.winners) (exported P
 unfolding exported
 exports_are_winners p = All-filter (is_exported_by p.plan) (Contains p.winners) p.winners (All-contains_itself p.winners)
 
-pub repeated : (p : Program) (es : List Entry) (f : Fault) → Some f ≡ repeated_export Plain p es → Answers (Err (Refused f)) (exporting Plain p es)
-repeated p es f e = steps.repeats p es f (sym e)
+pub export_repeats : (p : Program) (es : List Entry) (e x : LinkError) → x ≡ e → Stops e (repeated_export Plain p es) → Fails x (exporting Plain p es)
+export_repeats p es e x is stops = fails_by (exporting Plain p es) e x is (by e stops)
+  where
+    by : (e : LinkError) → Stops e (repeated_export Plain p es) → Fails e (exporting Plain p es)
+    by (Refused f) stops = steps.repeats p es f stops
+    by OutOfMemory stops = tt
 
-pub goes_on_exported : (p : Program) (es : List Entry) (r : Result (List ℕ) LinkError) → None ≡ repeated_export Plain p es → Answers r (marked Plain p es) → Answers r (exporting Plain p es)
-goes_on_exported p es r e a = subst (Answers r) (sym (steps.exports p es (sym e))) a
+pub name_left_open : (p : Program) (es : List Entry) (e x : LinkError) → x ≡ e → repeated_export Plain p es ≡ None → Stops e (unresolved p (live p es))
+    → Fails x (exporting Plain p es)
+name_left_open p es e x is once stops = fails_by (exporting Plain p es) e x is (subst (Fails e) (sym (steps.exports p es once)) (by e stops))
+  where
+    by : (e : LinkError) → Stops e (unresolved p (live p es)) → Fails e (marked Plain p es)
+    by (Refused f) stops = steps.left_open p es f stops
+    by OutOfMemory stops = tt
 
-pub left_open : (p : Program) (es : List Entry) (f : Fault) → Some f ≡ unresolved p (live p es) → Answers (Err (Refused f)) (marked Plain p es)
-left_open p es f e = steps.left_open p es f (sym e)
+pub all_closed : (p : Program) (es : List Entry) → repeated_export Plain p es ≡ None → unresolved p (live p es) ≡ None
+    → exporting Plain p es ≡ laid_out Plain p es (live p es)
+all_closed p es once closed = steps.exports p es once ∙ steps.closed p es closed
 
-pub goes_on_closed : (p : Program) (es : List Entry) (r : Result (List ℕ) LinkError) → None ≡ unresolved p (live p es) → Answers r (laid_out Plain p es (live p es)) → Answers r (marked Plain p es)
-goes_on_closed p es r e a = subst (Answers r) (sym (steps.closed p es (sym e))) a
+pub choose_failed : (p : Program) (e x : LinkError) → x ≡ e → found_of p ≡ Ok p → Fails e (exporting Plain p (exported Plain p)) → Answers (Err x) (link_program Plain p)
+choose_failed p e x is found fails = goes_on_found p (Err x) found (fails_by (exporting Plain p (exported Plain p)) e x is fails)
+
+-- the link of a program, by what laying it out answers
+pub goes_on_chosen : (p : Program) (r : Result (List ℕ) LinkError) → found_of p ≡ Ok p → exporting Plain p (exported Plain p) ≡ laid_out Plain p (exported Plain p) (live p (exported Plain p))
+    → Answers r (laid_out Plain p (exported Plain p) (live p (exported Plain p))) → Answers r (link_program Plain p)
+goes_on_chosen p r found same a = goes_on_found p r found (subst (Answers r) (sym same) a)
 
 -- ---- layout
 

@@ -8,7 +8,7 @@ use Rattle.link_program.specs.wl_base.declared.fault.Fault.TheVariants.{Overflow
 use Rattle.link_program.specs.wl_base.declared.fault.What.TheVariants.{TableSize, Reference}
 use Rattle.link_program.specs.object_file.declared.object.Object.{Object}
 use Rattle.link_program.specs.made_symbols.declared.mode.Mode.TheVariants.{Plain}
-use Rattle.link_program.specs.lib_rounds.Rounds.{Candidate, load}
+use Rattle.link_program.specs.round_rules.Rounds.{Candidate, load}
 use Rattle.link_program.specs.memory_layout.Memory.{Passed, memory_overflow}
 use Rattle.link_program.specs.table_layout.Slots.{table_overflow}
 use Rattle.link_program.specs.reloc_apply.declared.window.Window.{Window}

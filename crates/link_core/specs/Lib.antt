@@ -1,3 +1,5 @@
 pub mod Answers
+pub mod Loading
 pub mod Linking
+pub mod Chosen
 pub mod Prepared

@@ -4,7 +4,7 @@ use Rattle.link_program.specs.reloc_apply.Windows.{filled}
 use Rattle.link_program.specs.reloc_apply.Apart.{AreApart}
 use Rattle.link_program.specs.image_emit.Bytes.{tree_of, bytes_of}
 use Rattle.link_program.specs.image_emit.Measures.{LieIn, image_measure}
-use Rattle.link_core.specs.declared.error.LinkError.{LinkError}
+use Rattle.link_program.specs.declared.error.LinkError.{LinkError}
 use Rattle.link_core.specs.declared.prepared.Prepared.{Prepared}
 
 -- Its bytes: those of the image, with each patch written.

@@ -1,11 +1,9 @@
 //! The whole link.
 #![tactic(auto)]
 
-mod error;
-mod layers;
-mod linking;
+mod chosen;
+mod driver;
 mod prepared;
-mod whole;
 
-pub use error::LinkError;
-pub use whole::link;
+pub use driver::link;
+pub use link_program::LinkError;

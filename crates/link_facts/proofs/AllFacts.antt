@@ -14,7 +14,7 @@ use Rattle.object_file.specs.declared.object.Object.{Object}
 use Rattle.object_file.specs.ObjectOf.{IsObject}
 use Rattle.object_file.specs.Bodies.{BodyStands}
 use Rattle.object_file.specs.Sound.{Sound as ObjectSound, NamesInRange, EndsIn}
-use Rattle.lib_rounds.specs.Rounds.{Candidate}
+use Rattle.round_rules.specs.Rounds.{Candidate}
 use Rattle.link_plan.specs.declared.plan.Plan.{Plan}
 use Rattle.made_symbols.specs.Made.{made}
 use Rattle.made_symbols.specs.declared.mode.Mode.TheVariants.{Plain}

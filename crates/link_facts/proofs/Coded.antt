@@ -16,7 +16,7 @@ use Rattle.object_parts.specs.Spans.{LiesIn}
 use Rattle.object_file.specs.declared.object.Object.{Object}
 use Rattle.object_file.specs.Bodies.{IsOperandOf, AreOperandsOf, BodyStands}
 use Rattle.object_file.specs.Sound.{Sound as ObjectSound, OperandNames, IsNamedBy, is_code_type}
-use Rattle.lib_rounds.specs.Rounds.{Candidate}
+use Rattle.round_rules.specs.Rounds.{Candidate}
 use Rattle.made_symbols.specs.declared.mode.Mode.TheVariants.{Plain}
 use Rattle.name_rules.specs.Entries.{Entry, entry_in, entries_from, symbols_of, entries}
 use Rattle.name_rules.specs.Meanings.{Meaning, Resolved, resolved_in, meaning, no_uses}

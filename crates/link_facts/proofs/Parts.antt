@@ -16,7 +16,7 @@ use Rattle.made_symbols.specs.declared.mode.Mode.TheVariants.{Plain}
 use Rattle.object_file.specs.declared.object.Object.{Object}
 use Rattle.object_file.specs.Spaces.{function_imports, global_imports, function_place, global_place}
 use Rattle.object_file.specs.Sound.{Sound as ObjectSound, NamesInRange}
-use Rattle.lib_rounds.specs.Rounds.{Candidate}
+use Rattle.round_rules.specs.Rounds.{Candidate}
 use Rattle.name_entries.specs.View.{InputsRise}
 use Rattle.name_rules.specs.Entries.{Entry, entry_in, made_entry, is_kept, in_kept_part, index_in}
 use Rattle.name_rules.specs.Meanings.{Resolved}

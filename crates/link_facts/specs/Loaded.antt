@@ -4,7 +4,7 @@ use Rattle.list_places.specs.Has.{Has}
 use Rattle.object_file.specs.declared.object.Object.{Object}
 use Rattle.object_file.specs.Sound.{Sound as ObjectSound}
 use Rattle.made_symbols.specs.declared.mode.Mode.TheVariants.{Plain}
-use Rattle.lib_rounds.specs.Rounds.{Candidate}
+use Rattle.round_rules.specs.Rounds.{Candidate}
 use Rattle.name_entries.specs.View.{InputsRise}
 use Rattle.name_rules.specs.Cases.{clash}
 use Rattle.link_plan.specs.declared.plan.Plan.{Plan}

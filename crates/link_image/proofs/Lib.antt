@@ -1,5 +1,3 @@
-pub mod ReadAt
-pub mod Chunks
 pub mod Lists
 pub mod Ends
 pub mod Winners

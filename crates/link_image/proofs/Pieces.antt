@@ -39,10 +39,12 @@ use Rattle.link_program.specs.Keys.{told_function, told_global, told_got, same_f
 use Rattle.link_program.specs.Live.{AreLive}
 use Rattle.link_numbers.specs.Knows.{KnowsFunction, KnowsGlobal, KnowsGot}
 use Rattle.link_numbers.specs.Laws.{TellsNumbers, KnowsRef}
-use Rattle.link_layout.specs.declared.layout.Layout.{Layout}
-use Rattle.link_layout.specs.Segments.{part_at, row_at}
+use Rattle.link_layout.specs.declared.values.Layout.{Layout}
+use Rattle.link_program.specs.Look.{part_at, row_at}
 use Rattle.link_layout.specs.Placed.{chunks_of, address_among}
-use Rattle.link_layout.specs.Seen.{chunk_number, function_meant, is_solid_at}
+use Rattle.link_program.specs.Look.{chunk_number}
+use Rattle.link_program.specs.Meant.{function_meant}
+use Rattle.link_layout.specs.Seen.{is_solid_at}
 use Rattle.link_layout.specs.Layout.{looked, IsLayout}
 use Rattle.link_layout.proofs.Pairs.{map_pairs, pairs_within, find_pair}
 use Rattle.link_layout.proofs.Parts.{part_told, row_told, same_part}
@@ -50,7 +52,7 @@ use Rattle.link_layout.proofs.KeysTold.{function_told, function_known, meant_tol
 use Rattle.link_layout.proofs.Sources.{solid_numbers}
 use Rattle.link_layout.proofs.Told.{IsTold, told_by}
 use Rattle.link_image.specs.Sections.{call_seen, calls_seen, file_seen, body_seen, is_plain, constant, entry_of, cell_seen, content_seen, part_global, global_made, block_at, first_of}
-use Rattle.link_image.proofs.Chunks.{stands_at}
+use Rattle.link_program.proofs.Chunks.{stands_at}
 use Rattle.link_image.proofs.Lists.{given_is, all_chosen, not_true, tested_map, all_tested, filter_map_same, filter_map_but, first_ones, last_ones, all_two}
 use Rattle.link_image.proofs.Known.{tells, knows}
 

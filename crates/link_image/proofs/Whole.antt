@@ -29,8 +29,8 @@ use Rattle.link_program.specs.declared.keys.GlobalKey.{GlobalKey}
 use Rattle.link_program.specs.declared.keys.GlobalKey.TheVariants as globals
 use Rattle.link_program.specs.Live.{AreLive, Stage}
 use Rattle.link_numbers.specs.Knows.{KnowsFunction, KnowsGlobal}
-use Rattle.link_layout.specs.declared.layout.Layout.{Layout}
-use Rattle.link_layout.specs.Seen.{index_of}
+use Rattle.link_layout.specs.declared.values.Layout.{Layout}
+use Rattle.link_program.specs.Meant.{index_of}
 use Rattle.link_layout.specs.Layout.{looked, IsLayout}
 use Rattle.link_layout.proofs.KeysTold.{function_told, function_known}
 use Rattle.link_image.specs.Imports.{functions_seen, global_seen}

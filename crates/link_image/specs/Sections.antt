@@ -46,11 +46,13 @@ use Rattle.link_program.specs.link_rules.Marks.{export_name}
 use Rattle.link_program.specs.link_rules.Output.{layout}
 use Rattle.link_program.specs.Told.{told_definition}
 use Rattle.link_program.specs.Live.{Stage}
-use Rattle.link_layout.specs.declared.layout.Layout.{Layout}
+use Rattle.link_layout.specs.declared.values.Layout.{Layout}
 use Rattle.link_layout.specs.Layout.{looked}
-use Rattle.link_layout.specs.Segments.{part_at, row_at}
+use Rattle.link_program.specs.Look.{part_at, row_at}
 use Rattle.link_image.specs.Imports.{functions_seen, global_seen}
-use Rattle.link_layout.specs.Seen.{Looked, chunk_number, function_of, function_meant, index_of, is_solid_at, slot_of}
+use Rattle.link_program.specs.Look.{chunk_number}
+use Rattle.link_program.specs.Meant.{function_of, function_meant, index_of}
+use Rattle.link_layout.specs.Seen.{Looked, is_solid_at, slot_of}
 
 -- ---- functions
 

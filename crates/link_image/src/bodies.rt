@@ -4,16 +4,18 @@ ghost use Rattle.std.specs.Option.{option_to_list};
 ghost use Rattle.std.specs.List.{list_all};
 ghost use Rattle.link_program.specs.image_emit.declared.tree.Source.TheVariants.{Own};
 ghost use Rattle.link_program.specs.link_rules.Program.{chunk_at};
-ghost use Rattle.link_layout.specs.Seen.{Looked, chunk_number};
+ghost use Rattle.link_program.specs.Look.{chunk_number};
+ghost use Rattle.link_layout.specs.Seen.{Looked};
 ghost use Rattle.link_layout.specs.Layout.{looked};
 ghost use Rattle.link_image.specs.Sections.{call_seen, calls_seen, file_seen, body_seen, is_plain};
 
-use crate::keys::{function_meant, symbol_at};
-use crate::parts::{number_of, part_at, row_at};
 use image_emit::Source;
 use link_layout::Layout;
 use link_numbers::Numbering;
-use link_program::{FunctionKey, Named, Symbol, Tables};
+use link_program::{
+    FunctionKey, Named, Symbol, Tables, chunk_kinds, chunk_number, function_meant, part_at, row_at,
+    symbol_at,
+};
 use mark_bits::Chunk;
 use std::alloc::Global;
 use wl_base::{OutOfMemory, Seq};
@@ -64,10 +66,10 @@ fn linker_calls(alloc: Global, layout: Layout<'_>, index: u32) -> Result<Seq<u32
     let tables = layout.program.tables;
     let chunk = Chunk {
         input: 0,
-        kind: 0,
+        kind: chunk_kinds::FUNCTION,
         index,
     };
-    match number_of(&tables.chunks, chunk) {
+    match chunk_number(&tables.chunks, chunk) {
         Some(number) => {
             let numbers = calls(
                 alloc,
@@ -85,7 +87,7 @@ fn linker_calls(alloc: Global, layout: Layout<'_>, index: u32) -> Result<Seq<u32
 fn file(alloc: Global, tables: &Tables, chunk: Chunk) -> Source
     ensures { (k : Looked) → k.tables ≡ tables.now → result ≡ file_seen k (chunk_number tables.now.chunks chunk) }
 {
-    match number_of(&tables.chunks, chunk) {
+    match chunk_number(&tables.chunks, chunk) {
         Some(number) => Source::File(part_at(tables, number).source),
         None => Source::Own(Seq::new(alloc)),
     }
@@ -113,7 +115,7 @@ fn body(alloc: Global, layout: Layout<'_>, key: FunctionKey) -> Result<Option<So
         FunctionKey::Own { input, index } => {
             let chunk = Chunk {
                 input,
-                kind: 0,
+                kind: chunk_kinds::FUNCTION,
                 index,
             };
             Ok(Some(file(alloc, layout.program.tables, chunk)))

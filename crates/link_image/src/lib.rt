@@ -6,11 +6,9 @@ mod elements;
 mod exported;
 mod functions;
 mod imports;
-mod keys;
 mod made_globals;
 mod making;
 mod memory;
-mod parts;
 mod placed;
 mod types;
 

@@ -7,14 +7,16 @@ ghost use Rattle.link_program.specs.link_rules.Program.{chunk_at};
 ghost use Rattle.link_program.specs.link_rules.Values as values;
 ghost use Rattle.link_program.specs.link_rules.Output.{layout as laid_out};
 ghost use Rattle.link_program.specs.Live.{Stage};
-ghost use Rattle.link_layout.specs.Seen.{Looked, chunk_number};
+ghost use Rattle.link_program.specs.Look.{chunk_number};
+ghost use Rattle.link_layout.specs.Seen.{Looked};
 ghost use Rattle.link_layout.specs.Layout.{looked, IsLayout};
 ghost use Rattle.link_image.specs.Sections.{constant, entry_of, cell_seen, content_seen, part_global, global_made};
 
-use crate::keys::function_of;
-use crate::parts::{number_of, part_at};
 use link_layout::Layout;
-use link_program::{Content, Definition, FunctionKey, GlobalKey, GotKey, Tables};
+use link_program::{
+    Content, Definition, FunctionKey, GlobalKey, GotKey, Tables, chunk_kinds, chunk_number,
+    function_of, part_at,
+};
 use linking_section::SymbolKind;
 use mark_bits::Chunk;
 use std::alloc::Global;
@@ -88,7 +90,7 @@ fn content(content: Content) -> Option<ModuleGlobal>
 fn own(tables: &Tables, chunk: Chunk) -> Option<ModuleGlobal>
     ensures { (k : Looked) → k.tables ≡ tables.now → result ≡ part_global k (chunk_number tables.now.chunks chunk) }
 {
-    match number_of(&tables.chunks, chunk) {
+    match chunk_number(&tables.chunks, chunk) {
         Some(number) => content(part_at(tables, number).content),
         None => None,
     }
@@ -122,7 +124,7 @@ fn global(layout: Layout<'_>, key: GlobalKey) -> Result<Option<ModuleGlobal>, Ou
         GlobalKey::Own { input, index } => {
             let chunk = Chunk {
                 input,
-                kind: 2,
+                kind: chunk_kinds::GLOBAL,
                 index,
             };
             Ok(own(layout.program.tables, chunk))

@@ -7,15 +7,15 @@ ghost use Rattle.link_layout.specs.Layout.{looked};
 ghost use Rattle.link_image.specs.Sections.{block_at, first_of};
 
 use crate::made_globals::signed;
-use crate::parts::part_at;
 use image_emit::{PlacedSource, Source};
 use link_layout::{Layout, Placed};
+use link_program::part_at;
 use std::alloc::Global;
 use wasm_types::ConstExpr;
 use wl_base::{OutOfMemory, Seq};
 
 // Whether the part of a number is a live segment that isn't zero.
-#[tactic(auto, using(crate::proofs::ReadAt::read))]
+#[tactic(auto, using(link_program::proofs::ReadAt::read))]
 fn is_solid(placed: &Placed, number: u32) -> bool
     ensures { result ≡ slice_index_or placed.now.solid number false }
 {
@@ -26,7 +26,7 @@ fn is_solid(placed: &Placed, number: u32) -> bool
 }
 
 // The address of the part of a number.
-#[tactic(auto, using(crate::proofs::ReadAt::read))]
+#[tactic(auto, using(link_program::proofs::ReadAt::read))]
 fn address_at(placed: &Placed, number: u32) -> u32
     ensures { result ≡ slice_index_or placed.now.addresses number 0 }
 {

@@ -10,7 +10,7 @@ use Rattle.link_program.specs.wl_base.declared.fault.LibFault.{LibFault}
 use Rattle.link_program.specs.wl_base.declared.span.Span.{Span}
 use Rattle.link_program.specs.lib_index.Library.{Contents}
 use Rattle.link_program.specs.lib_index.Reading.{library_of}
-use Rattle.link_program.specs.lib_rounds.Rounds.{Candidate}
+use Rattle.link_program.specs.round_rules.Rounds.{Candidate}
 use Rattle.link_program.specs.link_plan.declared.plan.Plan.{Plan}
 use Rattle.link_program.specs.link_plan.declared.plan.InputWord.{InputWord}
 use Rattle.link_program.specs.link_rules.Candidates as rules
@@ -31,7 +31,7 @@ members_long file w b input member offered [] = refl
 members_long file w b input member offered (s ∷ ss) = omega (arith, members_long file w b (input + 1) (member + 1) offered ss)
 
 pub many_at : (file input : ℕ) (w : InputWord) (b : List ℕ) (o : OpenFile) → length (candidates_at file input w b o) ≡ count_in o
-many_at file input w b Object = refl
+many_at file input w b (Object len) = refl
 many_at file input w b (Library l) = members_long file w b input 0 l.offered l.members
 
 pub inputs_long : (file input : ℕ) (ws : List InputWord) (bs : List (List ℕ)) (os : List OpenFile) → length ws ≡ length bs → length os ≡ length bs

@@ -5,7 +5,7 @@ use Rattle.std.proofs.Math.Seq.{take-add, take-length}
 use Rattle.std.proofs.lemmas.List.{drop-drop, take_more_set}
 use Rattle.link_program.specs.wl_fan.Slices.{Works}
 use Rattle.link_program.proofs.wl_fan_lemmas.Whole.{whole}
-use Rattle.link_program.specs.lib_rounds.declared.given.Given.{Given}
+use Rattle.link_program.specs.round_rules.declared.given.GivenObject.{GivenObject}
 use Rattle.link_inputs.specs.declared.numbering.ObjectFile.{ObjectFile}
 use Rattle.link_inputs.specs.declared.reading.ReadError.{ReadError}
 use Rattle.link_inputs.specs.Parts.{first_of}
@@ -13,7 +13,7 @@ use Rattle.link_inputs.specs.PartLaws.{first_rises, first_all, first_none}
 use Rattle.link_inputs.specs.Reading.{Reads, given_of, AreRead}
 
 abbrev Slot : Type 0
-Slot = Result Given ReadError
+Slot = Result GivenObject ReadError
 
 -- ---- ranges
 

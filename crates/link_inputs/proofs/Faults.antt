@@ -8,10 +8,10 @@ use Rattle.link_program.specs.wl_base.declared.fault.Fault.{Fault}
 use Rattle.link_program.specs.wl_base.declared.span.Span.{Span}
 use Rattle.link_program.specs.object_file.declared.object.Object.{Object}
 use Rattle.link_program.specs.object_file.ObjectOf.{object_of}
-use Rattle.link_program.specs.lib_rounds.declared.given.Given.{Given}
-use Rattle.link_program.specs.lib_rounds.declared.given.LibraryFile.{LibraryFile}
-use Rattle.link_program.specs.lib_rounds.Rounds.{Candidate, object_fault, fault_in, is_given, given_fault}
-use Rattle.link_program.specs.lib_rounds.Inputs.{members_of}
+use Rattle.link_program.specs.round_rules.declared.given.GivenObject.{GivenObject}
+use Rattle.link_program.specs.round_rules.declared.given.LibraryFile.{LibraryFile}
+use Rattle.link_program.specs.round_rules.Rounds.{Candidate, object_fault, fault_in, is_always_read, always_read_fault}
+use Rattle.link_program.specs.round_rules.Inputs.{members_of}
 use Rattle.link_program.specs.link_plan.declared.plan.InputWord.{InputWord}
 use Rattle.link_program.specs.link_rules.Candidates.{plain_candidate, members_from}
 use Rattle.link_program.specs.link_rules.LinkOf.{the_readers}
@@ -37,7 +37,7 @@ module _ (file : ℕ) (b : List ℕ) where
   -- those of a whole library are read at once, and no others
   read_whole : (place : ℕ) (lazy : Bool) (input member : ℕ) (offered : List (List ℕ × ℕ)) (ss : List Span) (rest : List Candidate)
       → (let w : InputWord = record { place = place; lazy = lazy; whole = true } in
-      filter is_given (members_from the_readers file w b input member offered ss ++ rest) ≡ members_from the_readers file w b input member offered ss ++ filter is_given rest)
+      filter is_always_read (members_from the_readers file w b input member offered ss ++ rest) ≡ members_from the_readers file w b input member offered ss ++ filter is_always_read rest)
   read_whole place lazy input member offered [] rest = refl
   read_whole place lazy input member offered (s ∷ ss) rest =
       ap (λ (cs : List Candidate). let ds : List Candidate = record {
@@ -53,7 +53,7 @@ module _ (file : ℕ) (b : List ℕ) where
 
   not_read : (place : ℕ) (lazy : Bool) (input member : ℕ) (offered : List (List ℕ × ℕ)) (ss : List Span) (rest : List Candidate)
       → (let w : InputWord = record { place = place; lazy = lazy; whole = false } in
-      filter is_given (members_from the_readers file w b input member offered ss ++ rest) ≡ filter is_given rest)
+      filter is_always_read (members_from the_readers file w b input member offered ss ++ rest) ≡ filter is_always_read rest)
   not_read place lazy input member offered [] rest = refl
   not_read place lazy input member offered (s ∷ ss) rest = not_read place lazy (input + 1) (member + 1) offered ss rest
 
@@ -68,7 +68,7 @@ none_before : (whole : List (List ℕ)) (k file input : ℕ) (ws : List InputWor
     → whole_before whole k (libraries_from file input ws os) ≡ []
 none_before whole k file input [] os lt = refl
 none_before whole k file input (w ∷ ws) [] lt = refl
-none_before whole k file input (w ∷ ws) (files.Object ∷ os) lt = none_before whole k (file + 1) (input + 1) ws os (omega (arith, lt))
+none_before whole k file input (w ∷ ws) (files.Object n ∷ os) lt = none_before whole k (file + 1) (input + 1) ws os (omega (arith, lt))
 none_before whole k file input (w ∷ ws) (files.Library l ∷ os) lt =
     let no : nat_le input k ≡ false = lt-leb input k lt in
     rw (no, and_false w.whole) (none_before whole k (file + 1) (input + length l.members) ws os (omega (arith, lt)))
@@ -77,36 +77,36 @@ none_before whole k file input (w ∷ ws) (files.Library l ∷ os) lt =
 
 -- The first object of the words that has a fault is this input, and what is known of all.
 abbrev pub Least : List (List ℕ) → ℕ → ℕ → Fault → List Candidate → List LibraryFile → Type 0
-Least whole input k f all libraries = (input ≤ k) × (given_fault all ≡ least_of (fault_of (whole_before whole k libraries)) f)
+Least whole input k f all libraries = (input ≤ k) × (always_read_fault all ≡ least_of (fault_of (whole_before whole k libraries)) f)
 
 -- the first object has a fault
-at_fault : (input k : ℕ) (f g : Fault) → (let r : Result (List Given) (ℕ × Fault) = Err (input, f) in r ≡ Err (k, g)) → (input ≡ k) × (f ≡ g)
+at_fault : (input k : ℕ) (f g : Fault) → (let r : Result (List GivenObject) (ℕ × Fault) = Err (input, f) in r ≡ Err (k, g)) → (input ≡ k) × (f ≡ g)
 at_fault input k f g e =
     let p : (let q : ℕ × Fault = (input, f) in q) ≡ (k, g) = err_is e in
     (ap (λ q. q.0) p, ap (λ q. q.1) p)
 
-rest_err : (g : Given) (k : ℕ) (f : Fault) (r : Result (List Given) (ℕ × Fault))
-    → (r >>= λ gs. (let y : Result (List Given) (ℕ × Fault) = Ok (g ∷ gs) in y)) ≡ Err (k, f) → r ≡ Err (k, f)
+rest_err : (g : GivenObject) (k : ℕ) (f : Fault) (r : Result (List GivenObject) (ℕ × Fault))
+    → (r >>= λ gs. (let y : Result (List GivenObject) (ℕ × Fault) = Ok (g ∷ gs) in y)) ≡ Err (k, f) → r ≡ Err (k, f)
 rest_err g k f (Ok gs) e = absurd cc
-rest_err g k f (Err x) e = let same : x ≡ (k, f) = err_is e in ap (λ (y : ℕ × Fault). let r : Result (List Given) (ℕ × Fault) = Err y in r) same
+rest_err g k f (Err x) e = let same : x ≡ (k, f) = err_is e in ap (λ (y : ℕ × Fault). let r : Result (List GivenObject) (ℕ × Fault) = Err y in r) same
 
 module _ (whole : List (List ℕ)) (file input : ℕ) (w : InputWord) (b : List ℕ) (k : ℕ) (f : Fault) (rest : List Candidate) (libraries : List LibraryFile)
     (objects : List ObjectFile) (none : k < input + 1 → whole_before whole k libraries ≡ [])
     (later : given_from whole objects ≡ Err (k, f) → Least whole (input + 1) k f rest libraries) where
   by_object : (r : Result Object Fault) → object_of input b ≡ r
-      → (given_by input w.lazy r >>= λ g. given_from whole objects >>= λ gs. (let y : Result (List Given) (ℕ × Fault) = Ok (g ∷ gs) in y)) ≡ Err (k, f)
+      → (given_by input w.lazy r >>= λ g. given_from whole objects >>= λ gs. (let y : Result (List GivenObject) (ℕ × Fault) = Ok (g ∷ gs) in y)) ≡ Err (k, f)
       → Least whole input k f (plain_candidate the_readers file w b input ∷ rest) libraries
   by_object (Err g) is e =
       let p = at_fault input k g f e in (
         omega (arith, p.0),
-        ap (λ (o : Option Fault). first_some (o ∷ map object_fault (filter is_given rest))) (ap fault_in is)
+        ap (λ (o : Option Fault). first_some (o ∷ map object_fault (filter is_always_read rest))) (ap fault_in is)
             ∙ ap (λ (x : Fault). Some x) p.1
             ∙ sym (ap (λ (cs : List Candidate). least_of (fault_of cs) f) (none (omega (arith, p.0)))),
       )
   by_object (Ok o) is e =
       let l = later (rest_err (record { object = o; lazy = w.lazy }) k f (given_from whole objects) e) in (
         omega (arith, l.0),
-        ap (λ (x : Option Fault). first_some (x ∷ map object_fault (filter is_given rest))) (ap fault_in is) ∙ l.1,
+        ap (λ (x : Option Fault). first_some (x ∷ map object_fault (filter is_always_read rest))) (ap fault_in is) ∙ l.1,
       )
 
 -- a library that is loaded whole, and one that isn't
@@ -128,7 +128,7 @@ module _ (whole : List (List ℕ)) (file input : ℕ) (b : List ℕ) (is : file_
       let own : members_of whole (this true) ≡ ms = library_members whole file input (word true) b l is in (
         omega (arith, later.0),
         ap fault_of (read_whole file b place lazy input 0 l.offered l.members rest)
-            ∙ fault_both ms (filter is_given rest)
+            ∙ fault_both ms (filter is_always_read rest)
             ∙ ap (or_else (fault_of ms)) later.1
             ∙ sym (least_both (fault_of ms) (fault_of (whole_before whole k libraries)) f)
             ∙ ap (λ (x : Option Fault). least_of x f) (sym (fault_both ms (whole_before whole k libraries)))
@@ -143,13 +143,13 @@ pub least_is : (whole : List (List ℕ)) (file input : ℕ) (ws : List InputWord
 least_is whole file input [] bs os k f at same are e = absurd cc
 least_is whole file input (w ∷ ws) [] os k f at same are e = absurd (omega (arith, same))
 least_is whole file input (w ∷ ws) (b ∷ bs) [] k f at same are e = absurd are
-least_is whole file input (w ∷ ws) (b ∷ bs) (files.Object ∷ os) k f at same are e =
+least_is whole file input (w ∷ ws) (b ∷ bs) (files.Object n ∷ os) k f at same are e =
     by_object whole file input w b k f (inputs_from (file + 1) (input + 1) ws bs os) (libraries_from (file + 1) (input + 1) ws os)
     (objects_from (file + 1) (input + 1) ws os) (λ lt. none_before whole k (file + 1) (input + 1) ws os lt)
     (λ err. least_is whole (file + 1) (input + 1) ws bs os k f (behind_rest whole file b bs at) (omega (arith, same)) are.1 err)
     (object_of input b) refl
     (ap (λ (x : List ℕ). given_by input w.lazy (object_of input x) >>= λ g. given_from whole
-    (objects_from (file + 1) (input + 1) ws os) >>= λ gs. (let y : Result (List Given) (ℕ × Fault) = Ok (g ∷ gs) in y)) (sym (file_is whole file b bs at)) ∙ e)
+    (objects_from (file + 1) (input + 1) ws os) >>= λ gs. (let y : Result (List GivenObject) (ℕ × Fault) = Ok (g ∷ gs) in y)) (sym (file_is whole file b bs at)) ∙ e)
 least_is whole file input (w ∷ ws) (b ∷ bs) (files.Library l ∷ os) k f at same are e =
     by_whole whole file input b (file_is whole file b bs at) w.place w.lazy l k f (inputs_from (file + 1) (input + length l.members) ws bs os)
     (libraries_from (file + 1) (input + length l.members) ws os)

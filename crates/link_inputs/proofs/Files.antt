@@ -1,5 +1,5 @@
 -- Files that are opened, as a relation.
-use Rattle.std.proofs.Common.{◌≡◌, ◌∙◌, ◌+◌, ◌≤◌, ℕ, Bool, true, false, List, [], ◌∷◌, ◌++◌, length, Result, Ok, Err, refl, ap, arith}
+use Rattle.std.proofs.Common.{◌≡◌, ◌∙◌, ◌+◌, ◌≤◌, ℕ, Bool, true, false, List, [], ◌∷◌, ◌++◌, length, Result, Ok, Err, refl, sym, ap, arith}
 use Rattle.std.proofs.lemmas.List.Sums.{sum_by-cons}
 use Rattle.link_program.specs.wl_base.Choice.{◌>>=◌}
 use Rattle.link_program.specs.wl_base.declared.fault.Fault.{Fault}
@@ -18,7 +18,7 @@ use Rattle.link_inputs.proofs.Binds.{bind_ok, ok_is}
 
 -- What a file is.
 abbrev pub IsOpened : List ℕ → OpenFile → Type 0
-IsOpened bytes Object = is_library bytes ≡ false
+IsOpened bytes (Object len) = (is_library bytes ≡ false) × (len ≡ length bytes)
 IsOpened bytes (Library l) = IsLibrary l bytes
 
 abbrev pub AreOpened : List (List ℕ) → List OpenFile → Type 0
@@ -28,12 +28,12 @@ AreOpened (b ∷ bs) [] = ⊥
 AreOpened (b ∷ bs) (o ∷ os) = IsOpened b o × AreOpened bs os
 
 library_is : (file : ℕ) (bytes : List ℕ) (r : Result Contents LibFault) (o : OpenFile) → library_of bytes ≡ r → library_file file r ≡ Ok o → IsOpened bytes o
-library_is file bytes (Ok l) Object e is = absurd cc
+library_is file bytes (Ok l) (Object len) e is = absurd cc
 library_is file bytes (Ok l) (Library m) e is = let same : l ≡ m = cc in library_found bytes m (e ∙ ap (λ (x : Contents). let r : Result Contents LibFault = Ok x in r) same)
 library_is file bytes (Err f) o e is = absurd cc
 
 opened_is : (file : ℕ) (bytes : List ℕ) (k : Bool) (o : OpenFile) → is_library bytes ≡ k → opened_as file bytes k ≡ Ok o → IsOpened bytes o
-opened_is file bytes false Object e is = e
+opened_is file bytes false (Object len) e is = let same : length bytes ≡ len = cc in (e, sym same)
 opened_is file bytes false (Library l) e is = absurd cc
 opened_is file bytes true o e is = library_is file bytes (library_of bytes) o refl is
 
@@ -65,7 +65,7 @@ rest_few b rest begins = omega (arith, ap (λ (xs : List ℕ). length xs) begins
 
 -- a file has as many inputs as bytes at most, or one
 few_in : (b : List ℕ) (o : OpenFile) → IsOpened b o → count_in o ≤ 1 + length b
-few_in b Object is = omega arith
+few_in b (Object len) is = omega arith
 few_in b (Library l) is =
     let few = members_few (length b) is.all is.rest (rest_few b is.rest is.begins) is.cut in
     omega (arith, few, rest_few b is.rest is.begins, headers_few is.all, spans_many is.all, ap (λ xs. length xs) is.holds)

@@ -10,7 +10,7 @@ use Rattle.link_program.specs.object_file.Sound.{Sound}
 use Rattle.link_program.proofs.object_file_lemmas.Read.{object_found}
 use Rattle.link_program.proofs.object_file_lemmas.SoundObject.{input_is, read_is_sound}
 use Rattle.link_program.specs.made_symbols.declared.mode.Mode.{Mode}
-use Rattle.link_program.specs.lib_rounds.Rounds.{Candidate, object_in, objects_of, is_loaded, at_once, given_fault, rounds, loaded_inputs, load}
+use Rattle.link_program.specs.round_rules.Rounds.{Candidate, object_in, objects_of, is_loaded, at_once, always_read_fault, rounds, loaded_inputs, load}
 use Rattle.link_program.specs.name_entries.View.{InputsRise}
 use Rattle.link_program.specs.declared.home.Home.{Home}
 use Rattle.link_program.specs.Loaded.{home_of, IsReadFrom, IsLoaded}
@@ -28,7 +28,7 @@ load_of mode asked all objects e =
     (r.0, sym (ok_is r.2))
 
 -- a fault of what is read at once is told
-pub load_refused : (mode : Mode) (asked : List (List ℕ)) (all : List Candidate) (f : Fault) → given_fault all ≡ Some f → load mode asked all ≡ Err f
+pub load_refused : (mode : Mode) (asked : List (List ℕ)) (all : List Candidate) (f : Fault) → always_read_fault all ≡ Some f → load mode asked all ≡ Err f
 unfolding load
 load_refused mode asked all f e =
     ap (λ (t : Option Fault). (unless t (at_once all) >>= rounds mode asked all (length all + 1)) >>= λ loaded. (let y : Result (List Object) Fault = Ok (objects_of all loaded) in y)) e

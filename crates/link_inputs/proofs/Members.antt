@@ -10,12 +10,13 @@ use Rattle.link_program.specs.wl_base.declared.span.Span.{Span}
 use Rattle.link_program.specs.object_file.ObjectOf.{object_of}
 use Rattle.link_program.specs.lib_index.Library.{bytes_of}
 use Rattle.link_program.proofs.lib_index_lemmas.LibraryLaws.{library_within}
-use Rattle.link_program.specs.lib_rounds.declared.given.LibraryFile.{LibraryFile}
-use Rattle.link_program.specs.lib_rounds.Rounds.{Candidate, object_fault, fault_in}
-use Rattle.link_program.specs.lib_rounds.Inputs.{IsRead, members_from}
-use Rattle.link_inputs.specs.declared.fault.InputError.{InputError}
-use Rattle.link_inputs.specs.declared.fault.InputError.TheVariants.{Refused, OutOfMemory}
-use Rattle.link_inputs.specs.Reading.{file_at, fault_of, FailsBy, early_members, whole_before}
+use Rattle.link_program.specs.round_rules.declared.given.LibraryFile.{LibraryFile}
+use Rattle.link_program.specs.round_rules.Rounds.{Candidate, object_fault, fault_in}
+use Rattle.link_program.specs.round_rules.Inputs.{IsRead, members_from}
+use Rattle.link_program.specs.declared.error.LinkError.{LinkError}
+use Rattle.link_program.specs.declared.error.LinkError.TheVariants.{Refused, OutOfMemory}
+use Rattle.link_program.specs.Answers.{Stops}
+use Rattle.link_inputs.specs.Reading.{file_at, fault_of, early_members, whole_before}
 
 -- a list from a place on, by what stands there
 from_place : {X : Type 0} (xs : List X) (i : ℕ) (x : X) → Some x ≡ slice_get xs i → drop i xs ≡ x ∷ drop (i + 1) xs
@@ -62,7 +63,7 @@ module _ (l : LibraryFile) (b : List ℕ) (m : ℕ) (s : Span) (at : Some s ≡ 
       let n : l.first + (m + 1) ≡ l.first + m + 1 = omega arith in
       ap (λ (k : ℕ). fault_of (members_from l b k (m + 1) (drop (m + 1) l.library.members))) n ∙ sym (first_is here (map object_fault later) none) ∙ split
 
-  pub fails : (e : InputError) → FailsBy e here → FailsBy e total
+  pub fails : (e : LinkError) → Stops e here → Stops e total
   fails (Refused f) is = sym split ∙ first_fault here (map object_fault later) f is
   fails OutOfMemory is = tt
 
@@ -107,6 +108,6 @@ module _ (files : List (List ℕ)) (input : ℕ) (ls : List LibraryFile) (at : �
   pub library_goes_on : one ≡ None → fault_of (whole_before files input (drop (at + 1) ls)) ≡ total
   library_goes_on none = sym (or_none one (fault_of (whole_before files input (drop (at + 1) ls))) none) ∙ parted
 
-  pub library_fails : (e : InputError) → FailsBy e one → FailsBy e total
+  pub library_fails : (e : LinkError) → Stops e one → Stops e total
   library_fails (Refused f) is = sym parted ∙ or_fault one (fault_of (whole_before files input (drop (at + 1) ls))) f is
   library_fails OutOfMemory is = tt

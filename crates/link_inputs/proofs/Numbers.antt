@@ -6,7 +6,7 @@ use Rattle.std.specs.Prelude.{map, slice_get}
 use Rattle.link_program.specs.wl_base.declared.span.Span.{Span}
 use Rattle.link_program.specs.lib_index.Library.{Contents}
 use Rattle.link_program.specs.link_plan.declared.plan.InputWord.{InputWord}
-use Rattle.link_program.specs.lib_rounds.declared.given.LibraryFile.{LibraryFile}
+use Rattle.link_program.specs.round_rules.declared.given.LibraryFile.{LibraryFile}
 use Rattle.link_program.specs.declared.home.Home.{Home}
 use Rattle.link_inputs.specs.declared.numbering.ObjectFile.{ObjectFile}
 use Rattle.link_inputs.specs.declared.numbering.Sources.{Sources}
@@ -82,10 +82,10 @@ home_next {Y = Y} f (y ∷ ys) (suc m) x e =
     home_next f ys m x e ∙ ap (λ (zs : List Y). let all : List Y = f x ∷ zs in all) (sym (ap (λ (k : ℕ). drop k (let zs : List Y = f y ∷ map f ys in zs)) n))
 
 pub home_more : (file member : ℕ) (l : Contents) (s : Span) (old new total : List Home) → Some s ≡ slice_get l.members member
-    → new ≡ old ++ record { file = file; start = s.start } ∷ []
+    → new ≡ old ++ record { file = file; start = s.start; len = s.len } ∷ []
     → old ++ drop member (homes_in file (Library l)) ≡ total → new ++ drop (member + 1) (homes_in file (Library l)) ≡ total
 home_more file member l s old new total at is so_far =
     ap (λ (hs : List Home). hs ++ drop (member + 1) (homes_in file (Library l))) is
-    ∙ append_assoc old (record { file = file; start = s.start } ∷ []) (drop (member + 1) (homes_in file (Library l)))
-    ∙ ap (λ (hs : List Home). old ++ hs) (sym (home_next (λ (s : Span). let h : Home = record { file = file; start = s.start } in h) l.members member s at))
+    ∙ append_assoc old (record { file = file; start = s.start; len = s.len } ∷ []) (drop (member + 1) (homes_in file (Library l)))
+    ∙ ap (λ (hs : List Home). old ++ hs) (sym (home_next (λ (s : Span). let h : Home = record { file = file; start = s.start; len = s.len } in h) l.members member s at))
     ∙ so_far

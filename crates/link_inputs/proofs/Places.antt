@@ -6,7 +6,7 @@ use Rattle.std.proofs.lemmas.List.Elements.{All-head, All-tail}
 use Rattle.link_program.specs.wl_base.declared.span.Span.{Span}
 use Rattle.link_program.specs.object_file.ObjectOf.{object_of}
 use Rattle.link_program.proofs.lib_index_lemmas.LibraryLaws.{library_within}
-use Rattle.link_program.specs.lib_rounds.Rounds.{Candidate}
+use Rattle.link_program.specs.round_rules.Rounds.{Candidate}
 use Rattle.link_program.specs.link_plan.declared.plan.InputWord.{InputWord}
 use Rattle.link_program.specs.link_rules.Candidates.{members_from}
 use Rattle.link_program.specs.link_rules.LinkOf.{the_readers}
@@ -89,7 +89,7 @@ module _ (whole : List (List ℕ)) (file : ℕ) (w : InputWord) (b : List ℕ) (
   )
 
   file_placed : (input : ℕ) (o : OpenFile) → IsOpened b o → Placed whole input (candidates_at file input w b o)
-  file_placed input ObjectFile opened = (
+  file_placed input (ObjectFile n) opened = (
     refl,
     record { bytes = b; long = refl; object = refl; file = within; lies = omega (arith, ap (λ (x : List ℕ). length x) is) },
     tt,

@@ -9,29 +9,29 @@ use Rattle.link_program.specs.wl_base.declared.fault.Fault.{Fault}
 use Rattle.link_program.specs.wl_base.declared.fault.Fault.TheVariants.{TooManyInputs}
 use Rattle.link_program.specs.made_symbols.declared.mode.Mode.{Mode}
 use Rattle.link_program.specs.made_symbols.declared.mode.Mode.TheVariants.{Plain}
-use Rattle.link_program.specs.lib_rounds.declared.given.Given.{Given}
-use Rattle.link_program.specs.lib_rounds.declared.given.LibraryFile.{LibraryFile}
-use Rattle.link_program.specs.lib_rounds.Rounds.{Candidate, given_fault, load}
-use Rattle.link_program.specs.lib_rounds.Inputs.{AreCandidates, IsRead}
+use Rattle.link_program.specs.round_rules.declared.given.GivenObject.{GivenObject}
+use Rattle.link_program.specs.round_rules.declared.given.LibraryFile.{LibraryFile}
+use Rattle.link_program.specs.round_rules.Rounds.{Candidate, always_read_fault, load}
+use Rattle.link_program.specs.round_rules.Inputs.{AreCandidates, IsRead}
 use Rattle.link_program.specs.link_plan.Plan.{IsPlan}
 use Rattle.link_program.specs.link_plan.declared.plan.Plan.{Plan}
 use Rattle.link_program.specs.link_plan.declared.plan.InputWord.{InputWord}
 use Rattle.link_program.specs.link_rules.Candidates.{plain_word, words_for, too_much_input, candidates_of}
 use Rattle.link_program.specs.link_rules.LinkOf.{asked_names, the_readers}
 use Rattle.link_program.specs.Loaded.{given_or_none, the_candidates, home_of, IsLoaded}
-use Rattle.link_inputs.specs.declared.fault.InputError.{InputError}
-use Rattle.link_inputs.specs.declared.fault.InputError.TheVariants.{Refused, OutOfMemory}
+use Rattle.link_program.specs.declared.error.LinkError.{LinkError}
+use Rattle.link_program.specs.declared.error.LinkError.TheVariants.{Refused, OutOfMemory}
 use Rattle.link_inputs.specs.declared.inputs.Inputs.{Inputs}
 use Rattle.link_inputs.specs.declared.numbering.ObjectFile.{ObjectFile}
 use Rattle.link_inputs.specs.declared.numbering.Sources.{Sources}
 use Rattle.link_inputs.specs.declared.opening.OpenFile.{OpenFile}
 use Rattle.link_inputs.specs.declared.reading.ReadError.{ReadError}
 use Rattle.link_inputs.specs.declared.reading.ReadError.TheVariants as errors
-use Rattle.link_inputs.specs.Answers.{Fails, Answers}
+use Rattle.link_program.specs.Answers.{Fails, Stops, Answers}
 use Rattle.link_inputs.specs.Opened.{opened_from, opened_files, input_count, too_many}
 use Rattle.link_inputs.specs.Words.{words_by, words_of}
 use Rattle.link_inputs.specs.Sources.{objects_from, libraries_from, AreSources}
-use Rattle.link_inputs.specs.Reading.{Reads, given_from, FitIn, FailsBy, fault_of, whole_before, least_of, IsLeast}
+use Rattle.link_inputs.specs.Reading.{Reads, given_from, FitIn, fault_of, whole_before, least_of, IsLeast}
 use Rattle.link_inputs.specs.Inputs.{loaded_of, inputs_from}
 use Rattle.link_inputs.specs.Loaded.{AreInputs, LoadedAreSound}
 use Rattle.link_inputs.specs.Steps.{or_none, all_opened, all_inputs, Sourced, LoadsAll}
@@ -124,10 +124,10 @@ module _ (plan : Plan) (files : List (List ℕ)) (s : Sources) (h : Sourced plan
       let at : slice_get (objects_from 0 1 ws os) i ≡ Some o = subst (λ (xs : List ObjectFile). slice_get xs i ≡ Some o) (is ∙ h.are.objects) e in
       omega (arith, fit_from 0 1 ws os i o at, opened_long files os are)
 
-  given_all : (gs : List Given) (objects : List ObjectFile) → objects ≡ s.objects → given_from files objects ≡ Ok gs → given_from files (objects_from 0 1 ws os) ≡ Ok gs
+  given_all : (gs : List GivenObject) (objects : List ObjectFile) → objects ≡ s.objects → given_from files objects ≡ Ok gs → given_from files (objects_from 0 1 ws os) ≡ Ok gs
   given_all gs objects is e = subst (λ (xs : List ObjectFile). given_from files xs ≡ Ok gs) (is ∙ h.are.objects) e
 
-  pub candidates : (gs : List Given) (objects : List ObjectFile) (libraries : List LibraryFile) → objects ≡ s.objects → libraries ≡ s.libraries
+  pub candidates : (gs : List GivenObject) (objects : List ObjectFile) (libraries : List LibraryFile) → objects ≡ s.objects → libraries ≡ s.libraries
       → given_from files objects ≡ Ok gs → AreCandidates all gs libraries files
   candidates gs objects libraries is same e = subst (λ (ls : List LibraryFile). AreCandidates all gs ls files) (sym (same ∙ h.are.libraries)) (record {
     numbered = λ i c at. omega (arith, numbered files 1 all placed i c at);
@@ -147,23 +147,23 @@ module _ (plan : Plan) (files : List (List ℕ)) (s : Sources) (h : Sourced plan
   pub homes_all : s.homes ≡ map home_of all
   homes_all = h.are.homes ∙ homes_are 0 1 ws files os h.words are
 
-  fails_all : (mode : Mode) (asked : List (List ℕ)) (e : InputError) → FailsBy e (given_fault all) → Fails e (load mode asked all)
+  fails_all : (mode : Mode) (asked : List (List ℕ)) (e : LinkError) → Stops e (always_read_fault all) → Fails e (load mode asked all)
   fails_all mode asked (Refused f) is = load_refused mode asked all f is
   fails_all mode asked OutOfMemory is = tt
 
-  pub refused : (mode : Mode) (asked : List (List ℕ)) (objects : List ObjectFile) (libraries : List LibraryFile) (k : ℕ) (f : Fault) (e : InputError)
+  pub refused : (mode : Mode) (asked : List (List ℕ)) (objects : List ObjectFile) (libraries : List LibraryFile) (k : ℕ) (f : Fault) (e : LinkError)
       → objects ≡ s.objects → libraries ≡ s.libraries → given_from files objects ≡ Err (k, f)
-      → FailsBy e (least_of (fault_of (whole_before files k libraries)) f) → Fails e (load mode asked all)
+      → Stops e (least_of (fault_of (whole_before files k libraries)) f) → Fails e (load mode asked all)
   refused mode asked objects libraries k f e is same err by =
       let at : given_from files (objects_from 0 1 ws os) ≡ Err (k, f) = subst (λ (xs : List ObjectFile). given_from files xs ≡ Err (k, f)) (is ∙ h.are.objects) err in
       let l = least_is files 0 1 ws files os k f refl h.words are at in
-      fails_all mode asked e (subst (FailsBy e) (sym l.1) (subst (λ (ls : List LibraryFile). FailsBy e (least_of (fault_of (whole_before files k ls)) f)) (same ∙ h.are.libraries) by))
+      fails_all mode asked e (subst (Stops e) (sym l.1) (subst (λ (ls : List LibraryFile). Stops e (least_of (fault_of (whole_before files k ls)) f)) (same ∙ h.are.libraries) by))
 
-  pub refused_by : (mode : Mode) (asked : List (List ℕ)) (objects : List ObjectFile) (libraries : List LibraryFile) (first : ReadError) (e : InputError)
-      → objects ≡ s.objects → libraries ≡ s.libraries → (let r : Result (List Given) ReadError = Err first in Reads r (given_from files objects))
+  pub refused_by : (mode : Mode) (asked : List (List ℕ)) (objects : List ObjectFile) (libraries : List LibraryFile) (first : ReadError) (e : LinkError)
+      → objects ≡ s.objects → libraries ≡ s.libraries → (let r : Result (List GivenObject) ReadError = Err first in Reads r (given_from files objects))
       → IsLeast e files libraries first → Fails e (load mode asked all)
   refused_by mode asked objects libraries (errors.Refused k f) e is same err by = refused mode asked objects libraries k f e is same err by
-  refused_by mode asked objects libraries errors.OutOfMemory e is same err by = subst (λ (x : InputError). Fails x (load mode asked all)) (sym by) tt
+  refused_by mode asked objects libraries errors.OutOfMemory e is same err by = subst (λ (x : LinkError). Fails x (load mode asked all)) (sym by) tt
 
   -- all candidates are these
   pub candidates_all : opened_files files ≡ Ok os → candidates_of the_readers plan files ≡ Ok all
@@ -188,7 +188,7 @@ sourced plan files opened s e same few are =
     }
 
 -- files that can't be opened
-pub refused_early : (mode : Mode) (plan : Plan) (files : List (List ℕ)) (e : InputError) → length files ≡ unwrap_or plan.make_case (length plan.inputs)
+pub refused_early : (mode : Mode) (plan : Plan) (files : List (List ℕ)) (e : LinkError) → length files ≡ unwrap_or plan.make_case (length plan.inputs)
     → Fails e (opened_files files) → Fails e (loaded_of mode plan files)
 unfolding loaded_of
 refused_early mode plan files (Refused f) same is =
@@ -209,12 +209,12 @@ module _ (plan : Plan) (files : List (List ℕ)) (opened : List OpenFile) (s : S
   unfolding loaded_of
   steps = ap (λ (r : Result (List Candidate) Fault). r >>= λ all. load Plain (asked_names plan) all) told
 
-  pub exact : (r : Result Inputs InputError) → LoadsAll r plan files → Answers (λ i. i.loaded) r (loaded_of Plain plan files)
+  pub exact : (r : Result Inputs LinkError) → LoadsAll r plan files → Answers (λ i. i.loaded) r (loaded_of Plain plan files)
   exact (Ok i) l = steps ∙ l.0
   exact (Err (Refused f)) l = steps ∙ l
   exact (Err OutOfMemory) l = tt
 
-  pub found : (r : Result Inputs InputError) → LoadsAll r plan files → IfOk r (AreInputs Plain plan files)
+  pub found : (r : Result Inputs LinkError) → LoadsAll r plan files → IfOk r (AreInputs Plain plan files)
   found (Ok i) l =
       let is : all_inputs plan files ≡ the_candidates plan files = sym (ap given_or_none told) in
       record {

@@ -4,7 +4,7 @@ use Rattle.link_program.specs.wl_base.Choice.{◌>>=◌}
 use Rattle.link_program.specs.wl_base.declared.fault.Fault.{Fault}
 use Rattle.link_program.specs.object_file.declared.object.Object.{Object}
 use Rattle.link_program.specs.made_symbols.declared.mode.Mode.{Mode}
-use Rattle.link_program.specs.lib_rounds.Rounds.{Candidate, load}
+use Rattle.link_program.specs.round_rules.Rounds.{Candidate, load}
 use Rattle.link_program.specs.link_plan.declared.plan.Plan.{Plan}
 use Rattle.link_program.specs.link_plan.declared.plan.InputWord.{InputWord}
 use Rattle.link_program.specs.link_rules.Candidates.{plain_candidate, members_from, candidates_of}
@@ -23,7 +23,7 @@ loaded_of mode plan files = do
 
 -- Those of a file, by its place, its first input and its word.
 abbrev pub candidates_at : ℕ → ℕ → InputWord → List ℕ → OpenFile → List Candidate
-candidates_at file input w bytes files.Object = plain_candidate the_readers file w bytes input ∷ []
+candidates_at file input w bytes (files.Object len) = plain_candidate the_readers file w bytes input ∷ []
 candidates_at file input w bytes (files.Library l) = members_from the_readers file w bytes input 0 l.offered l.members
 
 -- Those of the files from a place on.

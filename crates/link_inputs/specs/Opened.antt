@@ -17,7 +17,7 @@ library_file file (Err fault) = Err (BadLibrary file fault)
 
 -- The file at this place, by whether it is a library.
 abbrev pub opened_as : ℕ → List ℕ → Bool → Result OpenFile Fault
-opened_as file bytes false = Ok Object
+opened_as file bytes false = Ok (Object (length bytes))
 opened_as file bytes true = library_file file (library_of bytes)
 
 abbrev pub opened_file : ℕ → List ℕ → Result OpenFile Fault
@@ -34,7 +34,7 @@ opened_from file (bytes ∷ files) = do
 -- ---- how many inputs
 
 abbrev pub count_in : OpenFile → ℕ
-count_in Object = 1
+count_in (Object len) = 1
 count_in (Library l) = length l.members
 
 abbrev pub input_count : List OpenFile → ℕ

@@ -4,15 +4,16 @@ use Rattle.link_program.specs.wl_base.Choice.{first_some, ◌>>=◌}
 use Rattle.link_program.specs.wl_base.declared.fault.Fault.{Fault}
 use Rattle.link_program.specs.object_file.declared.object.Object.{Object}
 use Rattle.link_program.specs.object_file.ObjectOf.{object_of}
-use Rattle.link_program.specs.lib_rounds.declared.given.Given.{Given}
-use Rattle.link_program.specs.lib_rounds.declared.given.LibraryFile.{LibraryFile}
-use Rattle.link_program.specs.lib_rounds.Rounds.{Candidate, object_fault}
-use Rattle.link_program.specs.lib_rounds.Inputs.{members_of}
+use Rattle.link_program.specs.round_rules.declared.given.GivenObject.{GivenObject}
+use Rattle.link_program.specs.round_rules.declared.given.LibraryFile.{LibraryFile}
+use Rattle.link_program.specs.round_rules.Rounds.{Candidate, object_fault}
+use Rattle.link_program.specs.round_rules.Inputs.{members_of}
 use Rattle.link_inputs.specs.declared.numbering.ObjectFile.{ObjectFile}
 use Rattle.link_inputs.specs.declared.reading.ReadError.{ReadError}
 use Rattle.link_inputs.specs.declared.reading.ReadError.TheVariants as errors
-use Rattle.link_inputs.specs.declared.fault.InputError.{InputError}
-use Rattle.link_inputs.specs.declared.fault.InputError.TheVariants.{Refused, OutOfMemory}
+use Rattle.link_program.specs.declared.error.LinkError.{LinkError}
+use Rattle.link_program.specs.declared.error.LinkError.TheVariants.{OutOfMemory}
+use Rattle.link_program.specs.Answers.{Stops}
 
 -- ---- objects of the words
 
@@ -25,15 +26,15 @@ abbrev pub FitIn : List (List ℕ) → List ObjectFile → Type 0
 FitIn files objects = (i : ℕ) (o : ObjectFile) → slice_get objects i ≡ Some o → o.file < length files
 
 -- The object that is read, or the input and its fault.
-abbrev pub given_by : ℕ → Bool → Result Object Fault → Result Given (ℕ × Fault)
+abbrev pub given_by : ℕ → Bool → Result Object Fault → Result GivenObject (ℕ × Fault)
 given_by input lazy (Ok object) = Ok (record { object = object; lazy = lazy })
 given_by input lazy (Err fault) = Err (input, fault)
 
-abbrev pub given_of : List (List ℕ) → ObjectFile → Result Given (ℕ × Fault)
+abbrev pub given_of : List (List ℕ) → ObjectFile → Result GivenObject (ℕ × Fault)
 given_of files o = given_by o.input o.lazy (object_of o.input (file_at files o.file))
 
 -- All of them, or the first that is none.
-abbrev pub given_from : List (List ℕ) → List ObjectFile → Result (List Given) (ℕ × Fault)
+abbrev pub given_from : List (List ℕ) → List ObjectFile → Result (List GivenObject) (ℕ × Fault)
 given_from files [] = Ok []
 given_from files (o ∷ os) = do
   g ← given_of files o
@@ -47,7 +48,7 @@ Reads (Err (errors.Refused input fault)) said = said ≡ Err (input, fault)
 Reads (Err errors.OutOfMemory) said = Unit {0}
 
 -- a slot for each object
-abbrev pub AreRead : List (List ℕ) → List ObjectFile → List (Result Given ReadError) → Type 0
+abbrev pub AreRead : List (List ℕ) → List ObjectFile → List (Result GivenObject ReadError) → Type 0
 AreRead files [] [] = Unit {0}
 AreRead files [] (s ∷ ss) = ⊥
 AreRead files (o ∷ os) [] = ⊥
@@ -66,21 +67,12 @@ whole_before files input libraries = flat_map (early_members files input) librar
 abbrev pub fault_of : List Candidate → Option Fault
 fault_of cs = first_some (map object_fault cs)
 
--- What a call that looks for a fault answers.
-abbrev pub FailsBy : InputError → Option Fault → Type 0
-FailsBy (Refused fault) said = said ≡ Some fault
-FailsBy OutOfMemory said = Unit {0}
-
-abbrev pub Finds : {A : Type 0} → Result A InputError → Option Fault → Type 0
-Finds (Ok done) said = said ≡ None
-Finds (Err e) said = FailsBy e said
-
 -- the one that is found, or else this one
 abbrev pub least_of : Option Fault → Fault → Option Fault
 least_of None fault = Some fault
 least_of (Some found) fault = Some found
 
 -- Why the inputs aren't loaded, by why the first object of the words isn't read.
-abbrev pub IsLeast : InputError → List (List ℕ) → List LibraryFile → ReadError → Type 0
-IsLeast e files libraries (errors.Refused input fault) = FailsBy e (least_of (fault_of (whole_before files input libraries)) fault)
+abbrev pub IsLeast : LinkError → List (List ℕ) → List LibraryFile → ReadError → Type 0
+IsLeast e files libraries (errors.Refused input fault) = Stops e (least_of (fault_of (whole_before files input libraries)) fault)
 IsLeast e files libraries errors.OutOfMemory = e ≡ OutOfMemory

@@ -1,6 +1,6 @@
--- The files as numbered inputs: the objects of the words, the libraries, and where each input begins.
+-- The files as numbered inputs: the objects of the words, the libraries, and where each input stands.
 use Rattle.std.specs.Prelude.{◌≡◌, ℕ, ◌+◌, List, [], ◌∷◌, ◌++◌, map}
-use Rattle.link_program.specs.lib_rounds.declared.given.LibraryFile.{LibraryFile}
+use Rattle.link_program.specs.round_rules.declared.given.LibraryFile.{LibraryFile}
 use Rattle.link_program.specs.link_plan.declared.plan.InputWord.{InputWord}
 use Rattle.link_program.specs.declared.home.Home.{Home}
 use Rattle.link_inputs.specs.declared.numbering.ObjectFile.{ObjectFile}
@@ -12,17 +12,17 @@ use Rattle.link_inputs.specs.Opened.{count_in}
 -- ---- of a file, by its place, its first input and its word
 
 abbrev pub objects_in : ℕ → ℕ → InputWord → OpenFile → List ObjectFile
-objects_in file input w Object = record { file = file; input = input; lazy = w.lazy } ∷ []
+objects_in file input w (Object len) = record { file = file; input = input; lazy = w.lazy } ∷ []
 objects_in file input w (Library l) = []
 
 abbrev pub libraries_in : ℕ → ℕ → InputWord → OpenFile → List LibraryFile
-libraries_in file input w Object = []
+libraries_in file input w (Object len) = []
 libraries_in file input w (Library l) = record { file = file; first = input; whole = w.whole; library = l } ∷ []
 
--- An object begins with its file, a member with its data.
+-- An object has all of its file, a member its data.
 abbrev pub homes_in : ℕ → OpenFile → List Home
-homes_in file Object = record { file = file; start = 0 } ∷ []
-homes_in file (Library l) = map (λ s. record { file = file; start = s.start }) l.members
+homes_in file (Object len) = record { file = file; start = 0; len = len } ∷ []
+homes_in file (Library l) = map (λ s. record { file = file; start = s.start; len = s.len }) l.members
 
 pub record IsAdded (file input : ℕ) (w : InputWord) (o : OpenFile) (old new : Sources) : Type 0 where
   pub objects : new.objects ≡ old.objects ++ objects_in file input w o

@@ -1,14 +1,14 @@
 -- What the steps of the call tell one another.
 use Rattle.std.specs.Prelude.{◌≡◌, ◌<◌, ◌^◌, ℕ, List, [], length, map, Result, Ok, Err}
 use Rattle.link_program.specs.made_symbols.declared.mode.Mode.TheVariants.{Plain}
-use Rattle.link_program.specs.lib_rounds.Rounds.{Candidate, load}
+use Rattle.link_program.specs.round_rules.Rounds.{Candidate, load}
 use Rattle.link_program.specs.link_plan.declared.plan.Plan.{Plan}
 use Rattle.link_program.specs.link_rules.LinkOf.{asked_names}
-use Rattle.link_inputs.specs.declared.fault.InputError.{InputError}
+use Rattle.link_program.specs.declared.error.LinkError.{LinkError}
 use Rattle.link_inputs.specs.declared.inputs.Inputs.{Inputs}
 use Rattle.link_inputs.specs.declared.numbering.Sources.{Sources}
 use Rattle.link_inputs.specs.declared.opening.OpenFile.{OpenFile}
-use Rattle.link_inputs.specs.Answers.{Fails}
+use Rattle.link_program.specs.Answers.{Fails}
 use Rattle.link_inputs.specs.Opened.{opened_from, input_count}
 use Rattle.link_inputs.specs.Words.{words_of}
 use Rattle.link_inputs.specs.Sources.{AreSources}
@@ -36,6 +36,6 @@ pub record Sourced (plan : Plan) (files : List (List ℕ)) (s : Sources) : Type 
   pub are : AreSources (words_of plan (length files)) (all_opened files) s
 
 -- What is loaded of all inputs, and their homes; or the first fault.
-abbrev pub LoadsAll : Result Inputs InputError → Plan → List (List ℕ) → Type 0
+abbrev pub LoadsAll : Result Inputs LinkError → Plan → List (List ℕ) → Type 0
 LoadsAll (Ok i) plan files = (load Plain (asked_names plan) (all_inputs plan files) ≡ Ok i.loaded) × (i.homes ≡ map home_of (all_inputs plan files))
 LoadsAll (Err e) plan files = Fails e (load Plain (asked_names plan) (all_inputs plan files))

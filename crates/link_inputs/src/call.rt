@@ -1,25 +1,24 @@
 //! From files to loaded objects.
 ghost use Rattle.std.specs.Prelude.{◌≡◌, ◌<◌, ◌≤◌, ◌^◌, ℕ, All, List, Ok, IfOk, length, unwrap_or};
 ghost use Rattle.link_program.specs.made_symbols.declared.mode.Mode.TheVariants.{Plain};
-ghost use Rattle.link_program.specs.lib_rounds.Rounds.{Candidate, load};
-ghost use Rattle.link_program.specs.lib_rounds.Inputs.{AreCandidates, IsRead};
+ghost use Rattle.link_program.specs.round_rules.Rounds.{Candidate, load};
+ghost use Rattle.link_program.specs.round_rules.Inputs.{AreCandidates, IsRead};
 ghost use Rattle.link_program.specs.link_plan.Plan.{IsPlan};
 ghost use Rattle.link_program.specs.link_rules.LinkOf.{asked_names, mode_of};
-ghost use Rattle.link_inputs.specs.Answers.{Answers};
+ghost use Rattle.link_program.specs.Answers.{Answers};
 ghost use Rattle.link_inputs.specs.Inputs.{loaded_of};
 ghost use Rattle.link_inputs.specs.Loaded.{AreInputs};
 ghost use Rattle.link_inputs.specs.Steps.{all_inputs, Sourced, LoadsAll};
 
-use crate::asking::asked_names;
-use crate::fault::InputError;
 use crate::inputs::Inputs;
 use crate::numbering::{Sources, number_inputs};
 use crate::opening::open_files;
 use crate::reading::read_given;
 use crate::whole::refused;
 use crate::words::words_of;
-use lib_rounds::{Given, LibraryFile, Loaded, RoundError, load_rounds};
+use lib_rounds::{GivenObject, LibraryFile, Loaded, RoundError, load_rounds};
 use link_plan::Plan;
+use link_program::{LinkError, asked_names};
 use made_symbols::Mode;
 use std::alloc::Global;
 use std::thread::Threads;
@@ -33,9 +32,9 @@ fn load_given<R: Threads + Sync>(
     alloc: Global,
     plan: &Plan,
     files: &[Seq<u8>],
-    given: Seq<Given>,
+    given: Seq<GivenObject>,
     libraries: &[LibraryFile],
-) -> Result<Loaded, InputError>
+) -> Result<Loaded, LinkError>
     ghost all: { List Candidate }
     requires workers { (1 ≤ plan.now.threads) × (plan.now.threads ≤ 64) }
     requires are { AreCandidates all given libraries.now files.now }
@@ -57,8 +56,8 @@ fn load_given<R: Threads + Sync>(
         workers,
     ) {
         Ok(loaded) => Ok(loaded),
-        Err(RoundError::Refused(fault)) => Err(InputError::Refused(fault)),
-        Err(RoundError::OutOfMemory) => Err(InputError::OutOfMemory),
+        Err(RoundError::Refused(fault)) => Err(LinkError::Refused(fault)),
+        Err(RoundError::OutOfMemory) => Err(LinkError::OutOfMemory),
     }
 }
 
@@ -70,7 +69,7 @@ fn load_sources<R: Threads + Sync, G: Gate>(
     files: &[Seq<u8>],
     sources: Sources,
     gate: &G,
-) -> Result<Inputs, InputError>
+) -> Result<Inputs, LinkError>
     requires workers { (1 ≤ plan.now.threads) × (plan.now.threads ≤ 64) }
     requires sources { Sourced plan.now files.now sources }
     ensures { LoadsAll result plan.now files.now }
@@ -107,7 +106,7 @@ pub fn load_inputs<R: Threads + Sync, G: Gate>(
     plan: &Plan,
     files: &[Seq<u8>],
     gate: &G,
-) -> Result<Inputs, InputError>
+) -> Result<Inputs, LinkError>
     requires plan { IsPlan plan.now }
     requires files { length files.now ≡ unwrap_or plan.now.make_case (length plan.now.inputs) }
     // Which objects, or which fault.

@@ -6,7 +6,7 @@ use link_program::Home;
 use object_file::Object;
 use wl_base::Seq;
 
-/// The loaded objects of a link, and where each input's bytes begin.
+/// The loaded objects of a link, and where each input's bytes stand.
 #[derive(Debug, Drop)]
 pub struct Inputs {
     pub(crate) loaded: Loaded,
@@ -21,7 +21,7 @@ impl Inputs {
         self.loaded.objects()
     }
 
-    /// Where the bytes of each input begin, loaded or not; those of input 1 first.
+    /// Where the bytes of each input stand, loaded or not; those of input 1 first.
     pub fn homes(&self) -> &[Home]
         ensures { result.now ≡ self.now.homes }
     {

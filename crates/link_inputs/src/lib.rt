@@ -4,9 +4,7 @@
 //! objects of the words are read by several threads, and then `lib_rounds` loads what is needed.
 #![tactic(auto)]
 
-mod asking;
 mod call;
-mod fault;
 mod inputs;
 mod laws;
 mod limits;
@@ -18,7 +16,6 @@ mod whole;
 mod words;
 
 pub use call::load_inputs;
-pub use fault::InputError;
 pub use inputs::Inputs;
 pub use laws::loaded_objects_are_sound;
-pub use link_program::Home;
+pub use link_program::{Home, LinkError};

@@ -22,7 +22,7 @@ pub fn inputs_in(file: &OpenFile) -> u64
     ensures { result ≡ count_in file.now }
 {
     match file {
-        OpenFile::Object => 1,
+        OpenFile::Object { len: _ } => 1,
         OpenFile::Library(library) => u64::from(library.count()),
     }
 }

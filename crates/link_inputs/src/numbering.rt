@@ -28,18 +28,20 @@ pub struct ObjectFile {
 pub struct Sources {
     pub objects: Seq<ObjectFile>,
     pub libraries: Seq<LibraryFile>,
-    /// Where each input begins.
+    /// Where each input stands.
     pub homes: Seq<Home>,
 }
 
-/// Adds where the members of a library begin.
+/// Adds where the members of a library stand.
 fn add_homes(homes: &mut Seq<Home>, file: u32, library: &Library) -> Result<(), OutOfMemory>
     ensures { OnOk result (homes.new ≡ homes.old ++ homes_in file (files.Library library.now)) }
 {
     for member in 0..library.count() {
+        let span = library.member(member);
         homes.push(Home {
             file,
-            start: library.member(member).start,
+            start: span.start,
+            len: span.len,
         })?;
     }
     Ok(())
@@ -56,13 +58,17 @@ fn add(
     ensures { OnOk result (IsAdded file input word opened sources.old sources.new) }
 {
     match opened {
-        OpenFile::Object => {
+        OpenFile::Object { len } => {
             sources.objects.push(ObjectFile {
                 file,
                 input,
                 lazy: word.lazy,
             })?;
-            sources.homes.push(Home { file, start: 0 })?;
+            sources.homes.push(Home {
+                file,
+                start: 0,
+                len,
+            })?;
         }
         OpenFile::Library(library) => {
             add_homes(&mut sources.homes, file, &library)?;

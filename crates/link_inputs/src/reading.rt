@@ -8,7 +8,7 @@ ghost use Rattle.link_inputs.specs.Reading.{Reads, given_by, given_of, given_fro
 use crate::limits::total_len;
 use crate::numbering::ObjectFile;
 use crate::parts::{first_of, parts_of};
-use lib_rounds::Given;
+use lib_rounds::GivenObject;
 use object_file::{ObjectError, read_object};
 use std::alloc::Global;
 use std::thread::Threads;
@@ -37,14 +37,14 @@ impl From<OutOfMemory> for ReadError {
 }
 
 /// What a worker leaves for an object.
-pub type Slot = Result<Given, ReadError>;
+pub type Slot = Result<GivenObject, ReadError>;
 
 /// Reads an object of these bytes, as an input of this number.
 fn read_one(alloc: Global, bytes: &[u8], input: InputId, lazy: bool) -> Slot
     ensures { Reads result (given_by input lazy (object_of input bytes.now)) }
 {
     match read_object(alloc, input, bytes) {
-        Ok(object) => Ok(Given { object, lazy }),
+        Ok(object) => Ok(GivenObject { object, lazy }),
         Err(ObjectError::Refused(fault)) => Err(ReadError::Refused { input, fault }),
         Err(ObjectError::OutOfMemory) => Err(ReadError::OutOfMemory),
     }
@@ -167,7 +167,7 @@ fn read_slots<R: Threads + Sync, G: Gate>(
 }
 
 /// The objects in the slots, or the first that is none.
-fn take_given(alloc: Global, slots: Vec<Slot>) -> Result<Seq<Given>, ReadError>
+fn take_given(alloc: Global, slots: Vec<Slot>) -> Result<Seq<GivenObject>, ReadError>
     ensures { (files : List (List ℕ)) (objects : List WordObject) → AreRead files objects slots.items → Reads result (given_from files objects) }
 {
     let mut given = Seq::new(alloc);
@@ -188,7 +188,7 @@ pub fn read_given<R: Threads + Sync, G: Gate>(
     objects: &[ObjectFile],
     workers: u32,
     gate: &G,
-) -> Result<Seq<Given>, ReadError>
+) -> Result<Seq<GivenObject>, ReadError>
     requires fit { FitIn files.now objects.now }
     requires workers { (1 ≤ workers) × (workers ≤ 64) }
     ensures { Reads result (given_from files.now objects.now) }

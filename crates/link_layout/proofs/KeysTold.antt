@@ -18,7 +18,8 @@ use Rattle.link_program.specs.declared.keys.GlobalKey.TheVariants as globals
 use Rattle.link_program.specs.Told.{told_definition, told_lead, told_symbol}
 use Rattle.link_program.specs.Keys.{told_function, told_got, told_global}
 use Rattle.link_numbers.specs.Knows.{KnowsFunction, KnowsGot}
-use Rattle.link_layout.specs.Seen.{index_of, function_of, function_meant, cell_meant, global_meant, global_named}
+use Rattle.link_program.specs.Meant.{index_of, function_of, function_meant, cell_meant}
+use Rattle.link_layout.specs.Seen.{global_meant, global_named}
 
 module _ (names : List (List ℕ)) (imports : List ImportKey) where
   own_told : (d : Entry) (r : Bool) → (d.input == 0) ≡ r → functions.Own d.input (if r then d.place else d.index) ≡ told_function names imports (if r then linker_function d.place else own d.input d.index)

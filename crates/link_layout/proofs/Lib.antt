@@ -1,5 +1,4 @@
-pub mod ReadAt
-pub mod Chunks
+pub mod Fewer
 pub mod MadeData
 pub mod Pairs
 pub mod Steps

@@ -21,10 +21,11 @@ use Rattle.link_program.specs.Seen.{SeenContent, a_function, a_segment, a_global
 use Rattle.link_program.specs.Program.{AreTables, ChunksDiffer}
 use Rattle.link_program.specs.Stand.{PartsStand, PartStands, IsAligned}
 use Rattle.link_program.specs.Live.{AreLive}
-use Rattle.link_layout.specs.Segments.{no_part, part_at, row_at, is_segment_at, segment_numbers, align_of, shape_by, shape_at}
+use Rattle.link_program.specs.Look.{no_part, part_at, row_at}
+use Rattle.link_layout.specs.Segments.{is_segment_at, segment_numbers, align_of, shape_by, shape_at}
 use Rattle.link_layout.specs.Placed.{chunks_of}
 use Rattle.link_layout.proofs.Pairs.{map_pairs, filter_pairs, at_told, same_position, same_any, map_twice}
-use Rattle.link_layout.proofs.Chunks.{chunk_is, chunk_itself}
+use Rattle.link_program.proofs.Chunks.{chunk_is, chunk_itself}
 
 -- ---- alignments
 

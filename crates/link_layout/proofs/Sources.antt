@@ -26,13 +26,15 @@ use Rattle.link_program.specs.Moved.{moved_window, moved_windows}
 use Rattle.link_program.specs.Seen.{seen_named, told_named, NamesOne}
 use Rattle.link_program.specs.Live.{AreLive}
 use Rattle.link_numbers.specs.Numbered.{is_import}
-use Rattle.link_layout.specs.declared.layout.Layout.{Layout}
-use Rattle.link_layout.specs.Segments.{row_at, is_segment_at, segment_numbers, shape_at}
+use Rattle.link_layout.specs.declared.values.Layout.{Layout}
+use Rattle.link_program.specs.Look.{row_at}
+use Rattle.link_layout.specs.Segments.{is_segment_at, segment_numbers, shape_at}
 use Rattle.link_layout.specs.Placed.{chunks_of, is_solid, IsPlaced}
-use Rattle.link_layout.specs.Seen.{Looked, chunk_number, window_of, row_windows, part_windows, body_number, body_windows, is_solid_at, defined, moved_sources}
+use Rattle.link_program.specs.Look.{chunk_number}
+use Rattle.link_layout.specs.Seen.{Looked, window_of, row_windows, part_windows, body_number, body_windows, is_solid_at, defined, moved_sources}
 use Rattle.link_layout.proofs.Told.{IsTold}
 use Rattle.link_layout.specs.Layout.{looked, AreThere}
-use Rattle.link_layout.proofs.Chunks.{chunk_is, chunk_itself, stands_at}
+use Rattle.link_program.proofs.Chunks.{chunk_is, chunk_itself, stands_at}
 use Rattle.link_layout.proofs.Pairs.{map_pairs, filter_pairs, pairs_within, find_pair}
 use Rattle.link_layout.proofs.Parts.{segments_are, row_told, segment_told, shape_told, same_number, same_part, among_by_number}
 use Rattle.link_layout.proofs.PlacedTold.{solid_at, solids_are}

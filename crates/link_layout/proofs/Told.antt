@@ -12,7 +12,7 @@ use Rattle.link_program.specs.Stand.{PartsStand}
 use Rattle.link_program.specs.Live.{AreLive, AllMeant}
 use Rattle.link_numbers.specs.Numbered.{IsNumbering}
 use Rattle.link_numbers.specs.Laws.{TellsNumbers, KnowsRef}
-use Rattle.link_layout.specs.declared.layout.Layout.{Layout}
+use Rattle.link_layout.specs.declared.values.Layout.{Layout}
 use Rattle.link_layout.specs.Placed.{IsPlaced}
 use Rattle.link_layout.specs.Layout.{IsLayout}
 

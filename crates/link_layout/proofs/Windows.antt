@@ -1,8 +1,8 @@
 -- Addresses, cells and windows of a layout, as the data show them.
 use Rattle.std.proofs.Common.{◌≡◌, ℕ, zero, suc, ◌+◌, ◌<◌, ◌==◌, Bool, true, false, not, ◌||◌, cond, List, [], ◌∷◌, ◌++◌, map, filter, filter_map, flat_map, length, get_or, slice_get, position, Option, Some, None, option_map, unwrap_or, refl, sym, ap, subst, ◌∙◌, arith, ℤ, pos}
 use Rattle.std.specs.Prelude.{if◌then◌else◌, slice_index_or}
-use Rattle.std.specs.List.{list_any, All, Contains}
-use Rattle.std.proofs.lemmas.List.Elements.{All-head, All-tail, All-cons, All-append, All-contains}
+use Rattle.std.specs.List.{list_any, All}
+use Rattle.std.proofs.lemmas.List.Elements.{All-head, All-tail, All-cons, All-append}
 use Rattle.std.proofs.lemmas.List.Quantifiers.{position-Some}
 use Rattle.std.proofs.lemmas.Option.{slice_get-get_or, slice_get-map, get_or_from_slice_get, slice_get_within}
 use Rattle.link_program.specs.wasm_types.declared.function.FuncType.{FuncType}
@@ -38,12 +38,14 @@ use Rattle.link_program.specs.Keys.{told_function, told_got, told_global, same_f
 use Rattle.link_numbers.specs.Types.{type_number_in}
 use Rattle.link_numbers.specs.Knows.{KnowsFunction, KnowsGot, KnowsGlobal}
 use Rattle.link_numbers.specs.Laws.{TellsNumbers, KnowsRef}
-use Rattle.link_layout.specs.declared.layout.Layout.{Layout}
+use Rattle.link_layout.specs.declared.values.Layout.{Layout}
 use Rattle.link_layout.specs.Placed.{address_among, chunks_of, IsPlaced}
-use Rattle.link_layout.specs.Seen.{Looked, column_at, chunk_number, address_of, function_of, function_meant, cell_meant, global_named, slot_of, slot_meant, address_meant, got_value, target_of, addend_meant, addend_of, symbol_window, type_window, window_of}
+use Rattle.link_program.specs.Look.{chunk_number}
+use Rattle.link_program.specs.Meant.{function_of, function_meant, cell_meant}
+use Rattle.link_layout.specs.Seen.{Looked, column_at, address_of, global_named, slot_of, slot_meant, address_meant, target_of, addend_meant, addend_of, symbol_window, type_window, window_of}
 use Rattle.link_layout.proofs.Told.{IsTold}
-use Rattle.link_layout.specs.Layout.{looked, IsNamedBy}
-use Rattle.link_layout.proofs.Chunks.{chunk_is, chunk_itself}
+use Rattle.link_layout.specs.Layout.{looked}
+use Rattle.link_program.proofs.Chunks.{chunk_is, chunk_itself}
 use Rattle.link_numbers.proofs.Positions.{position_next, position_first}
 use Rattle.link_layout.specs.Segments.{segment_numbers}
 use Rattle.link_layout.proofs.Parts.{segments_are}
@@ -195,20 +197,6 @@ module _ (p : rules.Program) (parts : List rules.Part) (es : List Entry) (d : La
   global_number_told g known =
       ap (λ xs. number_by same_global_key xs (told_global d.program.resolution.now.imports g)) is.numbering.globals ∙ is.tells.globals g known
 
-  -- ---- cells of addresses
-
-  got_by : (e : Entry) (r : Bool) → (if r then address_of (looked d) (told_definition e) else slot_of (looked d) (function_of (told_definition e)))
-      ≡ (if r then values.address_of Plain (layout Plain p parts es) e else keys.slot_of (layout Plain p parts es).numbers (keys.function_of e))
-  got_by e true = address_told e
-  got_by e false =
-      ap (slot_of (looked d)) (function_told d.program.names.now.names d.program.resolution.now.imports e)
-      ∙ slot_told (keys.function_of e) (function_known d.program.names.now.names d.program.resolution.now.imports e)
-
-  pub got_told : (key : keys.GotKey) → KnowsGot d.program.resolution.now.imports key → got_value (looked d) (told_got d.program.resolution.now.imports key) ≡ values.got_value Plain (layout Plain p parts es) key
-  got_told (got_entry e) known = got_by e (is_kind Datum e)
-  got_told (got_import k) known = slot_told (outside k) known
-  got_told (got_null kind) known = refl
-
   -- ---- references
 
   slot_by : (e : Entry) (m : Meaning) → is_nothing m ≡ false → KnowsFunction d.program.names.now.names d.program.resolution.now.imports (keys.meant_function (name_of e) m)
@@ -299,8 +287,3 @@ module _ (p : rules.Program) (parts : List rules.Part) (es : List Entry) (d : La
 
   pub all_known : All (IsKnownRef d.program.names.now.names d.program.resolution.now.imports) (refs_of parts)
   all_known = known_both d.program.names.now.names d.program.resolution.now.imports (refs_of parts) is.knows is.meant
-
-  pub known_named : (n : rules.Named) → IsNamedBy parts n → IsKnown d.program.names.now.names d.program.resolution.now.imports n
-  known_named n by =
-      All-contains (IsKnown d.program.names.now.names d.program.resolution.now.imports) (flat_map (λ part. part.named) parts) n
-      (known_all d.program.names.now.names d.program.resolution.now.imports parts all_known) by

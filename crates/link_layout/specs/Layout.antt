@@ -1,15 +1,15 @@
 -- When the data are the layout of a program.
-use Rattle.std.specs.Prelude.{◌≡◌, ℕ, List, length, flat_map, Contains, All}
+use Rattle.std.specs.Prelude.{◌≡◌, ℕ, List, length, All}
 use Rattle.link_program.specs.made_symbols.declared.mode.Mode.TheVariants.{Plain}
 use Rattle.link_program.specs.name_rules.Entries.{Entry}
-use Rattle.link_program.specs.link_rules.Program.{Program, Part, Named}
+use Rattle.link_program.specs.link_rules.Program.{Program, Part}
 use Rattle.link_program.specs.link_rules.Keys.{numbers}
 use Rattle.link_program.specs.Program.{IsProgram}
 use Rattle.link_program.specs.Seen.{NamesOne}
 use Rattle.link_program.specs.Stand.{PartsStand}
 use Rattle.link_program.specs.Live.{AreLive, AllMeant}
 use Rattle.link_numbers.specs.Numbered.{IsNumbering}
-use Rattle.link_layout.specs.declared.layout.Layout.{Layout}
+use Rattle.link_layout.specs.declared.values.Layout.{Layout}
 use Rattle.link_layout.specs.Placed.{IsPlaced}
 use Rattle.link_layout.specs.Seen.{Looked}
 
@@ -21,10 +21,6 @@ looked d = record { numbers = d.numbering.now; tables = d.program.tables.now; pl
 pub record AreThere (d : Layout) : Type 0 where
   pub rows : All (λ row. All (NamesOne d.program.tables.now.symbols d.program.tables.now.types) row) d.program.tables.now.named
   pub types : length d.numbering.now.type_numbers ≡ length d.program.tables.now.types
-
--- What one of these parts names.
-abbrev pub IsNamedBy : List Part → Named → Type 0
-IsNamedBy parts n = Contains (flat_map (λ part. part.named) parts) n
 
 -- The data are those of the program, its live parts and its exports.
 pub record IsLayout (p : Program) (parts : List Part) (es : List Entry) (d : Layout) : Type 0 where

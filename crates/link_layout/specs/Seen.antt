@@ -1,15 +1,15 @@
 -- What stands in windows, as the data show it.
-use Rattle.std.specs.Prelude.{◌≡◌, ◌<◌, ◌^◌, ℕ, ◌+◌, ◌==◌, Bool, true, false, not, List, [], ◌∷◌, ◌++◌, map, filter, drop, length, position, slice_index_or, if◌then◌else◌, Option, Some, None, unwrap_or, All, ℤ, pos}
+use Rattle.std.specs.Prelude.{◌≡◌, ◌<◌, ◌^◌, ℕ, ◌+◌, ◌==◌, Bool, true, false, not, List, [], ◌∷◌, ◌++◌, map, filter, drop, length, slice_index_or, if◌then◌else◌, Option, Some, None, All, ℤ, pos}
 use Rattle.link_program.specs.wasm_types.declared.function.FuncType.{FuncType}
 use Rattle.link_program.specs.linking_section.declared.symbol.SymbolKind.{SymbolKind}
-use Rattle.link_program.specs.linking_section.declared.symbol.SymbolKind.TheVariants.{Datum, GlobalVar}
+use Rattle.link_program.specs.linking_section.declared.symbol.SymbolKind.TheVariants.{GlobalVar}
 use Rattle.link_program.specs.linking_section.declared.symbol.SymbolKind.TheVariants as kinds
 use Rattle.link_program.specs.linking_section.Flags.{kind_code}
 use Rattle.link_program.specs.mark_bits.declared.chunk.Chunk.{Chunk}
 use Rattle.link_program.specs.index_layout.Numbers.{number_by}
 use Rattle.link_program.specs.reloc_apply.declared.window.Form.TheVariants.{Unsigned5}
 use Rattle.link_program.specs.reloc_apply.declared.window.Window.{Window}
-use Rattle.link_program.specs.link_rules.Program.{chunk_at, same_chunk}
+use Rattle.link_program.specs.link_rules.Program.{chunk_at}
 use Rattle.link_program.specs.link_rules.Values.{Asks, a_function, a_slot, an_address, a_global, a_table, asks, form_of, made_data}
 use Rattle.link_program.specs.declared.symbol.Definition.{Definition}
 use Rattle.link_program.specs.declared.symbol.Symbol.{Symbol}
@@ -24,12 +24,13 @@ use Rattle.link_program.specs.declared.keys.GlobalKey.TheVariants as globals
 use Rattle.link_program.specs.declared.named.Named.{Named}
 use Rattle.link_program.specs.declared.named.Named.TheVariants as names
 use Rattle.link_program.specs.declared.program.Tables.{Tables}
+use Rattle.link_program.specs.Look.{row_at, chunk_number}
+use Rattle.link_program.specs.Meant.{index_of, function_of, function_meant, cell_meant}
 use Rattle.link_program.specs.Seen.{no_symbol}
 use Rattle.link_program.specs.Keys.{same_function_key, same_global_key}
 use Rattle.link_program.specs.Moved.{moved_windows}
 use Rattle.link_numbers.specs.Numbered.{Numbered, is_import}
 use Rattle.link_layout.specs.declared.placing.Placed.{Placed}
-use Rattle.link_layout.specs.Segments.{row_at}
 
 -- What is looked up: all numbers, the tables, and where segments stand.
 pub record Looked : Type 0 where
@@ -44,36 +45,12 @@ abbrev pub column_at : Placed → Option ℕ → ℕ
 column_at d None = slice_index_or d.places.addresses 0 0
 column_at d (Some n) = slice_index_or d.addresses n 0
 
-abbrev pub chunk_number : List Chunk → Chunk → Option ℕ
-chunk_number chunks c = position (same_chunk c) chunks
-
 abbrev pub address_of : Looked → Definition → ℕ
 address_of k d =
     if d.input == 0 then slice_index_or (made_data k.placed.places) d.place 0
     else column_at k.placed (chunk_number k.tables.chunks (chunk_at d.input 1 d.index)) + d.offset
 
 -- ---- keys
-
--- Which of its kind a definition is; the linker's are told by their numbers.
-abbrev pub index_of : Definition → ℕ
-index_of d = if d.input == 0 then d.place else d.index
-
-abbrev pub function_of : Definition → FunctionKey
-function_of d = functions.Own d.input (index_of d)
-
--- The function that a symbol means; a null one is a stub of its name.
-abbrev pub function_meant : Option ℕ → Lead → FunctionKey
-function_meant name (leads.Here d) = function_of d
-function_meant name (leads.Import n) = functions.Import n
-function_meant name leads.Null = functions.Stub (unwrap_or name 0)
-function_meant name leads.Nothing = functions.Stub (unwrap_or name 0)
-
--- The cell of the address of a symbol, by the kind of the symbol.
-abbrev pub cell_meant : ℕ → Lead → GotKey
-cell_meant kind (leads.Here d) = cells.Here d
-cell_meant kind (leads.Import n) = cells.Import n
-cell_meant kind leads.Null = cells.Null kind
-cell_meant kind leads.Nothing = cells.Null kind
 
 abbrev pub global_meant : ℕ → Lead → GlobalKey
 global_meant kind (leads.Here d) = globals.Own d.input (index_of d)
@@ -101,12 +78,6 @@ address_meant k (leads.Here d) = address_of k d
 address_meant k (leads.Import n) = 0
 address_meant k leads.Null = 0
 address_meant k leads.Nothing = 0
-
--- What a cell of an address holds.
-abbrev pub got_value : Looked → GotKey → ℕ
-got_value k (cells.Here d) = if kind_code d.kind == kind_code Datum then address_of k d else slot_of k (function_of d)
-got_value k (cells.Import n) = slot_of k (functions.Import n)
-got_value k (cells.Null kind) = 0
 
 -- ---- windows
 

@@ -1,5 +1,5 @@
 -- The live data segments, as the data show them.
-use Rattle.std.specs.Prelude.{ℕ, ◌==◌, Bool, ◌&&◌, List, [], ◌∷◌, filter, length, slice_index_or, slice_set}
+use Rattle.std.specs.Prelude.{ℕ, ◌==◌, Bool, ◌&&◌, List, [], ◌∷◌, filter, length, slice_set}
 use Rattle.std.specs.List.{list_all}
 use Rattle.link_program.specs.memory_layout.declared.rules.SegmentShape.{SegmentShape}
 use Rattle.link_program.specs.image_emit.Bytes.{file_part}
@@ -8,20 +8,7 @@ use Rattle.link_program.specs.declared.part.Content.{Content}
 use Rattle.link_program.specs.declared.part.Content.TheVariants as contents
 use Rattle.link_program.specs.declared.part.Part.{Part}
 use Rattle.link_program.specs.declared.program.Tables.{Tables}
-
--- where no part is
-abbrev pub no_part : Part
-no_part = record {
-  chunk = record { input = 0; kind = 0; index = 0 };
-  content = contents.Made;
-  source = record { file = 0; span = record { start = 0; len = 0 } };
-}
-
-abbrev pub part_at : Tables → ℕ → Part
-part_at t n = slice_index_or t.parts n no_part
-
-abbrev pub row_at : Tables → ℕ → List Named
-row_at t n = slice_index_or t.named n []
+use Rattle.link_program.specs.Look.{part_at, row_at}
 
 abbrev pub is_segment_at : Tables → ℕ → Bool
 is_segment_at t n = (part_at t n).chunk.kind == 1

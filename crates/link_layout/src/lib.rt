@@ -3,10 +3,10 @@
 
 mod columns;
 mod keys;
-mod layout;
-mod moved;
+mod patches;
 mod placing;
 mod segments;
+mod values;
 
-pub use layout::Layout;
 pub use placing::{Placed, place_segments};
+pub use values::Layout;

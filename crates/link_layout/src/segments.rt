@@ -2,46 +2,12 @@
 ghost use Rattle.std.specs.Prelude.{◌≡◌, ◌==◌, [], map, take, drop, slice_index_or, IfOk};
 ghost use Rattle.std.specs.List.{list_all};
 ghost use Rattle.link_program.specs.image_emit.Bytes.{file_part};
-ghost use Rattle.link_layout.specs.Segments.{part_at, row_at, segment_numbers, align_of, shape_at, shape_by};
+ghost use Rattle.link_layout.specs.Segments.{segment_numbers, align_of, shape_at, shape_by};
 
-use link_program::{Content, Named, Part, Tables};
-use mark_bits::Chunk;
+use link_program::{Content, Named, Part, Tables, chunk_kinds, part_at, row_at};
 use memory_layout::SegmentShape;
 use std::alloc::Global;
-use wl_base::{FileSpan, OutOfMemory, Seq, Span};
-
-/// The part of a number.
-#[tactic(auto, using(crate::proofs::ReadAt::read))]
-pub(crate) fn part_at(tables: &Tables, number: u32) -> Part
-    ensures { result ≡ part_at tables.now number }
-{
-    match tables.parts.get(number as usize) {
-        Some(part) => *part,
-        None => Part {
-            chunk: Chunk {
-                input: 0,
-                kind: 0,
-                index: 0,
-            },
-            content: Content::Made,
-            source: FileSpan {
-                file: 0,
-                span: Span { start: 0, len: 0 },
-            },
-        },
-    }
-}
-
-/// What the part of a number names.
-#[tactic(auto, using(crate::proofs::ReadAt::read))]
-pub(crate) fn row_at(tables: &Tables, number: u32) -> &[Named]
-    ensures { result.now ≡ row_at tables.now number }
-{
-    match tables.named.get(number as usize) {
-        Some(row) => row,
-        None => &[],
-    }
-}
+use wl_base::{FileSpan, OutOfMemory, Seq};
 
 /// The numbers of the live data segments.
 pub(crate) fn segment_numbers(
@@ -53,7 +19,7 @@ pub(crate) fn segment_numbers(
 {
     let mut numbers = Vec::new(alloc);
     for number in live {
-        if part_at(tables, *number).chunk.kind == 1 {
+        if part_at(tables, *number).chunk.kind == chunk_kinds::SEGMENT {
             numbers.push(*number)?;
         }
     }
@@ -61,7 +27,7 @@ pub(crate) fn segment_numbers(
 }
 
 /// The bytes of a file from a place on.
-#[tactic(auto, using(crate::proofs::ReadAt::dropped_less))]
+#[tactic(auto, using(crate::proofs::Fewer::dropped_less))]
 fn from(bytes: &[u8], start: usize) -> &[u8]
     ensures { result.now ≡ drop start bytes.now }
 {
@@ -69,7 +35,7 @@ fn from(bytes: &[u8], start: usize) -> &[u8]
 }
 
 /// So many of the bytes, or all where there are fewer.
-#[tactic(auto, using(crate::proofs::ReadAt::taken_less))]
+#[tactic(auto, using(crate::proofs::Fewer::taken_less))]
 fn at_most(bytes: &[u8], len: usize) -> &[u8]
     ensures { result.now ≡ take len bytes.now }
 {
@@ -77,7 +43,7 @@ fn at_most(bytes: &[u8], len: usize) -> &[u8]
 }
 
 /// The file at a place.
-#[tactic(auto, using(crate::proofs::ReadAt::read))]
+#[tactic(auto, using(link_program::proofs::ReadAt::read))]
 fn file_at(files: &[Seq<u8>], at: u32) -> &[u8]
     ensures { result.now ≡ slice_index_or files.now at [] }
 {

@@ -1,6 +1,5 @@
 mod Columns
 mod Places
-mod Tables
 mod Mapped
 mod Members
 mod Held

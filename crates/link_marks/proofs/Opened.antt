@@ -14,7 +14,7 @@ use Rattle.link_program.specs.object_columns.declared.segments.SegmentDef.{Segme
 use Rattle.link_program.specs.object_file.declared.object.Object.{Object}
 use Rattle.link_program.specs.made_symbols.declared.mode.Mode.TheVariants.{Plain}
 use Rattle.link_program.specs.made_symbols.Made.{MadeSymbol, made}
-use Rattle.link_program.specs.lib_rounds.Rounds.{Candidate}
+use Rattle.link_program.specs.round_rules.Rounds.{Candidate}
 use Rattle.link_program.specs.mark_bits.declared.chunk.Chunk.{Chunk}
 use Rattle.link_program.specs.name_rules.Entries.{Entry, ImportKey, name_of, entries, entry_in, symbols_of}
 use Rattle.link_program.specs.name_rules.Meanings.{Meaning, Resolved, is_nothing, meaning, resolved_in, uses_of}

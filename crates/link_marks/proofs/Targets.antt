@@ -30,7 +30,7 @@ use Rattle.link_program.specs.Program.{ChunksDiffer, AreTables}
 use Rattle.link_marks.specs.Seen as seen
 use Rattle.link_marks.specs.Seen.{defined_chunk, number_in, led_number, led_numbers, named_number, targets_seen, is_retained_content, is_root, places_from, winner_numbers, roots_seen, is_not_stripped}
 use Rattle.link_marks.proofs.Mapped.{map_agree, filter_map_agree, filter-map, map-map, filter_map-map, filter_map-twice, map_at, map_count}
-use Rattle.link_marks.proofs.Tables.{stands_at}
+use Rattle.link_program.proofs.Chunks.{stands_at}
 
 -- ---- chunks of definitions
 

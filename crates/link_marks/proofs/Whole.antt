@@ -22,6 +22,9 @@ use Rattle.link_program.specs.link_rules.Program.{Program, Part, winners_of, is_
 use Rattle.link_program.specs.link_rules.Marks as marks
 use Rattle.link_program.specs.link_rules.Marks.{refs_of, all_symbols, demanded, missing, unresolved}
 use Rattle.link_program.specs.declared.program.Program.{Program as Data}
+use Rattle.link_program.specs.declared.error.LinkError.{LinkError}
+use Rattle.link_program.specs.declared.error.LinkError.TheVariants.{Refused, OutOfMemory}
+use Rattle.link_program.specs.Answers.{Stops}
 use Rattle.link_program.specs.Program.{IsProgram}
 use Rattle.link_marks.specs.declared.live.Live.{Live}
 use Rattle.link_marks.specs.Alive.{IsLive}
@@ -184,6 +187,15 @@ pub missing_first : (d : Data) (p : Program) (parts : List Part) (fault : Fault)
 unfolding unresolved
 missing_first d p parts fault is told =
     ap (λ o. first_some (o ∷ option_map (λ (e : Entry). Unresolved (name_of e) e.input) (find (marks.is_open (refs_of parts)) (all_symbols p)) ∷ [])) (told ∙ missing_are d p is)
+
+-- an error that stops at it
+pub missing_stops : (d : Data) (p : Program) (parts : List Part) (o : Option Fault) (e x : LinkError) → x ≡ e → IsProgram Plain d p → Stops e o
+    → o ≡ first_missing d.names.now.names d.ranks.now (demanded d.plan.now) → Stops x (unresolved p parts)
+missing_stops d p parts o e x same is stops told = subst (λ x. Stops x (unresolved p parts)) (sym same) (by e stops)
+  where
+    by : (e : LinkError) → Stops e o → Stops e (unresolved p parts)
+    by (Refused fault) stops = sym (missing_first d p parts fault is (sym stops ∙ told))
+    by OutOfMemory stops = tt
 
 -- and where there is none the open symbol
 pub open_next : (d : Data) (p : Program) (l : Live) (parts : List Part) (fault : Option Fault) → IsProgram Plain d p → IsLive p l parts

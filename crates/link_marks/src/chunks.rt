@@ -1,8 +1,8 @@
 //! The numbers of the chunks to which symbols lead.
-ghost use Rattle.std.specs.Prelude.{◌≡◌, Some, IfOk};
+ghost use Rattle.std.specs.Prelude.{◌≡◌, IfOk};
 ghost use Rattle.link_marks.specs.Seen.{defined_chunk, number_in, led_number, led_numbers};
 
-use link_program::{Definition, Lead, Symbol};
+use link_program::{Definition, Lead, Symbol, chunk_kinds, chunk_number};
 use linking_section::SymbolKind;
 use mark_bits::{Chunk, ChunkTable};
 use std::alloc::Global;
@@ -13,10 +13,10 @@ fn chunk_of(definition: Definition) -> Option<Chunk>
     ensures { result ≡ defined_chunk definition }
 {
     let kind = match definition.kind {
-        SymbolKind::Function => 0,
+        SymbolKind::Function => chunk_kinds::FUNCTION,
         SymbolKind::Datum if definition.input == 0 => return None,
-        SymbolKind::Datum => 1,
-        SymbolKind::GlobalVar => 2,
+        SymbolKind::Datum => chunk_kinds::SEGMENT,
+        SymbolKind::GlobalVar => chunk_kinds::GLOBAL,
         SymbolKind::Section | SymbolKind::Table => return None,
     };
     Some(Chunk {
@@ -26,21 +26,12 @@ fn chunk_of(definition: Definition) -> Option<Chunk>
     })
 }
 
-/// The number of a chunk.
-#[tactic(auto, using(crate::proofs::Tables::stands_at, crate::proofs::Tables::stands_nowhere))]
-fn number_of(chunks: &ChunkTable, chunk: Chunk) -> Option<u32>
-    ensures { result ≡ number_in chunks.now (Some chunk) }
-{
-    let found = chunks.find(chunk);
-    found
-}
-
 /// The number of the chunk of a definition.
 pub(crate) fn number_defined(chunks: &ChunkTable, definition: Definition) -> Option<u32>
     ensures { result ≡ number_in chunks.now (defined_chunk definition) }
 {
     match chunk_of(definition) {
-        Some(chunk) => number_of(chunks, chunk),
+        Some(chunk) => chunk_number(chunks, chunk),
         None => None,
     }
 }

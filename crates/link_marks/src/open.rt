@@ -7,6 +7,7 @@ ghost use Rattle.link_program.specs.name_meanings.Means.{IsResolution};
 ghost use Rattle.link_program.specs.name_entries.View.{InputsRise};
 ghost use Rattle.name_unresolved.specs.Unresolved.{first_unresolved_of};
 ghost use Rattle.link_program.specs.link_rules.Marks as marks;
+ghost use Rattle.link_program.specs.Answers.{Passes};
 ghost use Rattle.link_program.specs.Program.{IsProgram};
 ghost use Rattle.link_marks.specs.About.{Living};
 ghost use Rattle.link_marks.specs.Alive.{IsLive};
@@ -15,7 +16,7 @@ ghost use Rattle.link_marks.specs.Open.{missing_seen, first_missing, symbol_name
 use crate::live::Live;
 use crate::objects::object_of;
 use link_plan::Plan;
-use link_program::{Names, Object, Program};
+use link_program::{LinkError, Names, Object, Program, refuse};
 use name_unresolved::first_unresolved;
 use name_unresolved::laws::resolved_is_meant;
 use std::alloc::Global;
@@ -149,25 +150,21 @@ fn first_open<R: Threads + Sync>(
     Ok(fault)
 }
 
-/// The first of the entry and the names of `--export` that has no winner, with input 0; then the least symbol, by input and place, that
-/// a live part refers to and that means nothing (`__wasm_call_ctors` refers to the init functions). `None` exactly where there is neither.
+/// Stops at the first of the entry and the names of `--export` that has no winner, with input 0; then at the least symbol, by input and
+/// place, that a live part refers to and that means nothing (`__wasm_call_ctors` refers to the init functions).
 pub fn unresolved<R: Threads + Sync>(
     rt: &R,
     alloc: Global,
     program: Program<'_>,
     live: &Live,
-) -> Result<Option<Fault>, OutOfMemory>
+) -> Result<(), LinkError>
     ghost w: { Living }
     requires program { IsProgram Plain program w.program }
     requires live { IsLive w.program live.now w.parts }
-    ensures { IfOk result (λ f. f ≡ marks.unresolved w.program w.parts) }
+    ensures { Passes result (marks.unresolved w.program w.parts) }
 {
     let demanded = missing_demanded(alloc, program.names, program.ranks, program.plan)?;
-    match demanded {
-        Some(fault) => Ok(Some(fault)),
-        None => {
-            let open = first_open(rt, alloc, program, live)?;
-            Ok(open)
-        }
-    }
+    refuse(demanded)?;
+    let open = first_open(rt, alloc, program, live)?;
+    refuse(open)
 }

@@ -4,13 +4,14 @@ ghost use Rattle.link_program.specs.wl_base.declared.fault.Fault.TheVariants.{Du
 ghost use Rattle.link_program.specs.made_symbols.declared.mode.Mode.TheVariants.{Plain};
 ghost use Rattle.link_program.specs.name_entries.View.{InputsRise};
 ghost use Rattle.link_program.specs.link_rules.Marks as marks;
+ghost use Rattle.link_program.specs.Answers.{Passes};
 ghost use Rattle.link_program.specs.Told.{told_winner};
 ghost use Rattle.link_program.specs.Program.{IsProgram};
 ghost use Rattle.link_marks.specs.About.{Exporting};
 ghost use Rattle.link_marks.specs.Names.{memory_given, given_seen, AreGiven};
 
 use crate::exported::name_seen;
-use link_program::{Names, Object, Program, Winner};
+use link_program::{LinkError, Names, Object, Program, Winner, refuse};
 use std::alloc::Global;
 use wl_base::{Fault, InputId, NameTable, OutOfMemory, Seq};
 
@@ -101,18 +102,18 @@ pub(crate) fn first_repeat(
     Ok(None)
 }
 
-/// The first export whose name an earlier one has, or the memory that isn't imported: its name, the input of the earlier one (the linker
-/// is input 0) and its own.
+/// Stops at the first export whose name an earlier one has, or the memory that isn't imported: by its name, the input of the earlier one
+/// (the linker is input 0) and its own.
 pub fn repeated_export(
     alloc: Global,
     program: Program<'_>,
     exports: &[Winner],
-) -> Result<Option<Fault>, OutOfMemory>
+) -> Result<(), LinkError>
     ghost w: { Exporting }
     requires program { IsProgram Plain program w.program }
     requires winners { All (Contains w.program.winners) w.exports }
     requires exports { exports.now ≡ map (told_winner program.names.now.names) w.exports }
-    ensures { IfOk result (λ f. f ≡ marks.repeated_export Plain w.program w.exports) }
+    ensures { Passes result (marks.repeated_export Plain w.program w.exports) }
 {
     let imports_memory = program.plan.import_memory;
     let fault = first_repeat(
@@ -122,5 +123,5 @@ pub fn repeated_export(
         imports_memory,
         exports,
     )?;
-    Ok(fault)
+    refuse(fault)
 }

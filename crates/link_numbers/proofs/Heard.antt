@@ -18,7 +18,8 @@ use Rattle.link_program.specs.declared.program.Tables.{Tables}
 use Rattle.link_program.specs.Keys.{same_got_key}
 use Rattle.link_numbers.specs.declared.codes.Code.{Code}
 use Rattle.link_numbers.specs.Codes.{same_code, function_code, got_code}
-use Rattle.link_numbers.specs.LiveRefs.{LiveRef, named_ref, named_number, part_at, row_at, is_code, refs_at, live_refs, window_numbers}
+use Rattle.link_program.specs.Look.{part_at, row_at}
+use Rattle.link_numbers.specs.LiveRefs.{LiveRef, named_ref, named_number, is_code, refs_at, live_refs, window_numbers}
 use Rattle.link_numbers.specs.Noted.{Noted, import_named, stub_called, function_taken, cell_read, flagged, with_taken, with_read, taking, reading, flagging, noted_ref, noted_number, noted, noted_part, noted_parts, nothing_noted}
 use Rattle.link_numbers.proofs.ToldLists.{any_told}
 

@@ -17,7 +17,7 @@ use Rattle.link_program.specs.link_rules.Program as rules
 use Rattle.link_program.specs.link_rules.Program.{Ref, refs}
 use Rattle.link_program.specs.link_rules.Marks.{refs_of, reads_cell}
 use Rattle.link_program.specs.link_rules.Keys as keys
-use Rattle.link_program.specs.link_rules.Keys.{outside, linker_function, stub, own, same_function, got_entry, got_import, got_null, same_got, outside_global, linker_global, own_global, got, exported_datum, function_of, meant_function, ref_function, got_of, ref_got, is_null, takes_slot, is_taken, made_function_key, own_function_key, made_global_key, own_global_key, got_entries, parts_of_kind, needs_got, datum_key}
+use Rattle.link_program.specs.link_rules.Keys.{outside, linker_function, stub, own, same_function, got_entry, got_import, got_null, same_got, outside_global, linker_global, own_global, got, exported_datum, meant_function, ref_function, got_of, ref_got, is_null, takes_slot, is_taken, made_function_key, own_function_key, made_global_key, own_global_key, got_entries, parts_of_kind, needs_got, datum_key}
 use Rattle.link_program.specs.declared.symbol.Winner.{Winner}
 use Rattle.link_program.specs.declared.keys.FunctionKey.{FunctionKey}
 use Rattle.link_program.specs.declared.keys.FunctionKey.TheVariants as functions
@@ -29,7 +29,8 @@ use Rattle.link_program.specs.Keys.{told_function, told_got, told_global, same_f
 use Rattle.link_numbers.specs.declared.codes.Code.{Code}
 use Rattle.link_numbers.specs.Codes.{same_code, function_code}
 use Rattle.link_numbers.specs.LiveRefs.{LiveRef}
-use Rattle.link_numbers.specs.Noted.{where_so, own_function, function_meant, asks_slot, function_taken, cell_meant, cell_read}
+use Rattle.link_program.specs.Meant.{function_of, cell_meant}
+use Rattle.link_numbers.specs.Noted.{where_so, function_meant, asks_slot, function_taken, cell_read}
 use Rattle.link_numbers.specs.Lists.{is_made_by, is_own, own_function_in, own_global_in, is_taken_code, slots_listed, datum_listed}
 use Rattle.link_numbers.specs.Knows.{KnowsFunction, KnowsGot}
 use Rattle.link_numbers.proofs.Any.{all_each, all_none, all_map, all_filtered}
@@ -53,7 +54,7 @@ code_itself x = grind (arith, nat_tests)
 -- ---- functions that are meant
 
 module _ (names : List (List ℕ)) (imports : List ImportKey) where
-  own_told : (d : Entry) (r : Bool) → (d.input == 0) ≡ r → own_function (told_definition d) ≡ told_function names imports (if r then linker_function d.place else own d.input d.index)
+  own_told : (d : Entry) (r : Bool) → (d.input == 0) ≡ r → function_of (told_definition d) ≡ told_function names imports (if r then linker_function d.place else own d.input d.index)
   own_told d true is =
       let zero_input : d.input ≡ 0 = grind (arith, nat_tests) in
       ap (λ r. functions.Own d.input (if r then d.place else d.index)) is ∙ ap (λ i. functions.Own i d.place) zero_input

@@ -15,7 +15,6 @@ pub mod KeysTold
 pub mod Onto
 pub mod TypesFolded
 pub mod FirstsTold
-pub mod ReadAt
 pub mod Coded
 pub mod TypesTold
 pub mod Whole

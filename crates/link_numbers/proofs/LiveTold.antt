@@ -20,7 +20,8 @@ use Rattle.link_program.specs.declared.program.Tables.{Tables}
 use Rattle.link_program.specs.Told.{told_symbol}
 use Rattle.link_program.specs.Seen.{SeenNamed, seen_symbol, seen_type, seen_named, told_named, SeenContent, a_function, a_segment, a_global, the_linkers, seen_content, told_content, seen_part, told_part}
 use Rattle.link_program.specs.Program.{AreTables}
-use Rattle.link_numbers.specs.LiveRefs.{LiveRef, named_ref, named_number, no_part, part_at, row_at, is_code, refs_at, live_refs, window_numbers}
+use Rattle.link_program.specs.Look.{no_part, part_at, row_at}
+use Rattle.link_numbers.specs.LiveRefs.{LiveRef, named_ref, named_number, is_code, refs_at, live_refs, window_numbers}
 use Rattle.link_numbers.specs.Lists.{chunk_at}
 use Rattle.link_numbers.specs.Types.{type_at, content_type_at}
 use Rattle.link_numbers.proofs.Any.{mapped_at}

@@ -23,7 +23,7 @@ use Rattle.link_program.specs.link_rules.Keys.{outside, linker_function, stub, o
 use Rattle.link_program.specs.declared.program.Tables.{Tables}
 use Rattle.link_program.specs.Program.{AreTables, ChunksDiffer}
 use Rattle.link_numbers.specs.declared.firsts.At.{At}
-use Rattle.link_numbers.specs.LiveRefs.{part_at}
+use Rattle.link_program.specs.Look.{part_at}
 use Rattle.link_numbers.specs.Noted.{where_so}
 use Rattle.link_numbers.specs.Lists.{is_own, chunk_at}
 use Rattle.link_numbers.specs.Types.{kept_type, content_type_at, type_by, type_in, own_types, symbol_type, first_type}

@@ -33,7 +33,8 @@ use Rattle.link_program.specs.Program.{AreTables}
 use Rattle.link_program.specs.Live.{AllMeant}
 use Rattle.link_numbers.specs.declared.firsts.At.{At}
 use Rattle.link_numbers.specs.Codes.{same_code, function_code}
-use Rattle.link_numbers.specs.LiveRefs.{part_at, live_refs, window_numbers}
+use Rattle.link_program.specs.Look.{part_at}
+use Rattle.link_numbers.specs.LiveRefs.{live_refs, window_numbers}
 use Rattle.link_numbers.specs.Noted.{Noted, flagged, noted_parts, nothing_noted}
 use Rattle.link_numbers.specs.Lists.{chunk_at, function_imports, global_imports, stubs_listed, own_functions, own_globals, own_function_in, own_global_in, functions_listed, slots_listed, globals_listed, datum_listed}
 use Rattle.link_numbers.specs.Firsts.{firsts_rows}

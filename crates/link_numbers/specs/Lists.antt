@@ -14,7 +14,7 @@ use Rattle.link_program.specs.declared.keys.GlobalKey.TheVariants as globals
 use Rattle.link_program.specs.declared.program.Tables.{Tables}
 use Rattle.link_numbers.specs.declared.codes.Code.{Code}
 use Rattle.link_numbers.specs.Codes.{same_code, function_code}
-use Rattle.link_numbers.specs.LiveRefs.{part_at}
+use Rattle.link_program.specs.Look.{part_at}
 use Rattle.link_numbers.specs.Noted.{Noted, where_so}
 
 -- The numbers below a count that pass, rising.

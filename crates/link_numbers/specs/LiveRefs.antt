@@ -1,12 +1,12 @@
 -- The references of the live parts, as the data show them.
-use Rattle.std.specs.Prelude.{◌≡◌, ℕ, ◌==◌, Bool, List, [], map, filter_map, flat_map, slice_index_or, Option, Some, None}
+use Rattle.std.specs.Prelude.{ℕ, ◌==◌, Bool, List, filter_map, flat_map, slice_index_or, Option, Some, None}
 use Rattle.link_program.specs.wasm_types.declared.function.FuncType.{FuncType}
 use Rattle.link_program.specs.declared.symbol.Symbol.{Symbol}
 use Rattle.link_program.specs.declared.named.Named.{Named}
 use Rattle.link_program.specs.declared.named.Named.TheVariants as names
-use Rattle.link_program.specs.declared.part.Content.TheVariants as contents
 use Rattle.link_program.specs.declared.part.Part.{Part}
 use Rattle.link_program.specs.declared.program.Tables.{Tables}
+use Rattle.link_program.specs.Look.{part_at, row_at}
 use Rattle.link_program.specs.Seen.{no_symbol}
 
 -- A reference: whether it stands in code, its relocation's type, and its symbol.
@@ -22,20 +22,6 @@ named_ref symbols code (names.Type place number) = None
 abbrev pub named_number : Named → Option ℕ
 named_number (names.Symbol kind place addend symbol) = None
 named_number (names.Type place number) = Some number
-
--- where no part is
-abbrev pub no_part : Part
-no_part = record {
-  chunk = record { input = 0; kind = 1; index = 0 };
-  content = contents.Made;
-  source = record { file = 0; span = record { start = 0; len = 0 } };
-}
-
-abbrev pub part_at : Tables → ℕ → Part
-part_at t n = slice_index_or t.parts n no_part
-
-abbrev pub row_at : Tables → ℕ → List Named
-row_at t n = slice_index_or t.named n []
 
 -- Functions are of kind 0.
 abbrev pub is_code : Part → Bool

@@ -5,21 +5,21 @@ use Rattle.indexmap.specs.IndexSet.{insert_key}
 use Rattle.link_program.specs.linking_section.declared.symbol.SymbolKind.{SymbolKind}
 use Rattle.link_program.specs.linking_section.declared.symbol.SymbolKind.TheVariants.{Function as FunctionKind, GlobalVar}
 use Rattle.link_program.specs.linking_section.Flags.{kind_code}
-use Rattle.link_program.specs.declared.symbol.Definition.{Definition}
 use Rattle.link_program.specs.declared.symbol.Symbol.{Symbol}
 use Rattle.link_program.specs.declared.symbol.Lead.{Lead}
 use Rattle.link_program.specs.declared.symbol.Lead.TheVariants.{Here, Import, Null, Nothing}
 use Rattle.link_program.specs.declared.keys.FunctionKey.{FunctionKey}
 use Rattle.link_program.specs.declared.keys.FunctionKey.TheVariants as functions
 use Rattle.link_program.specs.declared.keys.GotKey.{GotKey}
-use Rattle.link_program.specs.declared.keys.GotKey.TheVariants as cells
 use Rattle.link_program.specs.declared.named.Named.{Named}
 use Rattle.link_program.specs.declared.named.Named.TheVariants as names
 use Rattle.link_program.specs.declared.program.Tables.{Tables}
+use Rattle.link_program.specs.Meant.{function_of, cell_meant}
 use Rattle.link_program.specs.Seen.{no_symbol}
 use Rattle.link_numbers.specs.declared.codes.Code.{Code}
 use Rattle.link_numbers.specs.Codes.{same_code, function_code, got_code}
-use Rattle.link_numbers.specs.LiveRefs.{part_at, row_at, is_code}
+use Rattle.link_program.specs.Look.{part_at, row_at}
+use Rattle.link_numbers.specs.LiveRefs.{is_code}
 
 -- ---- what a reference asks for
 
@@ -44,13 +44,9 @@ where_so false o = None
 abbrev pub stub_called : ℕ → Symbol → Option ℕ
 stub_called kind s = where_so ((kind == 0) && is_null_lead s.lead) s.name
 
--- The function that a definition is; the linker's are told by their numbers.
-abbrev pub own_function : Definition → FunctionKey
-own_function d = functions.Own d.input (if d.input == 0 then d.place else d.index)
-
 -- The function that it means. Null has no slot.
 abbrev pub function_meant : Lead → Option FunctionKey
-function_meant (Here d) = Some (own_function d)
+function_meant (Here d) = Some (function_of d)
 function_meant (Import n) = Some (functions.Import n)
 function_meant Null = None
 function_meant Nothing = None
@@ -62,12 +58,6 @@ asks_slot kind symbol = (kind == 1) || (kind == 2) || (kind == 12) || ((kind == 
 -- The function whose slot it takes.
 abbrev pub function_taken : ℕ → Symbol → Option FunctionKey
 function_taken kind s = where_so (asks_slot kind s.kind) (function_meant s.lead)
-
-abbrev pub cell_meant : ℕ → Lead → GotKey
-cell_meant kind (Here d) = cells.Here d
-cell_meant kind (Import n) = cells.Import n
-cell_meant kind Null = cells.Null kind
-cell_meant kind Nothing = cells.Null kind
 
 -- The relocation type 7 reads a global, or the cell of the address of a function or datum.
 abbrev pub reads_cell : ℕ → SymbolKind → Bool

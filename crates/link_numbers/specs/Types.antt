@@ -14,7 +14,7 @@ use Rattle.link_program.specs.declared.part.Content.TheVariants as contents
 use Rattle.link_program.specs.declared.part.Part.{Part}
 use Rattle.link_program.specs.declared.program.Tables.{Tables}
 use Rattle.link_numbers.specs.declared.firsts.At.{At}
-use Rattle.link_numbers.specs.LiveRefs.{part_at}
+use Rattle.link_program.specs.Look.{part_at}
 use Rattle.link_numbers.specs.Noted.{Noted, where_so}
 use Rattle.link_numbers.specs.Lists.{function_imports, is_own, stubs_listed}
 

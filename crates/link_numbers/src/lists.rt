@@ -6,12 +6,12 @@ ghost use Rattle.link_program.specs.declared.keys.GlobalKey.TheVariants as globa
 ghost use Rattle.link_numbers.specs.Codes.{function_code, global_code};
 ghost use Rattle.link_numbers.specs.Lists.{flag_at, is_function_import, is_global_import, function_imports, global_imports, is_own, own_function_in, own_global_in, own_functions, own_globals, stubs_listed, functions_listed, is_taken_code, slots_listed, datum_listed, globals_listed};
 
-use crate::marking::part_at;
 use crate::marks::Marks;
 use crate::{Code, function_code, global_code};
 use indexmap::IndexSet;
 use link_program::{
-    FunctionKey, GlobalKey, GotKey, ImportType, Program, Resolution, Tables, Winner,
+    FunctionKey, GlobalKey, GotKey, ImportType, Program, Resolution, Tables, Winner, chunk_kinds,
+    part_at,
 };
 use linking_section::SymbolKind;
 use mark_bits::Chunk;
@@ -19,7 +19,7 @@ use std::alloc::Global;
 use wl_base::OutOfMemory;
 
 /// The flag at a place.
-#[tactic(auto, using(crate::proofs::ReadAt::read))]
+#[tactic(auto, using(link_program::proofs::ReadAt::read))]
 pub(crate) fn flag_at(flags: &[bool], at: u32) -> bool
     ensures { result ≡ flag_at flags.now at }
 {
@@ -103,7 +103,7 @@ fn push_own_function(
 ) -> Result<(), OutOfMemory>
     ensures { OnOk result (keys.new.items ≡ keys.old.items ++ cons_option (own_function_in linkers chunk) []) }
 {
-    if is_own(0, linkers, chunk) {
+    if is_own(chunk_kinds::FUNCTION, linkers, chunk) {
         keys.push(FunctionKey::Own {
             input: chunk.input,
             index: chunk.index,
@@ -120,7 +120,7 @@ fn push_own_global(
 ) -> Result<(), OutOfMemory>
     ensures { OnOk result (keys.new.items ≡ keys.old.items ++ cons_option (own_global_in linkers chunk) []) }
 {
-    if is_own(2, linkers, chunk) {
+    if is_own(chunk_kinds::GLOBAL, linkers, chunk) {
         keys.push(GlobalKey::Own {
             input: chunk.input,
             index: chunk.index,

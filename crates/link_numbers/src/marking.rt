@@ -1,63 +1,14 @@
 //! The live parts, one after another.
 ghost use Rattle.std.specs.Prelude.{◌≡◌, ◌==◌, [], slice_index_or, replicate, fold, IfOk, OnOk};
 ghost use Rattle.link_program.specs.Seen.{no_symbol};
-ghost use Rattle.link_numbers.specs.LiveRefs.{part_at, row_at, is_code};
+ghost use Rattle.link_program.specs.Look.{part_at, row_at};
+ghost use Rattle.link_numbers.specs.LiveRefs.{is_code};
 ghost use Rattle.link_numbers.specs.Noted.{noted, noted_part, noted_parts, nothing_noted};
 
 use crate::marks::Marks;
-use link_program::{Content, Lead, Named, Part, Symbol, Tables};
-use linking_section::SymbolKind;
-use mark_bits::Chunk;
+use link_program::{Named, Symbol, Tables, chunk_kinds, part_at, row_at, symbol_at};
 use std::alloc::Global;
-use wl_base::{FileSpan, OutOfMemory, Span};
-
-/// The symbol at a place.
-#[tactic(auto, using(crate::proofs::ReadAt::read))]
-fn symbol_at(symbols: &[Symbol], at: u32) -> Symbol
-    ensures { result ≡ slice_index_or symbols.now at no_symbol }
-{
-    match symbols.get(at as usize) {
-        Some(symbol) => *symbol,
-        None => Symbol {
-            kind: SymbolKind::Function,
-            name: None,
-            lead: Lead::Nothing,
-        },
-    }
-}
-
-/// The part of a number.
-#[tactic(auto, using(crate::proofs::ReadAt::read))]
-pub(crate) fn part_at(tables: &Tables, number: u32) -> Part
-    ensures { result ≡ part_at tables.now number }
-{
-    match tables.parts.get(number as usize) {
-        Some(part) => *part,
-        None => Part {
-            chunk: Chunk {
-                input: 0,
-                kind: 1,
-                index: 0,
-            },
-            content: Content::Made,
-            source: FileSpan {
-                file: 0,
-                span: Span { start: 0, len: 0 },
-            },
-        },
-    }
-}
-
-/// What the part of a number names.
-#[tactic(auto, using(crate::proofs::ReadAt::read))]
-fn row_at(tables: &Tables, number: u32) -> &[Named]
-    ensures { result.now ≡ row_at tables.now number }
-{
-    match tables.named.get(number as usize) {
-        Some(row) => row,
-        None => &[],
-    }
-}
+use wl_base::OutOfMemory;
 
 /// Notes what a window of a part names.
 fn note(marks: &mut Marks, symbols: &[Symbol], code: bool, named: Named) -> Result<(), OutOfMemory>
@@ -93,7 +44,7 @@ fn note_row(
 fn note_part(marks: &mut Marks, tables: &Tables, number: u32) -> Result<(), OutOfMemory>
     ensures { OnOk result (marks.new ≡ noted_part tables.now marks.old number) }
 {
-    let code = part_at(tables, number).chunk.kind == 0;
+    let code = part_at(tables, number).chunk.kind == chunk_kinds::FUNCTION;
     let row = row_at(tables, number);
     note_row(marks, tables.symbols.as_slice(), code, row)
 }

@@ -1,12 +1,12 @@
 //! What the references of live parts ask for, noted in one pass.
 ghost use Rattle.std.specs.Prelude.{◌≡◌, IfOk, OnOk};
-ghost use Rattle.link_program.specs.linking_section.Flags.{kind_code};
-ghost use Rattle.link_numbers.specs.Noted.{import_named, is_null_lead, stub_called, own_function, function_meant, asks_slot, function_taken, cell_meant, reads_cell, cell_read, flagged, with_taken, with_read, noted_ref, noted_number, nothing_noted};
+ghost use Rattle.link_numbers.specs.Noted.{import_named, stub_called, function_meant, asks_slot, function_taken, cell_read, flagged, with_taken, with_read, noted_ref, noted_number, nothing_noted};
 
 use crate::{Code, function_code, got_code};
 use indexmap::IndexSet;
-use link_program::{Definition, FunctionKey, GotKey, Lead, Symbol};
+use link_program::{FunctionKey, GotKey, Lead, Symbol, cell_meant, function_of};
 use linking_section::SymbolKind;
+use reloc_section::kinds;
 use std::alloc::Global;
 use std::marker::Model;
 use wl_base::OutOfMemory;
@@ -53,20 +53,10 @@ fn stub_called(kind: u8, symbol: Symbol) -> Option<u32>
         Lead::Null => true,
         Lead::Here(_) | Lead::Import(_) | Lead::Nothing => false,
     };
-    if kind == 0 && null { symbol.name } else { None }
-}
-
-/// The function that a definition is.
-fn own_function(definition: Definition) -> FunctionKey
-    ensures { result ≡ own_function definition }
-{
-    FunctionKey::Own {
-        input: definition.input,
-        index: if definition.input == 0 {
-            definition.place
-        } else {
-            definition.index
-        },
+    if kind == kinds::FUNCTION_INDEX_LEB && null {
+        symbol.name
+    } else {
+        None
     }
 }
 
@@ -75,22 +65,9 @@ fn function_meant(lead: Lead) -> Option<FunctionKey>
     ensures { result ≡ function_meant lead }
 {
     match lead {
-        Lead::Here(definition) => Some(own_function(definition)),
+        Lead::Here(definition) => Some(function_of(definition)),
         Lead::Import(number) => Some(FunctionKey::Import(number)),
         Lead::Null | Lead::Nothing => None,
-    }
-}
-
-/// The byte that spells a kind (Linking.md, "Symbol Table Subsection").
-fn kind_code(kind: SymbolKind) -> u8
-    ensures { result ≡ kind_code kind }
-{
-    match kind {
-        SymbolKind::Function => 0,
-        SymbolKind::Datum => 1,
-        SymbolKind::GlobalVar => 2,
-        SymbolKind::Section => 3,
-        SymbolKind::Table => 5,
     }
 }
 
@@ -98,7 +75,10 @@ fn kind_code(kind: SymbolKind) -> u8
 fn asks_slot(kind: u8, symbol: SymbolKind) -> bool
     ensures { result ≡ asks_slot kind symbol }
 {
-    kind == 1 || kind == 2 || kind == 12 || (kind == 7 && kind_code(symbol) == 0)
+    kind == kinds::TABLE_INDEX_SLEB
+        || kind == kinds::TABLE_INDEX_I32
+        || kind == kinds::TABLE_INDEX_REL_SLEB
+        || (kind == kinds::GLOBAL_INDEX_LEB && symbol == SymbolKind::Function)
 }
 
 /// The function whose slot a reference takes.
@@ -112,24 +92,12 @@ fn function_taken(kind: u8, symbol: Symbol) -> Option<FunctionKey>
     }
 }
 
-/// The cell of an address.
-fn cell_meant(kind: u8, lead: Lead) -> GotKey
-    ensures { result ≡ cell_meant kind lead }
-{
-    match lead {
-        Lead::Here(definition) => GotKey::Here(definition),
-        Lead::Import(number) => GotKey::Import(number),
-        Lead::Null | Lead::Nothing => GotKey::Null(kind),
-    }
-}
-
 /// The cell that a reference reads, where it stands in code.
 fn cell_read(code: bool, kind: u8, symbol: Symbol) -> Option<GotKey>
     ensures { result ≡ cell_read code kind symbol }
 {
-    let of = kind_code(symbol.kind);
-    if code && kind == 7 && of != 2 {
-        Some(cell_meant(of, symbol.lead))
+    if code && kind == kinds::GLOBAL_INDEX_LEB && symbol.kind != SymbolKind::GlobalVar {
+        Some(cell_meant(symbol.kind.code(), symbol.lead))
     } else {
         None
     }

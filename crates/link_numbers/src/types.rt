@@ -9,10 +9,10 @@ ghost use Rattle.link_numbers.specs.Types.{type_at, kept_type, import_types, con
 
 use crate::firsts::At;
 use crate::lists::{flag_at, is_function_import, is_own};
-use crate::marking::part_at;
 use crate::marks::Marks;
 use link_program::{
     Content, Entries, FuncTypeRef, ImportType, Part, Program, Resolution, Tables, TypeRef,
+    chunk_kinds, part_at,
 };
 use std::alloc::Global;
 use std::marker::Model;
@@ -202,7 +202,7 @@ impl TypeNumbers {
     ) -> Result<(), OutOfMemory>
         ensures { OnOk result (self.new ≡ fold with_numbered self.old (cons_option (type_in linkers types.now part) [])) }
     {
-        if is_own(0, linkers, part.chunk) {
+        if is_own(chunk_kinds::FUNCTION, linkers, part.chunk) {
             self.push_content(linkers, types, part.content)?;
         }
         Ok(())
@@ -280,7 +280,7 @@ impl TypeNumbers {
 }
 
 /// The place of the least entry of a name.
-#[tactic(auto, using(crate::proofs::ReadAt::read))]
+#[tactic(auto, using(link_program::proofs::ReadAt::read))]
 fn first_of(firsts: &[Option<At>], number: u32) -> Option<At>
     ensures { result ≡ slice_index_or firsts.now number None }
 {

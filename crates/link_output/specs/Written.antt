@@ -13,16 +13,18 @@ use Rattle.link_program.specs.image_emit.declared.measuring.Measured.{Measured}
 use Rattle.link_program.specs.image_emit.Bytes.{bytes_of, tree_of}
 use Rattle.link_program.specs.image_emit.Filled.{tree_filled}
 use Rattle.link_program.specs.image_emit.Measures.{image_measure}
-use Rattle.link_program.specs.image_emit.Pieces.{source_places}
+use Rattle.link_program.specs.image_emit.Pieces.{code_place, source_places}
 use Rattle.link_program.specs.link_rules.LinkOf.{length_fault}
 
 -- how long the output is
 abbrev pub output_len : List (List ℕ) → Image → ℕ
 output_len files i = length (bytes_of (tree_of files i))
 
--- The measure is that of the output's bytes, which are fewer than 2^31; or they are not, and their number is told.
+-- The measure is that of the output's bytes, which are fewer than 2^31, with the place of its code; or they are not, and their number
+-- is told.
 abbrev pub Measures : Result Measured LayoutError → List (List ℕ) → Image → Type 0
 Measures (Ok m) files i = (image_measure i ≡ Ok m) × (m.places ≡ source_places (tree_of files i)) × (length_fault (output_len files i) ≡ None) × (m.len < 2 ^ 31)
+    × (m.code ≡ code_place (tree_of files i))
 Measures (Err (Overflow what needed)) files i = length_fault (output_len files i) ≡ Some (faults.Overflow what needed)
 Measures (Err OutOfMemory) files i = Unit {0}
 

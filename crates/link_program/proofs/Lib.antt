@@ -1,3 +1,5 @@
+pub mod ReadAt
+pub mod Chunks
 pub use Rattle.image_emit.proofs as image_emit_lemmas
 pub use Rattle.lib_index.proofs as lib_index_lemmas
 pub use Rattle.name_entries.proofs as name_entries_lemmas

@@ -1,6 +1,9 @@
 pub mod Told
 pub mod Seen
 pub mod Keys
+pub mod Look
+pub mod Meant
+pub mod Answers
 pub mod Loaded
 pub mod Stand
 pub mod Program
@@ -22,7 +25,7 @@ pub use Rattle.name_entries.specs.name_rules as name_rules
 pub use Rattle.name_entries.specs.link_names as link_names
 pub use Rattle.name_entries.specs as name_entries
 pub use Rattle.name_meanings.specs as name_meanings
-pub use Rattle.lib_rounds.specs as lib_rounds
+pub use Rattle.round_rules.specs as round_rules
 pub use Rattle.lib_index.specs as lib_index
 pub use Rattle.symbol_race.specs as symbol_race
 pub use Rattle.mark_bits.specs as mark_bits

@@ -2,7 +2,7 @@
 use Rattle.std.specs.Prelude.{◌≡◌, ℕ, ◌+◌, ◌-◌, ◌≤◌, ◌<◌, List, length, map, slice_get, slice_index_or, [], Some, Result, Ok, Err, All}
 use Rattle.name_entries.specs.object_file.declared.object.Object.{Object}
 use Rattle.name_entries.specs.object_file.Sound.{Sound}
-use Rattle.lib_rounds.specs.Rounds.{Candidate}
+use Rattle.round_rules.specs.Rounds.{Candidate}
 use Rattle.name_entries.specs.View.{InputsRise}
 use Rattle.link_plan.specs.declared.plan.Plan.{Plan}
 use Rattle.name_entries.specs.wl_base.declared.fault.Fault.{Fault}
@@ -19,7 +19,7 @@ abbrev pub the_candidates : Plan → List (List ℕ) → List Candidate
 the_candidates plan files = given_or_none (candidates_of the_readers plan files)
 
 abbrev pub home_of : Candidate → Home
-home_of c = record { file = c.file; start = c.start }
+home_of c = record { file = c.file; start = c.start; len = c.len }
 
 -- Where loaded objects come from: what the words ask for, the files, and the candidates in them.
 pub record Origin : Type 0 where

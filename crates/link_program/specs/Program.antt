@@ -4,7 +4,7 @@ use Rattle.name_entries.specs.object_file.declared.object.Object.{Object}
 use Rattle.name_entries.specs.made_symbols.declared.mode.Mode.{Mode}
 use Rattle.mark_bits.specs.declared.chunk.Chunk.{Chunk}
 use Rattle.name_entries.specs.link_names.Numbered.{AreNumbers, different_names}
-use Rattle.lib_rounds.specs.Rounds.{Candidate}
+use Rattle.round_rules.specs.Rounds.{Candidate}
 use Rattle.name_entries.specs.name_rules.Entries.{ImportKey, entries}
 use Rattle.name_entries.specs.name_rules.Meanings.{resolve}
 use Rattle.name_entries.specs.View.{InputsRise, WinnersAre}

@@ -1,15 +1,24 @@
 //! The loaded objects as parts that refer to one another, as data: what the later steps of a link look at.
 #![tactic(auto)]
 
+mod asking;
+pub mod chunk_kinds;
+mod error;
 mod home;
 mod keys;
+mod looking;
+mod meaning;
 mod named;
 mod part;
 mod program;
 mod symbol;
 
+pub use asking::{add_names, asked_names};
+pub use error::{LinkError, refuse};
 pub use home::Home;
 pub use keys::{FunctionKey, GlobalKey, GotKey};
+pub use looking::{chunk_number, part_at, row_at, symbol_at};
+pub use meaning::{cell_meant, function_meant, function_of, index_of};
 pub use name_entries::{
     Entries, EntryRef, EntryTable, FuncTypeRef, FunctionRef, GlobalDef, ImportPlaces, Meaning,
     Names, Object, ObjectParts, PairCase, SegmentRef, SymbolRef, TypeRef,

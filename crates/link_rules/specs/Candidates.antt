@@ -7,7 +7,7 @@ use Rattle.object_file.specs.wl_base.declared.fault.LibFault.{LibFault}
 use Rattle.object_file.specs.wl_base.declared.span.Span.{Span}
 use Rattle.object_file.specs.declared.object.Object.{Object}
 use Rattle.lib_index.specs.Library.{Contents}
-use Rattle.lib_rounds.specs.Rounds.{Candidate, defined_names}
+use Rattle.round_rules.specs.Rounds.{Candidate, defined_names}
 use Rattle.link_plan.specs.declared.plan.Plan.{Plan}
 use Rattle.link_plan.specs.declared.plan.InputWord.{InputWord}
 

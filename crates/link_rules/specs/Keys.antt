@@ -7,11 +7,13 @@ use Rattle.object_file.specs.wasm_types.Same.{same_type}
 use Rattle.object_file.specs.linking_section.declared.symbol.SymbolKind.TheVariants.{Function, Datum, GlobalVar}
 use Rattle.object_file.specs.linking_section.Flags.{kind_code}
 use Rattle.object_file.specs.Spaces.{no_type}
+use Rattle.object_file.specs.reloc_section.declared.kinds.TheConstants as relocs
 use Rattle.made_symbols.specs.declared.mode.Mode.{Mode}
 use Rattle.made_symbols.specs.declared.mode.Mode.TheVariants.{Plain, Shared}
 use Rattle.name_rules.specs.Entries.{Entry, ImportKey, SymbolType, of_function, of_global, untyped, is_kind, name_of, same_entry, same_import}
 use Rattle.name_rules.specs.Cases.{first_entry}
 use Rattle.name_rules.specs.Meanings.{Meaning, here, imported, null, nothing, cell_of}
+use Rattle.mark_bits.specs.declared.kinds.TheConstants as chunks
 use Rattle.type_merge.specs.Types.{merged}
 use Rattle.index_layout.specs.Numbers.{number_by}
 use Rattle.link_rules.specs.Program.{Program, Part, Content, function, segment, global, linker_made, Ref, types_named}
@@ -147,7 +149,7 @@ used_imports refs = filter_map (λ ref. import_of ref.meaning) refs
 -- In a shared output functions are imported to be called, and other imports are of globals.
 abbrev pub imports_by : Mode → Ref → Bool
 imports_by Plain ref = true
-imports_by Shared ref = (ref.kind == 0) || is_kind GlobalVar ref.entry
+imports_by Shared ref = (ref.kind == relocs.FUNCTION_INDEX_LEB) || is_kind GlobalVar ref.entry
 
 -- ---- functions
 
@@ -157,17 +159,17 @@ function_imports_of mode p refs = filter (λ k. is_function_type k.type && has_i
 
 -- whether a reference is a call of the null function of this name
 abbrev pub calls_stub : List ℕ → Ref → Bool
-calls_stub name ref = (ref.kind == 0) && is_null ref.meaning && bytes_eq (name_of ref.entry) name
+calls_stub name ref = (ref.kind == relocs.FUNCTION_INDEX_LEB) && is_null ref.meaning && bytes_eq (name_of ref.entry) name
 
 -- The names of null functions that live parts call, by their least entries.
 abbrev pub stub_names : Program → List Ref → List (List ℕ)
 stub_names p refs = distinct bytes_eq (map name_of (filter (λ e. list_any (calls_stub (name_of e)) refs) p.entries))
 
 abbrev pub made_function_key : Part → Option FunctionKey
-made_function_key part = given ((part.chunk.input == 0) && (part.chunk.kind == 0)) (linker_function part.chunk.index)
+made_function_key part = given ((part.chunk.input == 0) && (part.chunk.kind == chunks.FUNCTION)) (linker_function part.chunk.index)
 
 abbrev pub own_function_key : Part → Option FunctionKey
-own_function_key part = given (not (part.chunk.input == 0) && (part.chunk.kind == 0)) (own part.chunk.input part.chunk.index)
+own_function_key part = given (not (part.chunk.input == 0) && (part.chunk.kind == chunks.FUNCTION)) (own part.chunk.input part.chunk.index)
 
 -- The linker's functions that are live, the stubs, the live functions of objects by input and index.
 abbrev pub defined_functions : Program → List Part → List FunctionKey
@@ -187,11 +189,12 @@ abbrev pub may_have_slot : Mode → Meaning → Bool
 may_have_slot Plain m = not (is_null m)
 may_have_slot Shared m = is_here m
 
--- The relocation types 1, 2 and 12 ask for a slot, and type 7 for the cell that holds a function's slot.
+-- The relocations of table indices ask for a slot, and GLOBAL_INDEX_LEB of a function for the cell that holds its slot.
 abbrev pub takes_slot : Mode → Ref → Bool
 takes_slot mode ref =
     may_have_slot mode ref.meaning
-    && ((ref.kind == 1) || (ref.kind == 2) || (ref.kind == 12) || ((ref.kind == 7) && is_kind Function ref.entry))
+    && ((ref.kind == relocs.TABLE_INDEX_SLEB) || (ref.kind == relocs.TABLE_INDEX_I32) || (ref.kind == relocs.TABLE_INDEX_REL_SLEB)
+    || ((ref.kind == relocs.GLOBAL_INDEX_LEB) && is_kind Function ref.entry))
 
 abbrev pub is_taken : List FunctionKey → FunctionKey → Bool
 is_taken taken f = list_any (same_function f) taken
@@ -211,13 +214,13 @@ made_global_import e = given ((e.input == 0) && is_kind GlobalVar e) (record { p
 
 -- The cell of a foreign address that a reference uses.
 abbrev pub foreign_cell : Ref → Option ImportKey
-foreign_cell ref = given (not (ref.kind == 0) && not (is_kind GlobalVar ref.entry) && is_foreign ref) (cell_of ref.entry)
+foreign_cell ref = given (not (ref.kind == relocs.FUNCTION_INDEX_LEB) && not (is_kind GlobalVar ref.entry) && is_foreign ref) (cell_of ref.entry)
 
 abbrev pub parts_of_kind : ℕ → List Part → List Part
 parts_of_kind kind parts = filter (λ part. part.chunk.kind == kind) parts
 
 abbrev pub foreign_cells : List Part → List ImportKey
-foreign_cells parts = filter_map foreign_cell (refs_of (parts_of_kind 0 parts) ++ refs_of (parts_of_kind 1 parts))
+foreign_cells parts = filter_map foreign_cell (refs_of (parts_of_kind chunks.FUNCTION parts) ++ refs_of (parts_of_kind chunks.SEGMENT parts))
 
 -- The imported globals. In a shared output: the linker's, the cells of foreign addresses over live code and then live data, others.
 abbrev pub global_imports_in : Mode → Program → List Part → List ImportKey
@@ -225,10 +228,10 @@ global_imports_in Plain p parts = used_globals Plain p (refs_of parts)
 global_imports_in Shared p parts = distinct same_import (filter_map made_global_import p.entries ++ foreign_cells parts ++ used_globals Shared p (refs_of parts))
 
 abbrev pub made_global_key : Part → Option GlobalKey
-made_global_key part = given ((part.chunk.input == 0) && (part.chunk.kind == 2)) (linker_global part.chunk.index)
+made_global_key part = given ((part.chunk.input == 0) && (part.chunk.kind == chunks.GLOBAL)) (linker_global part.chunk.index)
 
 abbrev pub own_global_key : Part → Option GlobalKey
-own_global_key part = given (not (part.chunk.input == 0) && (part.chunk.kind == 2)) (own_global part.chunk.input part.chunk.index)
+own_global_key part = given (not (part.chunk.input == 0) && (part.chunk.kind == chunks.GLOBAL)) (own_global part.chunk.input part.chunk.index)
 
 -- whether a reference reads a cell that the link defines; in a shared output those of foreign addresses are imported
 abbrev pub needs_got : Mode → Ref → Bool
@@ -237,7 +240,7 @@ needs_got Shared ref = reads_cell ref && is_here ref.meaning
 
 -- The cells of addresses, in first-seen order over live code.
 abbrev pub got_entries : Mode → List Part → List GotKey
-got_entries mode parts = distinct same_got (map ref_got (filter (needs_got mode) (refs_of (parts_of_kind 0 parts))))
+got_entries mode parts = distinct same_got (map ref_got (filter (needs_got mode) (refs_of (parts_of_kind chunks.FUNCTION parts))))
 
 abbrev pub made_globals : Mode → List Part → List GlobalKey
 made_globals Plain parts = filter_map made_global_key parts
@@ -281,7 +284,7 @@ part_type None = no_type
 part_type (Some part) = content_type part.content
 
 abbrev pub is_function_at : ℕ → ℕ → Part → Bool
-is_function_at input index part = (part.chunk.kind == 0) && (part.chunk.input == input) && (part.chunk.index == index)
+is_function_at input index part = (part.chunk.kind == chunks.FUNCTION) && (part.chunk.input == input) && (part.chunk.index == index)
 
 -- The type of a function of the output. The linker's functions are () to (), and a stub has the type of its name's least entry.
 abbrev pub type_of : Program → List Part → FunctionKey → FuncType

@@ -9,7 +9,7 @@ use Rattle.object_file.specs.ObjectOf.{object_of}
 use Rattle.lib_index.specs.Reading.{library_of}
 use Rattle.made_symbols.specs.declared.mode.Mode.{Mode}
 use Rattle.made_symbols.specs.declared.mode.Mode.TheVariants.{Plain}
-use Rattle.lib_rounds.specs.Rounds.{load}
+use Rattle.round_rules.specs.Rounds.{load}
 use Rattle.name_rules.specs.Entries.{Entry, name_of}
 use Rattle.name_rules.specs.Cases.{clash, duplicate}
 use Rattle.memory_layout.specs.Memory.{Passed, memory_overflow}

@@ -3,6 +3,7 @@ use Rattle.std.specs.Prelude.{ℕ, ◌+◌, max, Bool, true, false, ◌==◌, Li
 use Rattle.std.specs.List.{list_any, list_all}
 use Rattle.object_file.specs.linking_section.declared.symbol.SymbolKind.TheVariants.{Function}
 use Rattle.object_file.specs.linking_section.Flags.{is_weak}
+use Rattle.object_file.specs.reloc_section.declared.kinds.TheConstants as relocs
 use Rattle.made_symbols.specs.declared.mode.Mode.{Mode}
 use Rattle.name_rules.specs.Entries.{Entry, ImportKey, is_kind, is_entry, named, name_of, same_import}
 use Rattle.name_rules.specs.Meanings.{Meaning, here, imported, null, nothing, cell_of}
@@ -28,15 +29,16 @@ module _ (mode : Mode) (p : Program) (parts : List Part) (l : Layout) where
   abbrev pub cell_number : Ref → ℕ
   cell_number ref = global_number l.numbers (cell_key mode ref)
 
-  -- by whether the symbol is foreign, and whether the word holds a slot
-  abbrev pub word_value_by : Ref → Bool → Bool → WordValue
-  word_value_by ref true true = ForeignFunction (cell_number ref)
-  word_value_by ref true false = ForeignDatum (cell_number ref) ref.addend
-  word_value_by ref false true = OwnFunction (ref_slot l ref)
-  word_value_by ref false false = OwnDatum (bits32 (pos (meant_address mode l ref.meaning) +ℤ ref.addend))
+  -- A slot of the link's own function, or an address of its own datum and the addend.
+  abbrev pub own_value : Ref → WordValue
+  own_value ref = if ref.kind == relocs.TABLE_INDEX_I32 then OwnFunction (ref_slot l ref) else OwnDatum (bits32 (pos (meant_address mode l ref.meaning) +ℤ ref.addend))
+
+  -- What a foreign symbol's cell holds, and for an address the addend.
+  abbrev pub foreign_value : Ref → WordValue
+  foreign_value ref = if ref.kind == relocs.TABLE_INDEX_I32 then ForeignFunction (cell_number ref) else ForeignDatum (cell_number ref) ref.addend
 
   abbrev pub window_word : ℕ → Ref → WordReloc
-  window_word address ref = record { to = WindowAt (address + ref.place); value = word_value_by ref (is_foreign ref) (ref.kind == 2) }
+  window_word address ref = record { to = WindowAt (address + ref.place); value = if is_foreign ref then foreign_value ref else own_value ref }
 
   abbrev pub segment_words : Part → List WordReloc
   segment_words part = map (window_word (segment_address l part.chunk)) (refs part)

@@ -7,11 +7,14 @@ use Rattle.object_file.specs.wl_base.declared.fault.Fault.TheVariants.{Duplicate
 use Rattle.object_file.specs.linking_section.declared.symbol.SymbolKind.TheVariants.{Function, Datum, GlobalVar}
 use Rattle.object_file.specs.linking_section.Flags.{is_exported, is_hidden, is_no_strip, is_local_definition, has_bit}
 use Rattle.object_file.specs.object_columns.declared.functions.FunctionDef.{FunctionDef}
+use Rattle.object_file.specs.reloc_section.declared.kinds.TheConstants as relocs
 use Rattle.made_symbols.specs.declared.mode.Mode.{Mode}
 use Rattle.made_symbols.specs.declared.mode.Mode.TheVariants.{Plain, Shared}
+use Rattle.made_symbols.specs.Made.{call_ctors, apply_data_relocs}
 use Rattle.name_rules.specs.Entries.{Entry, is_named, is_kind, name_of, same_entry}
 use Rattle.name_rules.specs.Meanings.{Meaning, here, imported, null, nothing, is_nothing, Resolved}
 use Rattle.mark_bits.specs.declared.chunk.Chunk.{Chunk}
+use Rattle.mark_bits.specs.declared.kinds.TheConstants as chunks
 use Rattle.live_mark.specs.Live.{reached, is_among}
 use Rattle.link_plan.specs.declared.plan.Plan.{Plan}
 use Rattle.link_rules.specs.Program.{Program, Part, Content, segment, function, global, linker_made, Ref, refs, chunk_of, meant_chunk, same_chunk, init_calls}
@@ -139,31 +142,41 @@ is_here (imported k) = false
 is_here null = false
 is_here nothing = false
 
--- A window of GLOBAL_INDEX_LEB (7) that takes the address of a function or datum from a cell.
+-- A window of GLOBAL_INDEX_LEB that takes the address of a function or datum from a cell.
 abbrev pub reads_cell : Ref → Bool
-reads_cell ref = (ref.kind == 7) && not (is_kind GlobalVar ref.entry)
+reads_cell ref = (ref.kind == relocs.GLOBAL_INDEX_LEB) && not (is_kind GlobalVar ref.entry)
 
 -- A segment with windows, or code that reads a cell of the link's own.
 abbrev pub needs_work : Part → Bool
 needs_work part =
-    ((part.chunk.kind == 1) && not (length part.named == 0))
-    || ((part.chunk.kind == 0) && list_any (λ ref. reads_cell ref && is_here ref.meaning) (refs part))
+    ((part.chunk.kind == chunks.SEGMENT) && not (length part.named == 0))
+    || ((part.chunk.kind == chunks.FUNCTION) && list_any (λ ref. reads_cell ref && is_here ref.meaning) (refs part))
 
 abbrev pub has_calls : Program → Bool
 has_calls p = not (length (init_calls p.resolved) == 0)
 
--- exported by the words or flags; or `__wasm_call_ctors` (0) where it calls, or `__wasm_apply_data_relocs` (1) where it has work
-abbrev pub is_due : Bool → Bool → Plan → Entry → Bool
-is_due calls work plan e =
-    is_exported_by plan e || ((e.input == 0) && (((e.place == 0) && calls) || ((e.place == 1) && work)))
+-- the linker's own symbol of a number
+abbrev pub is_made : ℕ → Entry → Bool
+is_made number e = (e.input == 0) && (e.place == number)
 
-abbrev pub with_due : Program → List Entry → Bool → List Entry
-with_due p asked calls = filter (is_due calls (list_any needs_work (live p (asked ++ filter (is_due calls false p.plan) p.winners))) p.plan) p.winners
+-- What is exported but for the function that makes addresses right: what the words and flags ask for, and `__wasm_call_ctors` where it
+-- calls.
+abbrev pub exports_without : Program → Bool → List Entry
+exports_without p calls = filter (λ e. is_exported_by p.plan e || (is_made call_ctors e && calls)) p.winners
+
+-- Whether that function has work: whether some part that lives by these exports has some.
+abbrev pub has_work : Program → List Entry → Bool
+has_work p exports = list_any needs_work (live p exports)
+
+-- All that is exported, where it has work and where it hasn't.
+abbrev pub exports_with : Program → Bool → Bool → List Entry
+exports_with p calls work =
+    filter (λ e. is_exported_by p.plan e || (is_made call_ctors e && calls) || (is_made apply_data_relocs e && work)) p.winners
 
 -- The exported winners, by input and place.
 unfoldable pub exported : Mode → Program → List Entry
 exported Plain p = asked_exports p
-exported Shared p = with_due p (asked_exports p) (has_calls p)
+exported Shared p = exports_with p (has_calls p) (has_work p (exports_without p (has_calls p)))
 
 -- ---- code that isn't position-independent
 
@@ -173,10 +186,17 @@ is_foreign ref =
     not (is_here ref.meaning) && not (is_local_definition ref.entry.symbol)
     && (is_kind Function ref.entry || is_kind Datum ref.entry || is_kind GlobalVar ref.entry)
 
--- The relocation types 1, 3 and 4 hold absolute slots and addresses, and 11 and 12 hold those relative to a base, which no foreign
--- symbol has.
+-- a slot or an address that counts from 0
+abbrev pub is_absolute : ℕ → Bool
+is_absolute kind = (kind == relocs.TABLE_INDEX_SLEB) || (kind == relocs.MEMORY_ADDR_LEB) || (kind == relocs.MEMORY_ADDR_SLEB)
+
+-- one that counts from a base
+abbrev pub is_relative : ℕ → Bool
+is_relative kind = (kind == relocs.MEMORY_ADDR_REL_SLEB) || (kind == relocs.TABLE_INDEX_REL_SLEB)
+
+-- Code of a shared output holds no absolute slot or address, and one that is relative to a base of no foreign symbol.
 abbrev pub is_fixed : Ref → Bool
-is_fixed ref = (ref.kind == 1) || (ref.kind == 3) || (ref.kind == 4) || (((ref.kind == 11) || (ref.kind == 12)) && is_foreign ref)
+is_fixed ref = is_absolute ref.kind || (is_relative ref.kind && is_foreign ref)
 
 abbrev pub fixed_fault : Ref → Fault
 fixed_fault ref = NotPic ref.entry.input ref.entry.place ref.kind
@@ -184,7 +204,7 @@ fixed_fault ref = NotPic ref.entry.input ref.entry.place ref.kind
 -- The least relocation in live code that a shared output can't have.
 unfoldable pub pic_fault : Mode → List Part → Option Fault
 pic_fault Plain parts = None
-pic_fault Shared parts = option_map fixed_fault (find is_fixed (refs_of (filter (λ part. part.chunk.kind == 0) parts)))
+pic_fault Shared parts = option_map fixed_fault (find is_fixed (refs_of (filter (λ part. part.chunk.kind == chunks.FUNCTION) parts)))
 
 -- ---- unresolved
 

@@ -14,6 +14,8 @@ use Rattle.object_file.specs.linking_section.declared.symbol.SymbolKind.{SymbolK
 use Rattle.object_file.specs.linking_section.declared.symbol.SymbolKind.TheVariants.{Function, Datum, GlobalVar, Section, Table}
 use Rattle.made_symbols.specs.declared.mode.Mode.{Mode}
 use Rattle.made_symbols.specs.declared.mode.Mode.TheVariants.{Plain, Shared}
+use Rattle.made_symbols.specs.Made.{call_ctors, stack_pointer}
+use Rattle.mark_bits.specs.declared.kinds.TheConstants as chunks
 use Rattle.name_rules.specs.Entries.{Entry, ImportKey, SymbolType, of_function, of_global, untyped}
 use Rattle.memory_layout.specs.Memory.{places, up}
 use Rattle.reloc_apply.specs.declared.window.Window.{Window}
@@ -125,11 +127,11 @@ module _ (mode : Mode) (p : Program) (parts : List Part) (exports : List Entry) 
   abbrev pub part_at : ℕ → ℕ → Option Part
   part_at input index = find (is_function_at input index) parts
 
-  -- The body of a function: `__wasm_call_ctors` (number 0) calls the init functions, the linker's other function makes addresses
+  -- The body of a function: `__wasm_call_ctors` calls the init functions, the linker's other function makes addresses
   -- right, and the body of an object's function is its bytes.
   abbrev pub body_of : FunctionKey → Source
   body_of (outside k) = Own []
-  body_of (linker_function k) = Own (if k == 0 then ctor_body (calls_of (part_at 0 k)) else apply_body (words mode p parts l))
+  body_of (linker_function k) = Own (if k == call_ctors then ctor_body (calls_of (part_at 0 k)) else apply_body (words mode p parts l))
   body_of (stub name) = Own stub_body
   body_of (own input index) = source_of (part_at input index)
 
@@ -161,12 +163,12 @@ module _ (mode : Mode) (p : Program) (parts : List Part) (exports : List Entry) 
   global_content None = None
   global_content (Some part) = content_global part.content
 
-  -- A defined global. Of the linker's only `__stack_pointer` (number 1) can be written. A cell of an address is a constant in a plain
+  -- A defined global. Of the linker's only `__stack_pointer` can be written. A cell of an address is a constant in a plain
   -- output, and begins as 0 in a shared one. An exported datum is a constant that holds its address.
   abbrev pub global_for : GlobalKey → Option ModuleGlobal
   global_for (outside_global k) = None
-  global_for (linker_global k) = Some (i32_const (k == 1) (made_global_value l k))
-  global_for (own_global input index) = global_content (find (λ part. (part.chunk.kind == 2) && (part.chunk.input == input) && (part.chunk.index == index)) parts)
+  global_for (linker_global k) = Some (i32_const (k == stack_pointer) (made_global_value l k))
+  global_for (own_global input index) = global_content (find (λ part. (part.chunk.kind == chunks.GLOBAL) && (part.chunk.input == input) && (part.chunk.index == index)) parts)
   global_for (got key) = Some (by_mode mode (i32_const false (got_value mode l key)) (i32_const true 0))
   global_for (exported_datum e) = Some (i32_const false (address_of mode l e))
 

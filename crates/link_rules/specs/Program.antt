@@ -8,7 +8,9 @@ use Rattle.object_file.specs.linking_section.declared.symbol.SymbolKind.TheVaria
 use Rattle.object_file.specs.linking_section.declared.segment.SegmentInfo.{SegmentInfo}
 use Rattle.object_file.specs.linking_section.declared.init.InitFunc.{InitFunc}
 use Rattle.object_file.specs.linking_section.Flags.{is_undefined}
+use Rattle.object_file.specs.linking_section.declared.member_kinds.TheConstants as members
 use Rattle.object_file.specs.reloc_section.declared.entry.Reloc.{Reloc}
+use Rattle.object_file.specs.reloc_section.declared.kinds.TheConstants as relocs
 use Rattle.object_file.specs.body_windows.declared.operand.Operand.{Operand}
 use Rattle.object_file.specs.body_windows.declared.operand.Operand.TheVariants as operands
 use Rattle.object_file.specs.object_parts.declared.parts.GlobalDef.{GlobalDef}
@@ -17,14 +19,15 @@ use Rattle.object_file.specs.object_columns.declared.segments.SegmentDef.{Segmen
 use Rattle.object_file.specs.declared.object.Object.{Object}
 use Rattle.object_file.specs.Spaces.{defined_type, written_type, function_imports}
 use Rattle.made_symbols.specs.declared.mode.Mode.{Mode}
-use Rattle.made_symbols.specs.Made.{made, MadeSymbol}
-use Rattle.lib_rounds.specs.Rounds.{Candidate}
+use Rattle.made_symbols.specs.Made.{made, MadeSymbol, call_ctors}
+use Rattle.round_rules.specs.Rounds.{Candidate}
 use Rattle.name_rules.specs.Entries.{Entry, entries, is_kept, same_entry, name_of, made_entry}
 use Rattle.name_rules.specs.Meanings.{Meaning, here, imported, null, nothing, Resolved, resolve, winner}
 use Rattle.mark_bits.specs.declared.chunk.Chunk.{Chunk}
+use Rattle.mark_bits.specs.declared.kinds.TheConstants as chunks
 use Rattle.link_plan.specs.declared.plan.Plan.{Plan}
 
--- A reference: a window of a part by its place there and its relocation's type, or an init entry (type 0); and the symbol that it
+-- A reference: a window of a part by its place there and its relocation's type, or an init entry (FUNCTION_INDEX_LEB, a call); and the symbol that it
 -- names, with its meaning.
 pub record Ref : Type 0 where
   pub place : ℕ
@@ -116,7 +119,7 @@ pub record InitCall : Type 0 where
   pub ref : Ref
 
 abbrev pub init_call : Resolved → InitFunc → Option InitCall
-init_call r i = option_map (λ ref. record { priority = i.priority; ref = ref }) (ref_in r 0 0 i.symbol (pos 0))
+init_call r i = option_map (λ ref. record { priority = i.priority; ref = ref }) (ref_in r 0 relocs.FUNCTION_INDEX_LEB i.symbol (pos 0))
 
 -- An init entry is skipped where its symbol is defined in a part that isn't kept.
 abbrev pub is_skipped : InitCall → Bool
@@ -168,13 +171,13 @@ option_onto (Some x) xs = x ∷ xs
 -- whether a chunk of an object is kept; members of groups name functions by their index, imports first
 abbrev pub kept_in : List Object → Object → Chunk → Bool
 kept_in objects o c =
-    if c.kind == 0 then is_kept objects o 1 (c.index + length (function_imports o))
-    else if c.kind == 1 then is_kept objects o 0 c.index else true
+    if c.kind == chunks.FUNCTION then is_kept objects o members.FUNCTION (c.index + length (function_imports o))
+    else if c.kind == chunks.SEGMENT then is_kept objects o members.DATA c.index else true
 
 module _ (all : List Candidate) (objects : List Object) (r : Resolved) where
   abbrev pub function_part : ℕ → FunctionDef → Part
   function_part index f = record {
-    chunk = record { input = r.object.input; kind = 0; index = index };
+    chunk = record { input = r.object.input; kind = chunks.FUNCTION; index = index };
     content = function (defined_type r.object f);
     source = span_of all r.object.input f.span;
     named = filter_map (operand_named r) f.operands;
@@ -182,7 +185,7 @@ module _ (all : List Candidate) (objects : List Object) (r : Resolved) where
 
   abbrev pub segment_part : ℕ → SegmentDef → Part
   segment_part index g = record {
-    chunk = record { input = r.object.input; kind = 1; index = index };
+    chunk = record { input = r.object.input; kind = chunks.SEGMENT; index = index };
     content = segment g.info;
     source = span_of all r.object.input g.span;
     named = filter_map (window_named r) g.windows;
@@ -190,7 +193,7 @@ module _ (all : List Candidate) (objects : List Object) (r : Resolved) where
 
   abbrev pub global_part : ℕ → GlobalDef → Part
   global_part index g = record {
-    chunk = record { input = r.object.input; kind = 2; index = index };
+    chunk = record { input = r.object.input; kind = chunks.GLOBAL; index = index };
     content = global g;
     source = no_source;
     named = [];
@@ -205,19 +208,19 @@ module _ (all : List Candidate) (objects : List Object) (r : Resolved) where
 
 -- The kind of chunk that a linker-made symbol is. The linker's data and its table are no chunks.
 abbrev pub made_kind : SymbolKind → Option ℕ
-made_kind Function = Some 0
+made_kind Function = Some chunks.FUNCTION
 made_kind Datum = None
-made_kind GlobalVar = Some 2
+made_kind GlobalVar = Some chunks.GLOBAL
 made_kind Section = None
 made_kind Table = None
 
--- `__wasm_call_ctors`, whose number is 0, refers to the init functions; the linker's other chunks refer to nothing.
+-- `__wasm_call_ctors` refers to the init functions; the linker's other chunks refer to nothing.
 abbrev pub made_part : List Ref → Entry → MadeSymbol → Option Part
 made_part calls e m = option_map (λ kind. record {
   chunk = record { input = 0; kind = kind; index = e.place };
   content = linker_made m;
   source = no_source;
-  named = if (kind == 0) && (e.place == 0) then map a_symbol calls else [];
+  named = if (kind == chunks.FUNCTION) && (e.place == call_ctors) then map a_symbol calls else [];
 }) (made_kind m.kind)
 
 abbrev pub made_parts_from : List Ref → ℕ → List MadeSymbol → List Part
@@ -266,9 +269,9 @@ abbrev pub chunk_at : ℕ → ℕ → ℕ → Chunk
 chunk_at input kind index = record { input = input; kind = kind; index = index }
 
 abbrev pub chunk_by : Entry → SymbolKind → Option Chunk
-chunk_by e Function = Some (chunk_at e.input 0 e.index)
-chunk_by e Datum = if e.input == 0 then None else Some (chunk_at e.input 1 e.index)
-chunk_by e GlobalVar = Some (chunk_at e.input 2 e.index)
+chunk_by e Function = Some (chunk_at e.input chunks.FUNCTION e.index)
+chunk_by e Datum = if e.input == 0 then None else Some (chunk_at e.input chunks.SEGMENT e.index)
+chunk_by e GlobalVar = Some (chunk_at e.input chunks.GLOBAL e.index)
 chunk_by e Section = None
 chunk_by e Table = None
 

@@ -1,7 +1,7 @@
 -- The worked links give what they have to.
 use Rattle.std.specs.Prelude.{◌≡◌, List, ◌++◌, refl}
 use Rattle.object_file.specs.leb_codec.Shortest.{u32, u32_padded, s32, s32_padded, s64}
-use Rattle.lib_rounds.specs.Rounds.{load}
+use Rattle.round_rules.specs.Rounds.{load}
 use Rattle.name_rules.specs.Entries.{entries}
 use Rattle.name_rules.specs.Meanings.{resolve}
 use Rattle.name_rules.specs.Cases.{clash, duplicate}

@@ -1,12 +1,17 @@
 -- What stands in windows.
-use Rattle.std.specs.Prelude.{ℕ, ◌+◌, ◌-◌, ◌*◌, ◌^◌, ◌==◌, min, Bool, not, ◌&&◌, ◌||◌, List, [], ◌∷◌, map, filter, length, position, slice_index_or, if◌then◌else◌, unwrap_or, ℤ, pos}
+use Rattle.std.specs.Prelude.{ℕ, ◌+◌, ◌-◌, ◌*◌, ◌^◌, ◌==◌, min, Bool, not, ◌&&◌, ◌||◌, List, [], map, filter, length, position, slice_index_or, if◌then◌else◌, unwrap_or, ℤ, pos}
 use Rattle.std.specs.List.{list_all}
 use Rattle.object_file.specs.linking_section.declared.symbol.SymbolKind.TheVariants.{Datum}
+use Rattle.object_file.specs.reloc_section.declared.kinds.TheConstants as relocs
 use Rattle.made_symbols.specs.declared.mode.Mode.{Mode}
 use Rattle.made_symbols.specs.declared.mode.Mode.TheVariants.{Plain, Shared}
+use Rattle.made_symbols.specs.declared.roles.Role.{Role}
+use Rattle.made_symbols.specs.declared.roles.Role.TheVariants.{CallCtors, ApplyDataRelocs, StackPointer, MemoryBase, TableBase, IndirectFunctionTable, HeapBase, DataEnd, GlobalBase, DsoHandle, StackLow, StackHigh, HeapEnd}
+use Rattle.made_symbols.specs.Made.{made, stack_pointer}
 use Rattle.name_rules.specs.Entries.{Entry, is_kind}
 use Rattle.name_rules.specs.Meanings.{Meaning, here, imported, null, nothing}
 use Rattle.mark_bits.specs.declared.chunk.Chunk.{Chunk}
+use Rattle.mark_bits.specs.declared.kinds.TheConstants as chunks
 use Rattle.memory_layout.specs.declared.rules.MemoryRules.{MemoryRules}
 use Rattle.memory_layout.specs.declared.rules.MemoryRules.TheVariants.{Absolute, Relative}
 use Rattle.memory_layout.specs.declared.rules.SegmentShape.{SegmentShape}
@@ -27,7 +32,7 @@ part_bytes p part = file_part p.files part.source
 
 -- The data segments among the parts.
 abbrev pub segments : List Part → List Part
-segments parts = filter (λ part. part.chunk.kind == 1) parts
+segments parts = filter (λ part. part.chunk.kind == chunks.SEGMENT) parts
 
 abbrev pub content_align : Content → ℕ
 content_align (function t) = 0
@@ -66,25 +71,37 @@ pub record Layout : Type 0 where
 abbrev pub segment_address : Layout → Chunk → ℕ
 segment_address l c = slice_index_or l.places.addresses (unwrap_or (position (same_chunk c) l.segments) 0) 0
 
--- The addresses of the linker-made data of a plain output by their numbers, 5 to 11 (0 stands for the others, which are no data): heap
--- base, data end, global base and DSO handle, the stack's low and high end, and the heap's end, which is the initial memory's bytes and
--- at most 2^32 - 1.
+-- The address of a linker-made datum of a plain output, by what it stands for; 0 of the others, which are no data. The heap's end is
+-- that of the initial memory, and at most 2^32 - 1.
+abbrev pub made_address : Places → Role → ℕ
+made_address at CallCtors = 0
+made_address at ApplyDataRelocs = 0
+made_address at StackPointer = 0
+made_address at MemoryBase = 0
+made_address at TableBase = 0
+made_address at IndirectFunctionTable = 0
+made_address at HeapBase = at.heap_base
+made_address at DataEnd = at.data_end
+made_address at GlobalBase = at.base
+made_address at DsoHandle = at.base
+made_address at StackLow = at.stack_low
+made_address at StackHigh = at.stack_high
+made_address at HeapEnd = min (at.pages * 65536) (2 ^ 32 - 1)
+
+-- The same of each linker-made symbol, by number.
 abbrev pub made_data : Places → List ℕ
-made_data at =
-    0 ∷ 0 ∷ 0 ∷ 0 ∷ 0
-    ∷ at.heap_base ∷ at.data_end ∷ at.base ∷ at.base ∷ at.stack_low ∷ at.stack_high ∷ min (at.pages * 65536) (2 ^ 32 - 1)
-    ∷ []
+made_data at = map (λ m. made_address at m.role) (made Plain)
 
 -- The address of a datum: its segment's address and its offset there. In a shared output both count from `__memory_base`, where
 -- `__dso_handle` is.
 abbrev pub address_of : Mode → Layout → Entry → ℕ
 address_of mode l e =
     if e.input == 0 then slice_index_or (by_mode mode (made_data l.places) []) e.place 0
-    else segment_address l (chunk_at e.input 1 e.index) + e.symbol.offset
+    else segment_address l (chunk_at e.input chunks.SEGMENT e.index) + e.symbol.offset
 
 -- The value of a linker-made global: `__stack_pointer` begins at the stack's top, the bases of a plain output are 0.
 abbrev pub made_global_value : Layout → ℕ → ℕ
-made_global_value l k = if k == 1 then l.places.stack_high else 0
+made_global_value l k = if k == stack_pointer then l.places.stack_high else 0
 
 abbrev pub meant_address : Mode → Layout → Meaning → ℕ
 meant_address mode l (here e) = address_of mode l e
@@ -118,21 +135,20 @@ pub data Asks : Type 0 where
   a_global : Asks
   a_table : Asks
 
--- By type: FUNCTION_INDEX_LEB 0; TABLE_INDEX_SLEB 1, TABLE_INDEX_I32 2 and TABLE_INDEX_REL_SLEB 12; MEMORY_ADDR_LEB 3, _SLEB 4, _I32 5
--- and _REL_SLEB 11; GLOBAL_INDEX_LEB 7; TABLE_NUMBER_LEB 20.
+-- Of the types that name no type of functions, the one that isn't named here is TABLE_NUMBER_LEB.
 abbrev pub asks : ℕ → Asks
 asks kind =
-    if kind == 0 then a_function
-    else if (kind == 1) || (kind == 2) || (kind == 12) then a_slot
-    else if (kind == 3) || (kind == 4) || (kind == 5) || (kind == 11) then an_address
-    else if kind == 7 then a_global
+    if kind == relocs.FUNCTION_INDEX_LEB then a_function
+    else if (kind == relocs.TABLE_INDEX_SLEB) || (kind == relocs.TABLE_INDEX_I32) || (kind == relocs.TABLE_INDEX_REL_SLEB) then a_slot
+    else if (kind == relocs.MEMORY_ADDR_LEB) || (kind == relocs.MEMORY_ADDR_SLEB) || (kind == relocs.MEMORY_ADDR_I32) || (kind == relocs.MEMORY_ADDR_REL_SLEB) then an_address
+    else if kind == relocs.GLOBAL_INDEX_LEB then a_global
     else a_table
 
 -- TABLE_INDEX_SLEB, MEMORY_ADDR_SLEB and both REL_SLEB are signed, the I32 types have four bytes, all others are unsigned.
 abbrev pub form_of : ℕ → Form
 form_of kind =
-    if (kind == 1) || (kind == 4) || (kind == 11) || (kind == 12) then Signed5
-    else if (kind == 2) || (kind == 5) then Word4
+    if (kind == relocs.TABLE_INDEX_SLEB) || (kind == relocs.MEMORY_ADDR_SLEB) || (kind == relocs.MEMORY_ADDR_REL_SLEB) || (kind == relocs.TABLE_INDEX_REL_SLEB) then Signed5
+    else if (kind == relocs.TABLE_INDEX_I32) || (kind == relocs.MEMORY_ADDR_I32) then Word4
     else Unsigned5
 
 -- The number that a reference stands for, without its addend. The table is number 0.
@@ -159,7 +175,7 @@ ref_window mode l ref = record {
   addend = addend_by ref (asks ref.kind);
 }
 
--- TYPE_INDEX_LEB 6: the number of the type in the output.
+-- TYPE_INDEX_LEB: the number of the type in the output.
 abbrev pub type_window : Layout → TypeWindow → Window
 type_window l w = record { place = w.place; form = Unsigned5; target = pos (type_place l.numbers w.type); addend = pos 0 }
 

@@ -12,7 +12,7 @@ use Rattle.wl_base.specs.Choice.{unless, ◌>>=◌}
 use Rattle.wl_base.specs.declared.fault.Fault.{Fault}
 use Rattle.wl_base.specs.declared.span.Span.{Span}
 use Rattle.object_file.specs.ObjectOf.{object_of}
-use Rattle.lib_rounds.specs.Rounds.{Candidate}
+use Rattle.round_rules.specs.Rounds.{Candidate}
 use Rattle.link_plan.specs.declared.plan.Plan.{Plan}
 use Rattle.link_plan.specs.declared.plan.InputWord.{InputWord}
 use Rattle.link_rules.specs.Candidates.{Opened, object, library, opened, is_library, members_from, candidates_in, candidates_from, candidates_of, too_much_input, too_many_inputs, words_for}

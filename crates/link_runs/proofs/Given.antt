@@ -13,7 +13,7 @@ use Rattle.linking_section.specs.declared.symbol.SymbolKind.TheVariants.{Functio
 use Rattle.object_columns.specs.declared.functions.FunctionDef.{FunctionDef}
 use Rattle.object_parts.specs.declared.parts.GlobalDef.{GlobalDef}
 use Rattle.object_file.specs.declared.object.Object.{Object}
-use Rattle.lib_rounds.specs.Rounds.{Candidate}
+use Rattle.round_rules.specs.Rounds.{Candidate}
 use Rattle.link_plan.specs.declared.plan.Plan.{Plan}
 use Rattle.made_symbols.specs.Made.{MadeSymbol, made}
 use Rattle.made_symbols.specs.declared.mode.Mode.TheVariants.{Plain}

@@ -16,12 +16,14 @@ use Rattle.link_words.specs.Kinds.{same}
 use Rattle.link_words.specs.Items.{Said}
 use Rattle.link_words.specs.Options.{options, row_of}
 use Rattle.link_words.specs.Cut.{item, Step, Cutting, step, onto, behind, cut_from, cut_of, and_free, optional, split_of}
-use Rattle.link_words.specs.Spelled.{HasForm, SpellsValue, Spells, Cuts, Stops, place_of}
+use Rattle.link_words.specs.Spelled.{HasForm, SpellsValue, Spells, Cuts, Stops, AreCut, place_of}
+use Rattle.link_words.specs.Causes.{HasCause}
 use Rattle.link_words.specs.Faults.{first_fault, group_fault}
 use Rattle.link_words.specs.Words.{plan_of, plan_from}
 use Rattle.link_words.proofs.Table.{not_only}
 use Rattle.link_words.proofs.Whole.{rest_none, head_none}
-use Rattle.link_words.proofs.Steps.{TakesNext, Waits, state, Means, ok_is, step_found, begun_fault, value_fault, alone_again, long_again, valued_again}
+use Rattle.link_words.proofs.Steps.{TakesNext, Waits, state, Means, ok_is, step_found, alone_again, long_again, valued_again}
+use Rattle.link_words.proofs.Causes.{begun_fault, value_fault, missing_fault, stops_by_cause}
 
 head_is : {A : Type 0} {x y : A} {xs ys : List A} → x ∷ xs ≡ y ∷ ys → x ≡ y
 head_is e = cc
@@ -111,19 +113,19 @@ peel false at (word ∷ words) said c e = by (step Free at word) refl e
 -- no item: there is no word, or a fault
 data NothingCut (only : Bool) (at : ℕ) (words : List (List ℕ)) (stop : Option Usage) : Type 0 where
   ended : words ≡ [] → stop ≡ None → NothingCut only at words stop
-  stopped : (fault : Usage) → only ≡ false → stop ≡ Some fault → place_of fault ≡ Some at → NothingCut only at words stop
+  stopped : (fault : Usage) → only ≡ false → stop ≡ Some fault → (place_of fault ≡ Some at) × HasCause fault words → NothingCut only at words stop
 
-nothing_waits : (at : ℕ) (word : List ℕ) (kind : Kind) (form : Form) (words : List (List ℕ)) (stop : Option Usage) → cut_from (Value kind form at) (at + 1) words ≡ ([], stop) → NothingCut false at (word ∷ words) stop
-nothing_waits at word kind form [] stop e = stopped (MissingValue at) refl (sym (ap (λ (k : Cutting). k.1) e)) refl
-nothing_waits at word kind form (text ∷ words) stop e = by (step (Value kind form at) (at + 1) text) refl e
+nothing_waits : (at : ℕ) (word : List ℕ) (n : Next) (words : List (List ℕ)) (stop : Option Usage) (w : Waits at word n) → cut_from (Value w.kind w.form at) (at + 1) words ≡ ([], stop) → NothingCut false at (word ∷ words) stop
+nothing_waits at word n [] stop w e = stopped (MissingValue at) refl (sym (ap (λ (k : Cutting). k.1) e)) (refl, missing_fault at word n w)
+nothing_waits at word n (text ∷ words) stop w e = by (step (Value w.kind w.form at) (at + 1) text) refl e
   where
-    by_item : (o : Option Said) (m : Next) → Means (Value kind form at) (at + 1) text o m → onto (option_to_list o) (cut_from m (at + 1 + 1) words) ≡ ([], stop) → NothingCut false at (word ∷ text ∷ words) stop
+    by_item : (o : Option Said) (m : Next) → Means (Value w.kind w.form at) (at + 1) text o m → onto (option_to_list o) (cut_from m (at + 1 + 1) words) ≡ ([], stop) → NothingCut false at (word ∷ text ∷ words) stop
     by_item None m means e = absurd means
     by_item (Some other) m means e = absurd (not_empty (ap (λ (k : Cutting). k.0) e))
 
-    by : (s : Step) → step (Value kind form at) (at + 1) text ≡ s → behind s (λ m. cut_from m (at + 1 + 1) words) ≡ ([], stop) → NothingCut false at (word ∷ text ∷ words) stop
-    by (Err fault) is e = stopped fault refl (sym (ap (λ (k : Cutting). k.1) e)) (value_fault kind form at (at + 1) text fault is)
-    by (Ok s) is e = by_item s.0 s.1 (step_found (Value kind form at) (at + 1) text s is) e
+    by : (s : Step) → step (Value w.kind w.form at) (at + 1) text ≡ s → behind s (λ m. cut_from m (at + 1 + 1) words) ≡ ([], stop) → NothingCut false at (word ∷ text ∷ words) stop
+    by (Err fault) is e = stopped fault refl (sym (ap (λ (k : Cutting). k.1) e)) (value_fault at word text n words fault w is)
+    by (Ok s) is e = by_item s.0 s.1 (step_found (Value w.kind w.form at) (at + 1) text s is) e
 
 nothing_cut : (only : Bool) (at : ℕ) (words : List (List ℕ)) (stop : Option Usage) → cut_from (state only) at words ≡ ([], stop) → NothingCut only at words stop
 nothing_cut true at [] stop e = ended refl (sym (ap (λ (k : Cutting). k.1) e))
@@ -132,11 +134,11 @@ nothing_cut true at (word ∷ words) stop e = absurd (not_empty (ap (λ (k : Cut
 nothing_cut false at (word ∷ words) stop e = by (step Free at word) refl e
   where
     by_item : (o : Option Said) (n : Next) → Means Free at word o n → onto (option_to_list o) (cut_from n (at + 1) words) ≡ ([], stop) → NothingCut false at (word ∷ words) stop
-    by_item None n w e = nothing_waits at word w.kind w.form words stop (subst (λ (m : Next). cut_from m (at + 1) words ≡ ([], stop)) w.next_is e)
+    by_item None n w e = nothing_waits at word n words stop w (subst (λ (m : Next). cut_from m (at + 1) words ≡ ([], stop)) w.next_is e)
     by_item (Some other) n means e = absurd (not_empty (ap (λ (k : Cutting). k.0) e))
 
     by : (s : Step) → step Free at word ≡ s → behind s (λ n. cut_from n (at + 1) words) ≡ ([], stop) → NothingCut false at (word ∷ words) stop
-    by (Err fault) is e = stopped fault refl (sym (ap (λ (k : Cutting). k.1) e)) (begun_fault at word fault is)
+    by (Err fault) is e = stopped fault refl (sym (ap (λ (k : Cutting). k.1) e)) (begun_fault at word words fault is)
     by (Ok s) is e = by_item s.0 s.1 (step_found Free at word s is) e
 
 cut_found : (items : List Said) (only : Bool) (at : ℕ) (words : List (List ℕ)) → cut_from (state only) at words ≡ (items, None) → Cuts only at items words
@@ -224,20 +226,29 @@ stop_found [] only at fault words e = by (nothing_cut only at words (Some fault)
   where
     by : NothingCut only at words (Some fault) → Stops only at [] fault words
     by (ended _ is) = absurd cc
-    by (stopped own before is place) = (
-      before,
-      subst (λ (f : Usage). place_of f ≡ Some at) (sym (some_is is)) place,
-      λ said front rest words_are placed spells.
-          let e' = subst (λ b. cut_from (state b) at words ≡ ([], Some fault)) before e in
-          let again = spelled_again (cut_from (state (same said.kind kinds.OnlyInputs)) (at + length front) rest) false at said front rest placed spells refl in
-          not_empty (ap (λ (k : Cutting). k.0) (sym again ∙ ap (cut_from Free at) (sym words_are) ∙ e')),
-    )
+    by (stopped own before is why) =
+        let own_is : own ≡ fault = sym (some_is is) in (
+          before,
+          subst (λ (f : Usage). place_of f ≡ Some at) own_is why.0,
+          subst (λ (f : Usage). HasCause f words) own_is why.1,
+          λ said front rest words_are placed spells.
+              let e' = subst (λ b. cut_from (state b) at words ≡ ([], Some fault)) before e in
+              let again = spelled_again (cut_from (state (same said.kind kinds.OnlyInputs)) (at + length front) rest) false at said front rest placed spells refl in
+              not_empty (ap (λ (k : Cutting). k.0) (sym again ∙ ap (cut_from Free at) (sym words_are) ∙ e')),
+        )
 stop_found (said ∷ items) only at fault words e =
     let p = peel only at words said (items, Some fault) e in
     (p.own, p.rest, p.words_are, p.placed, p.spells, stop_found items (only || same said.kind kinds.OnlyInputs) (at + length p.own) fault p.rest p.cut)
 
-pub stop_is : (words : List (List ℕ)) (items : List Said) (fault : Usage) → cut_of words ≡ (items, Some fault) → Stops false 0 items fault words
-stop_is words items fault e = stop_found items false 0 fault words e
+stop_again : (items : List Said) (only : Bool) (at : ℕ) (fault : Usage) (words : List (List ℕ)) → Stops only at items fault words → cut_from (state only) at words ≡ (items, Some fault)
+stop_again [] only at fault words s = subst (λ b. cut_from (state b) at words ≡ ([], Some fault)) (sym s.0) (stops_by_cause at fault words s.1 s.2)
+stop_again (said ∷ items) only at fault words s =
+    ap (cut_from (state only) at) s.2
+    ∙ spelled_again (items, Some fault) only at said s.0 s.1 s.3 s.4 (stop_again items (only || same said.kind kinds.OnlyInputs) (at + length s.0) fault s.1 s.5)
+
+-- both ways
+pub stop_is : (words : List (List ℕ)) (items : List Said) (fault : Usage) → (cut_of words ≡ (items, Some fault)) ↔ Stops false 0 items fault words
+stop_is words items fault = (stop_found items false 0 fault words, stop_again items false 0 fault words)
 
 pub cut_once : (words : List (List ℕ)) (items others : List Said) → Cuts false 0 items words → Cuts false 0 others words → items ≡ others
 cut_once words items others one other = ap (λ (c : Cutting). c.0) (sym (cut_again items false 0 words one) ∙ cut_again others false 0 words other)
@@ -265,3 +276,27 @@ plan_is words plan = (found, again)
     again : ((items : List Said) × Cuts false 0 items words × (first_fault (items, None) ≡ None) × (plan ≡ plan_from items)) → unless (first_fault (cut_of words)) (plan_from (cut_of words).0) ≡ Ok plan
     again c =
         ap (λ (k : Cutting). unless (first_fault k) (plan_from k.0)) (cut_again c.0 false 0 words c.1) ∙ ap (λ f. unless f (plan_from c.0)) c.2 ∙ ap (λ (p : Plan). Ok p) (sym c.3)
+
+-- what the words are cut into
+pub parted : (words : List (List ℕ)) (items : List Said) (stop : Option Usage) → cut_of words ≡ (items, stop) → AreCut items stop words
+parted words items None e = cut_found items false 0 words e
+parted words items (Some fault) e = stop_found items false 0 fault words e
+
+parted_again : (words : List (List ℕ)) (items : List Said) (stop : Option Usage) → AreCut items stop words → cut_of words ≡ (items, stop)
+parted_again words items None c = cut_again items false 0 words c
+parted_again words items (Some fault) c = stop_again items false 0 fault words c
+
+refused : (f : Option Usage) (made : Plan) (fault : Usage) → unless f made ≡ Err fault → f ≡ Some fault
+refused None made fault e = absurd cc
+refused (Some own) made fault e = cc
+
+pub refusal_is : (words : List (List ℕ)) (fault : Usage)
+    → (plan_of words ≡ Err fault) ↔ ((items : List Said) × (stop : Option Usage) × AreCut items stop words × (first_fault (items, stop) ≡ Some fault))
+unfolding plan_of
+refusal_is words fault = (found, again)
+  where
+    found : unless (first_fault (cut_of words)) (plan_from (cut_of words).0) ≡ Err fault → (items : List Said) × (stop : Option Usage) × AreCut items stop words × (first_fault (items, stop) ≡ Some fault)
+    found e = ((cut_of words).0, (cut_of words).1, parted words (cut_of words).0 (cut_of words).1 refl, refused (first_fault (cut_of words)) (plan_from (cut_of words).0) fault e)
+
+    again : ((items : List Said) × (stop : Option Usage) × AreCut items stop words × (first_fault (items, stop) ≡ Some fault)) → unless (first_fault (cut_of words)) (plan_from (cut_of words).0) ≡ Err fault
+    again c = ap (λ (k : Cutting). unless (first_fault k) (plan_from k.0)) (parted_again words c.0 c.1 c.2) ∙ ap (λ f. unless f (plan_from c.0)) c.3

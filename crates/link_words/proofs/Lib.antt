@@ -1,3 +1,4 @@
+mod Causes
 mod CutLaw
 mod Equals
 mod Inputs

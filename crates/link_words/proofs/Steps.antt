@@ -20,8 +20,8 @@ use Rattle.link_words.specs.Kinds.{same}
 use Rattle.link_words.specs.Items.{Said}
 use Rattle.link_words.specs.Numbers.{number_in}
 use Rattle.link_words.specs.Options.{options, row_of}
-use Rattle.link_words.specs.Cut.{item, is_equals, parts_of, not_in, judged, numbered, stack_sized, valued, Step, and_free, alone, said_alone, long, said_long, split_of, optional, begins_with_dash, begun, step}
-use Rattle.link_words.specs.Spelled.{HasForm, SpellsValue, Spells, place_of}
+use Rattle.link_words.specs.Cut.{item, is_equals, parts_of, judged, numbered, stack_sized, valued, and_free, alone, said_alone, long, said_long, split_of, optional, begins_with_dash, begun, step}
+use Rattle.link_words.specs.Spelled.{HasForm, SpellsValue, Spells}
 use Rattle.link_words.proofs.Equals.{no_parts, any_equals, parts_found, parts_again}
 use Rattle.link_words.proofs.Table.{both, dashed, not_dashes, no_equals, not_only, long_front}
 
@@ -144,7 +144,7 @@ long_found at word name text kind (takes.Long form) s found is e = by (valued ki
         subst (λ (s : Option Said × Next). Means Free at word s.0 s.1) (ok_is e)
         (subst (λ (said : Said). Means Free at word (Some said) Free) (sym h.is) (option_found at word name h.value kind (takes.Long form) found (text, h.has_form, inr own)))
 
-split_is : (word : List ℕ) (p : List ℕ × List ℕ) → split_of word ≡ Some p → word ≡ p.0 ++ 61 ∷ p.1
+pub split_is : (word : List ℕ) (p : List ℕ × List ℕ) → split_of word ≡ Some p → word ≡ p.0 ++ 61 ∷ p.1
 split_is word p e = by (bytes_eq (take 2 word) (codes "--")) e
   where
     by : (b : Bool) → cond b (parts_of word) None ≡ Some p → word ≡ p.0 ++ 61 ∷ p.1
@@ -189,74 +189,6 @@ step_found (Value kind form place) at word s e = by (valued kind form place word
         subst (λ (s : Option Said × Next). Means (Value kind form place) at word s.0 s.1) (ok_is e)
         (subst (λ (said : Said). Means (Value kind form place) at word (Some said) Free) (sym h.is) (refl, h.has_form, refl))
 
--- ---- places of faults
-
--- a fault names the place
-abbrev pub IsAt : {A : Type 0} → ℕ → Result A Usage → Type 0
-IsAt at (Ok value) = Unit {0}
-IsAt at (Err fault) = place_of fault ≡ Some at
-
-either_at : {A : Type 0} (at : ℕ) (b : Bool) (r s : Result A Usage) → IsAt at r → IsAt at s → IsAt at (cond b r s)
-either_at at true r s first _ = first
-either_at at false r s _ second = second
-
-not_in_at : (range : Range) (at : ℕ) → place_of (not_in range at) ≡ Some at
-not_in_at ranges.Workers at = refl
-not_in_at range at = refl
-
-judged_at : (o : Option ℕ) (kind : Kind) (range : Range) (at : ℕ) (text : List ℕ) → IsAt at (judged o kind range at text)
-judged_at (Some n) kind range at text = tt
-judged_at None kind range at text = not_in_at range at
-
-stack_at : (o : Option (List ℕ × List ℕ)) (kind : Kind) (at : ℕ) → IsAt at (stack_sized o kind at)
-stack_at None kind at = refl
-stack_at (Some p) kind at = either_at at (bytes_eq p.0 (codes "stack-size")) (numbered kind ranges.Stack at p.1) (Err (UnknownOption at)) (judged_at (number_in ranges.Stack p.1) kind ranges.Stack at p.1) refl
-
-valued_at : (kind : Kind) (form : Form) (at : ℕ) (text : List ℕ) → IsAt at (valued kind form at text)
-valued_at kind Text at text = tt
-valued_at kind Machine at text = either_at at (bytes_eq text (codes "wasm32")) (Ok (item kind at text)) (Err (UnknownOption at)) tt refl
-valued_at kind (Number range) at text = judged_at (number_in range text) kind range at text
-valued_at kind StackSize at text = stack_at (parts_of text) kind at
-
-and_free_at : (at : ℕ) (r : Result Said Usage) → IsAt at r → IsAt at (and_free r)
-and_free_at at (Ok said) is = tt
-and_free_at at (Err fault) is = is
-
-alone_at : (at : ℕ) (o : Option Rule) → IsAt at (said_alone at o)
-alone_at at None = refl
-alone_at at (Some rule) = by rule.takes
-  where
-    by : (t : Takes) → IsAt at (alone at rule.kind t)
-    by takes.Nothing = tt
-    by (takes.Next form) = tt
-    by (takes.Long form) = tt
-
-long_at : (at : ℕ) (text : List ℕ) (o : Option Rule) → IsAt at (said_long at text o)
-long_at at text None = refl
-long_at at text (Some rule) = by rule.takes
-  where
-    by : (t : Takes) → IsAt at (long at text rule.kind t)
-    by (takes.Long form) = and_free_at at (valued rule.kind form at text) (valued_at rule.kind form at text)
-    by takes.Nothing = refl
-    by (takes.Next form) = refl
-
-optional_at : (at : ℕ) (word : List ℕ) (o : Option (List ℕ × List ℕ)) → IsAt at (optional at word o)
-optional_at at word None = alone_at at (row_of options word)
-optional_at at word (Some p) = long_at at p.1 (row_of options p.0)
-
-begun_at : (at : ℕ) (word : List ℕ) → IsAt at (begun at word)
-begun_at at word =
-    either_at at (not (begins_with_dash word)) (Ok (Some (item kinds.Input at word), Free)) (cond (bytes_eq word (codes "--")) (Ok (Some (item kinds.OnlyInputs at []), Input)) (optional at word (split_of word))) tt
-    (either_at at (bytes_eq word (codes "--")) (Ok (Some (item kinds.OnlyInputs at []), Input)) (optional at word (split_of word)) tt (optional_at at word (split_of word)))
-
--- a word at fault is told by its place
-pub begun_fault : (at : ℕ) (word : List ℕ) (fault : Usage) → begun at word ≡ Err fault → place_of fault ≡ Some at
-begun_fault at word fault e = subst (λ (r : Step). IsAt at r) e (begun_at at word)
-
--- a value at fault by that of its option
-pub value_fault : (kind : Kind) (form : Form) (place at : ℕ) (text : List ℕ) (fault : Usage) → step (Value kind form place) at text ≡ Err fault → place_of fault ≡ Some place
-value_fault kind form place at text fault e = subst (λ (r : Step). IsAt place r) e (and_free_at place (valued kind form place text) (valued_at kind form place text))
-
 -- ---- and the other way
 
 not_split : (word : List ℕ) → list_any is_equals word ≡ false → split_of word ≡ None
@@ -280,7 +212,7 @@ dash_named : (name text : List ℕ) → bytes_eq (take 2 name) (codes "--") ≡ 
 dash_named [] text front = absurd cc
 dash_named (a ∷ name) text front = (both (eqb a 45) (bytes_eq (take 1 name) (codes "-")) front).0
 
-not_dashes_named : (name text : List ℕ) → bytes_eq (name ++ 61 ∷ text) (codes "--") ≡ false
+pub not_dashes_named : (name text : List ℕ) → bytes_eq (name ++ 61 ∷ text) (codes "--") ≡ false
 not_dashes_named name text = by (bytes_eq (name ++ 61 ∷ text) (codes "--")) refl
   where
     by : (b : Bool) → bytes_eq (name ++ 61 ∷ text) (codes "--") ≡ b → b ≡ false
@@ -289,12 +221,12 @@ not_dashes_named name text = by (bytes_eq (name ++ 61 ∷ text) (codes "--")) re
         let word : name ++ 61 ∷ text ≡ codes "--" = (bytes_eq-Decides (name ++ 61 ∷ text) (codes "--")).0 is in
         sym (any_equals name text) ∙ ap (list_any is_equals) word
 
-front_named : (name text : List ℕ) → bytes_eq (take 2 name) (codes "--") ≡ true → bytes_eq (take 2 (name ++ 61 ∷ text)) (codes "--") ≡ true
+pub front_named : (name text : List ℕ) → bytes_eq (take 2 name) (codes "--") ≡ true → bytes_eq (take 2 (name ++ 61 ∷ text)) (codes "--") ≡ true
 front_named [] text front = absurd cc
 front_named (a ∷ []) text front = let no = (both (eqb a 45) false front).1 in absurd cc
 front_named (a ∷ b ∷ name) text front = front
 
-begun_named : (at : ℕ) (name text : List ℕ) → bytes_eq (take 2 name) (codes "--") ≡ true → list_any is_equals name ≡ false → begun at (name ++ 61 ∷ text) ≡ said_long at text (row_of options name)
+pub begun_named : (at : ℕ) (name text : List ℕ) → bytes_eq (take 2 name) (codes "--") ≡ true → list_any is_equals name ≡ false → begun at (name ++ 61 ∷ text) ≡ said_long at text (row_of options name)
 begun_named at name text front none =
     let word = name ++ 61 ∷ text in
     ap (λ b. cond (not b) (Ok (Some (item kinds.Input at word), Free)) (cond (bytes_eq word (codes "--")) (Ok (Some (item kinds.OnlyInputs at []), Input)) (optional at word (split_of word)))) (dash_named name text front)

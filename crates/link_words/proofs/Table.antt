@@ -21,7 +21,7 @@ pub both : (a b : Bool) → (a && b) ≡ true → (a ≡ true) × (b ≡ true)
 both true b e = (refl, e)
 both false b e = absurd cc
 
-row_has : (test : List ℕ × Rule → Bool) (rows : List (List ℕ × Rule)) (word : List ℕ) (rule : Rule) → list_all test rows ≡ true → row_of rows word ≡ Some rule → test (word, rule) ≡ true
+pub row_has : (test : List ℕ × Rule → Bool) (rows : List (List ℕ × Rule)) (word : List ℕ) (rule : Rule) → list_all test rows ≡ true → row_of rows word ≡ Some rule → test (word, rule) ≡ true
 row_has test [] word rule all e = absurd cc
 row_has test (row ∷ rows) word rule all e = by (bytes_eq word row.0) refl (row_has test rows word rule (both (test row) (list_all test rows) all).1) e
   where

@@ -1,3 +1,4 @@
+pub mod Causes
 pub mod Cut
 pub mod Faults
 pub mod Fields

@@ -60,6 +60,24 @@ value_to_none : plan_of (codes "a.o" ∷ codes "--gc-sections=" ∷ []) ≡ Err 
 unfolding plan_of first_fault
 value_to_none = refl
 
+-- a value of another form
+other_machine : plan_of (codes "a.o" ∷ codes "-m" ∷ codes "wasm64" ∷ []) ≡ Err (UnknownOption 1)
+unfolding plan_of first_fault
+other_machine = refl
+
+other_size : plan_of (codes "-z" ∷ codes "stack=16" ∷ []) ≡ Err (UnknownOption 0)
+unfolding plan_of first_fault
+other_size = refl
+
+uneven_size : plan_of (codes "-z" ∷ codes "stack-size=8" ∷ []) ≡ Err (BadNumber 0)
+unfolding plan_of first_fault
+uneven_size = refl
+
+-- a short option and its value in one word
+value_to_short : plan_of (codes "a.o" ∷ codes "-o=b" ∷ []) ≡ Err (UnknownOption 1)
+unfolding plan_of first_fault
+value_to_short = refl
+
 -- a plan of a generated case: it has no entry, and its first function is exported
 case : plan_of (codes "--export=g" ∷ codes "-z" ∷ codes "stack-size=0x20" ∷ codes "--no-gc-sections" ∷ codes "--make-case=2" ∷ codes "--export-table" ∷ [])
     ≡ Ok (record {

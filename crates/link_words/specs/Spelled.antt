@@ -13,6 +13,7 @@ use Rattle.link_words.specs.Numbers.{number_in}
 use Rattle.link_words.specs.Options.{options, row_of}
 use Rattle.link_words.specs.Items.{Said}
 use Rattle.link_words.specs.Cut.{begins_with_dash}
+use Rattle.link_words.specs.Causes.{HasCause}
 
 -- a text has the form that an option asks for, and is its value; behind `stack-size=` the number alone is
 abbrev pub HasForm : Form → List ℕ → List ℕ → Type 0
@@ -52,7 +53,7 @@ Cuts only at [] words = words ≡ []
 Cuts only at (said ∷ items) words = (own : List (List ℕ)) × (rest : List (List ℕ)) × (words ≡ own ++ rest) × (said.at ≡ at) × Spells only said own
     × Cuts (only || same said.kind kinds.OnlyInputs) (at + length own) items rest
 
--- the place that a fault of one word names
+-- the place that a fault names
 abbrev pub place_of : Usage → Option ℕ
 place_of (UnknownOption at) = Some at
 place_of (MissingValue at) = Some at
@@ -64,8 +65,15 @@ place_of NoInput = None
 place_of NoOutput = None
 place_of PartialClash = None
 
--- The words from a place on are those of the items, and behind them words that no item begins. The fault names the place of the first of these.
+-- The words from a place on are those of the items, and behind them the first one at fault: no item begins there, and the fault
+-- names its place and has its cause there.
 abbrev pub Stops : Bool → ℕ → List Said → Usage → List (List ℕ) → Type 0
-Stops only at [] fault words = (only ≡ false) × (place_of fault ≡ Some at) × ((said : Said) (own rest : List (List ℕ)) → words ≡ own ++ rest → said.at ≡ at → Spells false said own → ⊥)
+Stops only at [] fault words = (only ≡ false) × (place_of fault ≡ Some at) × HasCause fault words
+    × ((said : Said) (own rest : List (List ℕ)) → words ≡ own ++ rest → said.at ≡ at → Spells false said own → ⊥)
 Stops only at (said ∷ items) fault words = (own : List (List ℕ)) × (rest : List (List ℕ)) × (words ≡ own ++ rest) × (said.at ≡ at) × Spells only said own
     × Stops (only || same said.kind kinds.OnlyInputs) (at + length own) items fault rest
+
+-- The words are those of the items, up to the first one at fault, if any is.
+abbrev pub AreCut : List Said → Option Usage → List (List ℕ) → Type 0
+AreCut items None words = Cuts false 0 items words
+AreCut items (Some fault) words = Stops false 0 items fault words

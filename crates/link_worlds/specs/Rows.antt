@@ -11,7 +11,7 @@ use Rattle.wasm_instr.specs.Reading.{instr_at}
 use Rattle.wasm_instr.specs.Bodies.{locals_at, runs_at, code_at, body_at}
 use Rattle.body_windows.specs.declared.operand.Operand.TheVariants as operands
 use Rattle.object_file.specs.declared.object.Object.{Object}
-use Rattle.lib_rounds.specs.Rounds.{load}
+use Rattle.round_rules.specs.Rounds.{load}
 use Rattle.made_symbols.specs.declared.mode.Mode.TheVariants.{Plain}
 use Rattle.name_rules.specs.Entries.{entries}
 use Rattle.name_rules.specs.Meanings.{resolve}

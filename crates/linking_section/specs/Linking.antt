@@ -12,6 +12,7 @@ use Rattle.linking_section.specs.declared.init.InitFunc.{InitFunc}
 use Rattle.linking_section.specs.declared.group.Member.{Member}
 use Rattle.linking_section.specs.declared.group.Group.{Group}
 use Rattle.linking_section.specs.declared.linking.Linking.{Linking}
+use Rattle.linking_section.specs.declared.member_kinds.TheConstants.{DATA, FUNCTION, SECTION}
 use Rattle.linking_section.specs.Flags.{kind_code, is_foreign_symbol, is_foreign_segment, is_named, is_undefined}
 
 -- A u32 for which the test doesn't hold.
@@ -30,7 +31,7 @@ SpellsInit i = Then (SpellsU32 i.priority) (SpellsU32 i.symbol)
 
 -- A member's kind: a data segment, a function or a section.
 abbrev pub is_member_kind : ℕ → Bool
-is_member_kind kind = (kind == 0) || (kind == 1) || (kind == 5)
+is_member_kind kind = (kind == DATA) || (kind == FUNCTION) || (kind == SECTION)
 
 -- A member: the byte of its kind, and its index.
 abbrev pub SpellsMember : Member → List ℕ → Type 0

@@ -4,6 +4,7 @@ ghost use Rattle.wasm_grammar.specs.Fault.{Reads, Gives};
 ghost use Rattle.linking_section.specs.Linking.{SpellsMember, SpellsGroup};
 ghost use Rattle.linking_section.specs.Reading.{member_kind_of, member_at, zero_at, group_at};
 
+use crate::member_kinds;
 use std::alloc::Global;
 use wasm_grammar::{Form, ReadFault, Stop, byte_at, name_at, place, u32_at, vector_at};
 use wl_base::{Name, Seq};
@@ -11,7 +12,7 @@ use wl_base::{Name, Seq};
 /// A part of an object that belongs to a group (Linking.md, 'Linking Metadata Section').
 #[derive(Clone, Copy, Debug, PartialEq, Eq)]
 pub struct Member {
-    /// 0 for a data segment, 1 for a function, 5 for a section.
+    /// What it is, one of [`crate::member_kinds`].
     pub kind: u8,
     /// The index of the segment, function or section.
     pub index: u32,
@@ -31,7 +32,7 @@ fn member_kind_of(place: usize, byte: u8) -> Result<u8, Stop>
     ensures { result ≡ member_kind_of place byte }
 {
     match byte {
-        0 | 1 | 5 => Ok(byte),
+        member_kinds::DATA | member_kinds::FUNCTION | member_kinds::SECTION => Ok(byte),
         _ => Err(Stop::Broken(place)),
     }
 }

@@ -8,6 +8,7 @@ mod group;
 mod init;
 mod laws;
 mod linking;
+pub mod member_kinds;
 mod reading;
 mod segment;
 mod symbol;

@@ -2,7 +2,9 @@
 #![tactic(auto)]
 
 mod mode;
+mod roles;
 mod table;
 
 pub use mode::Mode;
-pub use table::{changes, class, count, kind, name};
+pub use roles::Role;
+pub use table::{changes, class, count, kind, name, role};

@@ -3,13 +3,14 @@ ghost use Rattle.std.specs.Prelude.{◌≡◌, ◌<◌, length};
 ghost use Rattle.made_symbols.specs.Made.{made, made_at};
 ghost use Rattle.made_symbols.specs.Shown.{shown};
 
-use crate::Mode;
+use crate::{Mode, Role};
 use linking_section::SymbolKind;
 
 /// A linker-made symbol.
 #[derive(Clone, Copy)]
 struct Row {
     name: &'static str,
+    role: Role,
     kind: SymbolKind,
     class: u8,
     changes: bool,
@@ -18,72 +19,84 @@ struct Row {
 static PLAIN: [Row; 12] = [
     Row {
         name: "__wasm_call_ctors",
+        role: Role::CallCtors,
         kind: SymbolKind::Function,
         class: 0,
         changes: false,
     },
     Row {
         name: "__stack_pointer",
+        role: Role::StackPointer,
         kind: SymbolKind::GlobalVar,
         class: 0,
         changes: true,
     },
     Row {
         name: "__memory_base",
+        role: Role::MemoryBase,
         kind: SymbolKind::GlobalVar,
         class: 0,
         changes: false,
     },
     Row {
         name: "__table_base",
+        role: Role::TableBase,
         kind: SymbolKind::GlobalVar,
         class: 0,
         changes: false,
     },
     Row {
         name: "__indirect_function_table",
+        role: Role::IndirectFunctionTable,
         kind: SymbolKind::Table,
         class: 0,
         changes: false,
     },
     Row {
         name: "__heap_base",
+        role: Role::HeapBase,
         kind: SymbolKind::Datum,
         class: 2,
         changes: false,
     },
     Row {
         name: "__data_end",
+        role: Role::DataEnd,
         kind: SymbolKind::Datum,
         class: 2,
         changes: false,
     },
     Row {
         name: "__global_base",
+        role: Role::GlobalBase,
         kind: SymbolKind::Datum,
         class: 2,
         changes: false,
     },
     Row {
         name: "__dso_handle",
+        role: Role::DsoHandle,
         kind: SymbolKind::Datum,
         class: 2,
         changes: false,
     },
     Row {
         name: "__stack_low",
+        role: Role::StackLow,
         kind: SymbolKind::Datum,
         class: 2,
         changes: false,
     },
     Row {
         name: "__stack_high",
+        role: Role::StackHigh,
         kind: SymbolKind::Datum,
         class: 2,
         changes: false,
     },
     Row {
         name: "__heap_end",
+        role: Role::HeapEnd,
         kind: SymbolKind::Datum,
         class: 2,
         changes: false,
@@ -93,42 +106,49 @@ static PLAIN: [Row; 12] = [
 static SHARED: [Row; 7] = [
     Row {
         name: "__wasm_call_ctors",
+        role: Role::CallCtors,
         kind: SymbolKind::Function,
         class: 0,
         changes: false,
     },
     Row {
         name: "__wasm_apply_data_relocs",
+        role: Role::ApplyDataRelocs,
         kind: SymbolKind::Function,
         class: 0,
         changes: false,
     },
     Row {
         name: "__stack_pointer",
+        role: Role::StackPointer,
         kind: SymbolKind::GlobalVar,
         class: 0,
         changes: true,
     },
     Row {
         name: "__memory_base",
+        role: Role::MemoryBase,
         kind: SymbolKind::GlobalVar,
         class: 0,
         changes: false,
     },
     Row {
         name: "__table_base",
+        role: Role::TableBase,
         kind: SymbolKind::GlobalVar,
         class: 0,
         changes: false,
     },
     Row {
         name: "__indirect_function_table",
+        role: Role::IndirectFunctionTable,
         kind: SymbolKind::Table,
         class: 0,
         changes: false,
     },
     Row {
         name: "__dso_handle",
+        role: Role::DsoHandle,
         kind: SymbolKind::Datum,
         class: 2,
         changes: false,
@@ -162,6 +182,14 @@ pub fn name(mode: Mode, k: u32) -> &'static [u8]
     ensures { result.now ≡ (made_at mode k).name }
 {
     row_at(mode, k).name.as_bytes()
+}
+
+/// What a linker-made symbol stands for.
+pub fn role(mode: Mode, k: u32) -> Role
+    requires { k < length (made mode) }
+    ensures { result ≡ (made_at mode k).role }
+{
+    row_at(mode, k).role
 }
 
 /// What a linker-made symbol names.

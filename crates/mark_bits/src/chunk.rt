@@ -7,7 +7,7 @@ use wl_base::InputId;
 #[derive(Clone, Copy, Debug, PartialEq, Eq, Hash)]
 pub struct Chunk {
     pub input: InputId,
-    /// 0 a function, 1 a data segment, 2 a global.
+    /// `kinds::FUNCTION`, `kinds::SEGMENT` or `kinds::GLOBAL`.
     pub kind: u8,
     /// The place among what the input defines of its kind.
     pub index: u32,

@@ -7,6 +7,7 @@
 mod bits;
 mod chunk;
 mod chunk_table;
+pub mod kinds;
 pub mod laws;
 mod party;
 mod rule;

@@ -2,18 +2,18 @@
 ghost use Rattle.std.specs.Prelude.{◌≡◌, ◌<◌};
 ghost use Rattle.mark_bits.specs.Seats.{IsSeatOf};
 
-use mark_bits::{Chunk, ChunkTable, MarkBits, MarkSeat};
+use mark_bits::{Chunk, ChunkTable, MarkBits, MarkSeat, kinds};
 use std::test::Fail;
 
 const MAIN: Chunk = Chunk {
     input: 1,
-    kind: 0,
+    kind: kinds::FUNCTION,
     index: 7,
 };
 
 const DATUM: Chunk = Chunk {
     input: 1,
-    kind: 1,
+    kind: kinds::SEGMENT,
     index: 7,
 };
 

@@ -11,7 +11,7 @@ use std::test::Fail;
 use std::thread::Threads;
 use wl_base::{OutOfMemory, Seq};
 use wl_fan::Workers;
-use wl_outside::{Gate, OpenGate, Phase};
+use wl_outside::{Gate, Phase};
 
 // Holds the first job that comes until a second one has come, for a number of turns.
 #[derive(Drop)]
@@ -43,6 +43,18 @@ struct Greatest {
 impl Gate for Greatest {
     fn turn(&self, _phase: Phase, worker: u32, _job: u32) {
         self.worker.fetch_max(u64::from(worker), Ordering::SeqCst);
+    }
+}
+
+// Counts the places that workers come to.
+#[derive(Drop)]
+struct Counting {
+    turns: AtomicU64,
+}
+
+impl Gate for Counting {
+    fn turn(&self, _phase: Phase, _worker: u32, _job: u32) {
+        self.turns.fetch_add(1, Ordering::SeqCst);
     }
 }
 
@@ -119,9 +131,14 @@ fn wide(alloc: Global) -> Result<Edges, OutOfMemory> {
 fn marks_what_the_roots_reach(rt: HostRuntime) -> Result<(), Fail> {
     let edges = diamond(rt.alloc())?;
     for workers in [1u32, 2, 64] {
-        let set = marked(&rt, rt.alloc(), &edges, &[0], workers, &OpenGate).ok_or("marks")?;
+        let gate = Counting {
+            turns: AtomicU64::new(0),
+        };
+        let set = marked(&rt, rt.alloc(), &edges, &[0], workers, &gate).ok_or("marks")?;
         assert_eq!(rt; set.chunks, 5);
         assert_eq!(rt; set.words.as_slice(), [15].as_slice());
+        // the root, then 0, then 1 and 2, then 3 alone, which both refer to and one of them marked first
+        assert_eq!(rt; gate.turns.load(Ordering::SeqCst), 5);
     }
     Ok(())
 }
@@ -130,8 +147,13 @@ fn marks_what_the_roots_reach(rt: HostRuntime) -> Result<(), Fail> {
 fn no_roots_reach_nothing(rt: HostRuntime) -> Result<(), Fail> {
     let edges = diamond(rt.alloc())?;
     for workers in [1u32, 2, 64] {
-        let set = marked(&rt, rt.alloc(), &edges, &[], workers, &OpenGate).ok_or("marks")?;
+        let gate = Counting {
+            turns: AtomicU64::new(0),
+        };
+        let set = marked(&rt, rt.alloc(), &edges, &[], workers, &gate).ok_or("marks")?;
         assert_eq!(rt; set.words.as_slice(), [0].as_slice());
+        // the first round comes to nothing, and there is no other
+        assert_eq!(rt; gate.turns.load(Ordering::SeqCst), 0);
     }
     Ok(())
 }

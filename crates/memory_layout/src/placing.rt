@@ -8,6 +8,14 @@ use crate::{MemoryRules, Places, SegmentShape};
 use std::alloc::Global;
 use wl_base::{LayoutError, OutOfMemory, Seq, What};
 
+/// A page of memory has two to this power bytes (Core 4.2.8).
+const PAGE_POWER: u32 = 16;
+
+const PAGE_BYTES: u64 = 65_536;
+
+/// The stack and the heap begin at multiples of two to this power bytes.
+const STACK_POWER: u32 = 4;
+
 /// Places segments one behind the other, those that aren't zero first, and the stack and the heap
 /// around them.
 ///
@@ -49,14 +57,14 @@ fn base_of(rules: &MemoryRules) -> u32
     }
 }
 
-/// The least multiple of two to the power `align` that is at least `at`.
+/// The least multiple of two to this power that is at least `at`.
 #[inline(always)]
-fn up(at: u32, align: u32) -> u64
-    requires { align ≤ 31 }
-    ensures { result ≡ up at (2 ^ align) }
+fn align_to_power(at: u32, power: u32) -> u64
+    requires { power ≤ 31 }
+    ensures { result ≡ up at (2 ^ power) }
 {
-    let size = 1u64 << align;
-    ((u64::from(at) + (size - 1)) >> align) << align
+    let size = 1u64 << power;
+    ((u64::from(at) + (size - 1)) >> power) << power
 }
 
 /// The address and the end of a segment that is placed behind `at`.
@@ -65,7 +73,7 @@ fn placed_after(at: u32, segment: &SegmentShape) -> Result<(u32, u32), LayoutErr
     requires { segment.now.align ≤ 31 }
     ensures { Answers result (placed_after at segment.now) }
 {
-    let address = up(at, segment.align);
+    let address = align_to_power(at, segment.align);
     let end = address + u64::from(segment.len);
     if end > u64::from(u32::MAX) {
         return Err(overflow(What::DataEnd, end));
@@ -127,10 +135,10 @@ fn pages_for(heap_base: u32, initial: u64, max: Option<u64>) -> Result<u32, Layo
     requires max { IfSome max IsPages }
     ensures { Answers result (pages_for heap_base (initial / 65536) max) }
 {
-    let pages = (up(heap_base, 16) / 65_536).max(initial / 65_536);
+    let pages = (align_to_power(heap_base, PAGE_POWER) / PAGE_BYTES).max(initial / PAGE_BYTES);
     if let Some(max) = max {
-        if pages * 65_536 > max {
-            return Err(overflow(What::MaxMemory, pages * 65_536));
+        if pages * PAGE_BYTES > max {
+            return Err(overflow(What::MaxMemory, pages * PAGE_BYTES));
         }
     }
     Ok(pages as u32)
@@ -172,7 +180,7 @@ fn around(
     else {
         return Ok(relative(addresses, data_end));
     };
-    let after_data = up(data_end, 4);
+    let after_data = align_to_power(data_end, STACK_POWER);
     let (stack_low, stack_high, heap_base) = if stack_first {
         (0, u64::from(stack), after_data)
     } else {

@@ -5,4 +5,5 @@ mod Column
 mod Found
 mod Held
 mod Made
+mod Named
 mod Search

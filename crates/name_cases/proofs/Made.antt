@@ -6,6 +6,7 @@ use Rattle.name_entries.specs.wl_base.Names.{number_of}
 use Rattle.name_entries.specs.linking_section.declared.symbol.SymbolKind.{SymbolKind}
 use Rattle.name_entries.specs.object_file.declared.object.Object.{Object}
 use Rattle.name_entries.specs.made_symbols.declared.mode.Mode.{Mode}
+use Rattle.name_entries.specs.made_symbols.declared.roles.Role.TheVariants.{CallCtors}
 use Rattle.name_entries.specs.made_symbols.Made.{MadeSymbol, made, made_at, made_function}
 use Rattle.name_entries.specs.link_names.Numbered.{Numbered, AreNumbers}
 use Rattle.name_entries.specs.name_rules.Entries.{made_entry, made_from}
@@ -25,7 +26,7 @@ made_place p (suc k) (m ∷ ms) d below = made_place (p + 1) k ms d (omega arith
 
 -- the linker-made symbol of a number
 pub made_is : (mode : Mode) (k : ℕ) → k < length (made mode) → slice_get (made_from 0 (made mode)) k ≡ Some (made_entry k (made_at mode k))
-made_is mode k below = made_place 0 k (made mode) (made_function []) below ∙ ap (λ n. Some (made_entry n (made_at mode k))) (omega arith)
+made_is mode k below = made_place 0 k (made mode) (made_function CallCtors []) below ∙ ap (λ n. Some (made_entry n (made_at mode k))) (omega arith)
 
 pub made_past : (mode : Mode) (k : ℕ) → length (made mode) ≤ k → slice_get (made_from 0 (made mode)) k ≡ None
 made_past mode k past = slice_get_past (made_from 0 (made mode)) k (omega (arith, length-made 0 (made mode)))
@@ -39,7 +40,7 @@ pub made_number : (mode : Mode) (objects : List Object) (n : Numbered) (k : ℕ)
 made_number mode objects n k numbers below =
     unwrapped (slice_get n.made k) (number_of n.names (made_at mode k).name)
     (sym (slice_get-map {A = ℕ} {B = Option ℕ} (λ x. Some x) n.made k) ∙ ap (λ l. slice_get l k) numbers.made ∙ slice_get-map (λ (m : MadeSymbol). number_of n.names m.name) (made mode) k
-    ∙ ap (option_map (λ (m : MadeSymbol). number_of n.names m.name)) (slice_get-get_or (made mode) k (made_function []) below))
+    ∙ ap (option_map (λ (m : MadeSymbol). number_of n.names m.name)) (slice_get-get_or (made mode) k (made_function CallCtors []) below))
 
 -- ---- the other rows
 

@@ -6,7 +6,7 @@ ghost use Rattle.name_entries.specs.Fits.{Fits};
 ghost use Rattle.name_cases.specs.Beside.{spot_case};
 ghost use Rattle.name_cases.specs.Least.{IsReady, least_case, row_case};
 ghost use Rattle.name_cases.specs.Rows.{RowsFit, names_shown, rows_shown};
-ghost use Rattle.name_cases.specs.Told.{clash_told, duplicate_told};
+ghost use Rattle.name_cases.specs.Told.{clash_told, duplicate_told, IsNamed};
 
 use crate::question::Question;
 use crate::rows::{Rows, Spot};
@@ -111,7 +111,8 @@ pub fn first_clash<R: Threads + Sync>(
     mode: Mode,
 ) -> Result<Option<PairCase>, OutOfMemory>
     requires { Fits mode view }
-    ensures { IfOk result (λ c. option_map (clash_told view.entry.names.now.names) c ≡ clash (entries mode view.entry.objects.now)) }
+    ensures is { IfOk result (λ c. option_map (clash_told view.entry.names.now.names) c ≡ clash (entries mode view.entry.objects.now)) }
+    ensures named { IfOk result (λ c. IsNamed view.entry.names.now.names c) }
 {
     let rows = Rows { view, mode };
     first_case(rt, alloc, rows, Question::Clashes)
@@ -125,7 +126,8 @@ pub fn first_duplicate<R: Threads + Sync>(
     mode: Mode,
 ) -> Result<Option<PairCase>, OutOfMemory>
     requires { Fits mode view }
-    ensures { IfOk result (λ c. option_map (duplicate_told view.entry.names.now.names) c ≡ duplicate (entries mode view.entry.objects.now)) }
+    ensures is { IfOk result (λ c. option_map (duplicate_told view.entry.names.now.names) c ≡ duplicate (entries mode view.entry.objects.now)) }
+    ensures named { IfOk result (λ c. IsNamed view.entry.names.now.names c) }
 {
     let rows = Rows { view, mode };
     first_case(rt, alloc, rows, Question::Duplicates)

@@ -1,5 +1,5 @@
 -- The symbols of the loaded objects, as the calls of the rules find them: by the place of the object and that of the symbol.
-use Rattle.std.specs.Prelude.{◌≡◌, ℕ, ◌<◌, ◌^◌, List, [], ◌∷◌, map, slice_get, slice_index_or, Option, Some, None, option_map, if◌then◌else◌}
+use Rattle.std.specs.Prelude.{◌≡◌, ℕ, ◌<◌, ◌^◌, ◌==◌, Bool, false, List, [], ◌∷◌, map, slice_get, slice_index_or, Option, Some, None, option_map, if◌then◌else◌}
 use Rattle.object_file.specs.declared.object.Object.{Object}
 use Rattle.object_file.specs.wl_base.Names.{number_of}
 use Rattle.name_rules.specs.Entries.{Entry, is_entry, name_of, symbols_of, group_winner}
@@ -17,6 +17,11 @@ entry_at objects object place = slice_get (slice_index_or (rows_of objects) obje
 -- The number of an entry's name; a symbol that is no entry has none.
 abbrev pub entry_number : List (List ℕ) → Entry → Option ℕ
 entry_number names e = if is_entry e then number_of names (name_of e) else None
+
+-- whether the number of a name is this one
+abbrev pub is_number : ℕ → Option ℕ → Bool
+is_number number None = false
+is_number number (Some other) = other == number
 
 -- Inputs rise, behind the last one, and are below 2^20.
 abbrev pub InputsRise : ℕ → List Object → Type 0

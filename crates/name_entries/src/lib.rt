@@ -8,8 +8,6 @@ mod lookups;
 mod parts;
 mod spaces;
 mod table;
-#[cfg(test)]
-mod tests;
 
 pub use entry::{EntryRef, TypeRef};
 pub use link_names::Names;

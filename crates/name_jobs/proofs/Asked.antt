@@ -12,6 +12,7 @@ use Rattle.name_entries.specs.link_names.Numbered.{group_names}
 use Rattle.name_entries.specs.linking_section.declared.symbol.Symbol.{Symbol}
 use Rattle.name_entries.specs.linking_section.Flags.{is_weak}
 use Rattle.name_entries.specs.made_symbols.declared.mode.Mode.{Mode}
+use Rattle.name_entries.specs.made_symbols.declared.roles.Role.TheVariants.{CallCtors}
 use Rattle.name_entries.specs.made_symbols.Made.{MadeSymbol, made, made_at, made_function}
 use Rattle.symbol_race.specs.Ranks.{rank_of}
 use Rattle.name_entries.specs.name_rules.Entries.{Entry, made_from, entries_from, entry_in, symbols_of}
@@ -108,7 +109,7 @@ pub made_asked : (names : List (List ℕ)) (mode : Mode) (numbers : List ℕ) �
     (map (entry_offer names) (made_from 0 (made mode))) k None
 made_asked names mode numbers e k =
     ap (λ at. option_map (ranked (made_rank (made_at mode k) at)) (slice_get numbers k)) (let same : k ≡ 0 + k = omega arith in same)
-    ∙ made_asked_from names 0 (made mode) numbers e k (made_function [])
+    ∙ made_asked_from names 0 (made mode) numbers e k (made_function CallCtors [])
 
 -- what is answered for one, by the number that it has
 pub made_answer : (names : List (List ℕ)) (mode : Mode) (numbers : List ℕ) → map Some numbers ≡ map (λ m. number_of names m.name) (made mode)

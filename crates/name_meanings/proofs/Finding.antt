@@ -28,7 +28,8 @@ use Rattle.name_meanings.specs.Kept.{with_import}
 use Rattle.name_meanings.specs.Means.{Means, import_meant}
 use Rattle.name_meanings.specs.Known.{IsKnown, meant, name_import, AreFound, FoundBy, Finds, IsNumbered}
 use Rattle.name_meanings.proofs.SameImport.{import_itself}
-use Rattle.name_meanings.proofs.ByNumber.{name_at, references_are}
+use Rattle.name_entries.proofs.Numbers.{name_at}
+use Rattle.name_meanings.proofs.ByNumber.{references_are}
 use Rattle.name_meanings.proofs.Noted.{number_below}
 use Rattle.name_meanings.proofs.Ruled.{decided, explicit_import_of, ruled, unruled, by_import, by_none, source_stands, key_of_source, no_source, own_source}
 use Rattle.name_meanings.proofs.Placed.{winner_has_parts, entry_is_placed, unnumbered_is_none, numbered_is_entry}

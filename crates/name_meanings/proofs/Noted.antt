@@ -15,14 +15,14 @@ use Rattle.name_entries.specs.linking_section.Flags.{is_weak, is_explicit}
 use Rattle.name_entries.specs.object_file.declared.object.Object.{Object}
 use Rattle.name_entries.specs.name_rules.Entries.{Entry, ImportKey, key_of, is_entry, name_of}
 use Rattle.name_entries.specs.name_rules.Meanings.{least_import}
-use Rattle.name_entries.specs.View.{entry_at, entry_number}
+use Rattle.name_entries.specs.View.{entry_at, entry_number, is_number}
 use Rattle.name_entries.specs.declared.entry.EntryRef.{EntryRef}
 use Rattle.name_entries.specs.Shown.{Shows, AreShown}
 use Rattle.name_entries.specs.object_columns.declared.imports.ImportRef.{ImportRef}
 use Rattle.name_entries.specs.object_columns.Seen.{symbol_seen, import_seen}
 use Rattle.name_meanings.specs.declared.columns.At.{At}
 use Rattle.name_meanings.specs.declared.columns.Column.{Column}
-use Rattle.name_meanings.specs.Columns.{or_else, import_at, StandsOn, is_number, is_reference_of, IsColumn, AreColumns, empty_column}
+use Rattle.name_meanings.specs.Columns.{or_else, import_at, StandsOn, is_reference_of, IsColumn, AreColumns, empty_column}
 use Rattle.name_meanings.proofs.Filters.{first_append}
 
 -- ---- a filter, and one more item

@@ -1,11 +1,11 @@
 -- What the columns of names tell of the references of each name.
-use Rattle.std.specs.Prelude.{◌≡◌, ℕ, ◌<◌, ◌==◌, Bool, false, not, ◌&&◌, List, filter, flat_map, length, slice_index_or, Option, Some, None, option_map, option_and_then}
+use Rattle.std.specs.Prelude.{◌≡◌, ℕ, ◌<◌, Bool, false, not, ◌&&◌, List, filter, flat_map, length, slice_index_or, Option, Some, None, option_map, option_and_then}
 use Rattle.std.specs.List.{list_any}
 use Rattle.name_entries.specs.linking_section.Flags.{is_weak, is_explicit}
 use Rattle.name_entries.specs.object_file.declared.object.Object.{Object}
 use Rattle.name_entries.specs.name_rules.Entries.{Entry, ImportKey, symbols_of}
 use Rattle.name_entries.specs.name_rules.Meanings.{least_import}
-use Rattle.name_entries.specs.View.{entry_at, entry_number}
+use Rattle.name_entries.specs.View.{entry_at, entry_number, is_number}
 use Rattle.name_entries.specs.declared.lookups.Entries.{Entries}
 use Rattle.name_meanings.specs.declared.columns.At.{At}
 use Rattle.name_meanings.specs.declared.columns.Column.{Column}
@@ -22,10 +22,6 @@ import_at objects at = option_and_then (λ e. e.import) (entry_at objects at.obj
 -- where there is an import, a symbol that stands on it
 abbrev pub StandsOn : List Object → Option At → Option ImportKey → Type 0
 StandsOn objects at key = option_map (import_at objects) at ≡ option_map Some key
-
-abbrev pub is_number : ℕ → Option ℕ → Bool
-is_number number None = false
-is_number number (Some other) = other == number
 
 abbrev pub is_reference_of : List (List ℕ) → ℕ → Entry → Bool
 is_reference_of names number e = is_number number (entry_number names e) && not e.defines

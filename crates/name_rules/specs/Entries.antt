@@ -10,6 +10,7 @@ use Rattle.object_file.specs.linking_section.declared.symbol.Symbol.{Symbol}
 use Rattle.object_file.specs.linking_section.declared.symbol.SymbolKind.{SymbolKind}
 use Rattle.object_file.specs.linking_section.declared.symbol.SymbolKind.TheVariants.{Function, Datum, GlobalVar, Section, Table}
 use Rattle.object_file.specs.linking_section.declared.group.Group.{Group}
+use Rattle.object_file.specs.linking_section.declared.member_kinds.TheConstants as members
 use Rattle.object_file.specs.linking_section.Flags.{kind_code, is_weak, is_undefined, is_local_definition}
 use Rattle.object_file.specs.declared.object.Object.{Object}
 use Rattle.object_file.specs.Spaces.{no_type, function_types, global_types, function_imports, global_imports, table_imports, function_place, global_place}
@@ -58,7 +59,7 @@ abbrev pub is_input : ℕ → Option ℕ → Bool
 is_input input None = false
 is_input input (Some other) = input == other
 
--- whether a part, of kind 0 a data segment or 1 a function by its index, is a member of the group
+-- whether a part, a data segment or a function by its index, is a member of the group
 abbrev pub has_member : ℕ → ℕ → Group → Bool
 has_member kind index g = list_any (λ m. (m.kind == kind) && (m.index == index)) g.members
 
@@ -68,8 +69,8 @@ is_kept objects o kind index = not (list_any (λ g. has_member kind index g && n
 
 -- whether the part in which a symbol is defined is kept; only functions and data segments are dropped with groups
 abbrev pub in_kept_part : List Object → Object → Symbol → SymbolKind → Bool
-in_kept_part objects o s Function = is_kept objects o 1 s.index
-in_kept_part objects o s Datum = is_kept objects o 0 s.index
+in_kept_part objects o s Function = is_kept objects o members.FUNCTION s.index
+in_kept_part objects o s Datum = is_kept objects o members.DATA s.index
 in_kept_part objects o s GlobalVar = true
 in_kept_part objects o s Section = true
 in_kept_part objects o s Table = true

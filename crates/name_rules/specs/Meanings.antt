@@ -6,6 +6,8 @@ use Rattle.object_file.specs.wasm_types.declared.value.ValType.TheVariants.{I32}
 use Rattle.symbol_race.specs.Ranks.{rank_of}
 use Rattle.object_file.specs.body_windows.declared.operand.Operand.{Operand}
 use Rattle.object_file.specs.body_windows.declared.operand.Operand.TheVariants as operands
+use Rattle.object_file.specs.linking_section.declared.member_kinds.TheConstants as members
+use Rattle.object_file.specs.reloc_section.declared.kinds.TheConstants as relocs
 use Rattle.made_symbols.specs.declared.mode.Mode.{Mode}
 use Rattle.made_symbols.specs.declared.mode.Mode.TheVariants.{Plain, Shared}
 use Rattle.object_file.specs.linking_section.declared.symbol.SymbolKind.TheVariants.{Function, Datum, GlobalVar}
@@ -46,7 +48,7 @@ pub record Uses : Type 0 where
 abbrev pub no_uses : Uses
 no_uses = record { called = []; addressed = [] }
 
--- A window of a kept part, or an init entry: its relocation's type (0 for an init entry, which calls) and its symbol.
+-- A window of a kept part, or an init entry: its relocation's type (FUNCTION_INDEX_LEB for an init entry, which calls) and its symbol.
 pub record Use : Type 0 where
   pub kind : ℕ
   pub entry : Entry
@@ -71,9 +73,9 @@ is_init_use e = e.defines || is_undefined e.symbol
 
 abbrev pub uses_with : List Object → Object → List Entry → List Use
 uses_with objects o symbols =
-    kept_from objects o 1 (length (function_imports o)) (map (λ f. filter_map (operand_use symbols) f.operands) o.functions)
-    ++ kept_from objects o 0 0 (map (λ g. filter_map (λ w. use_of w.kind (slice_get symbols w.index)) g.windows) o.segments)
-    ++ filter (λ u. is_init_use u.entry) (filter_map (λ i. use_of 0 (slice_get symbols i.symbol)) o.inits)
+    kept_from objects o members.FUNCTION (length (function_imports o)) (map (λ f. filter_map (operand_use symbols) f.operands) o.functions)
+    ++ kept_from objects o members.DATA 0 (map (λ g. filter_map (λ w. use_of w.kind (slice_get symbols w.index)) g.windows) o.segments)
+    ++ filter (λ u. is_init_use u.entry) (filter_map (λ i. use_of relocs.FUNCTION_INDEX_LEB (slice_get symbols i.symbol)) o.inits)
 
 abbrev pub uses_in : List Object → Object → List Use
 uses_in objects o = filter (λ u. is_kind Function u.entry && not (is_local_definition u.entry.symbol)) (uses_with objects o (symbols_of objects o))
@@ -82,7 +84,7 @@ abbrev pub names_used : (Use → Bool) → List Use → List (List ℕ)
 names_used test us = map (λ u. name_of u.entry) (filter test us)
 
 abbrev pub uses_split : List Use → Uses
-uses_split us = record { called = names_used (λ u. u.kind == 0) us; addressed = names_used (λ u. not (u.kind == 0)) us }
+uses_split us = record { called = names_used (λ u. u.kind == relocs.FUNCTION_INDEX_LEB) us; addressed = names_used (λ u. not (u.kind == relocs.FUNCTION_INDEX_LEB)) us }
 
 abbrev pub uses_of : Mode → List Object → Uses
 uses_of Plain objects = no_uses

@@ -1,30 +1,20 @@
 //! Both races over objects that were read, by one worker and by several.
-ghost use Rattle.std.specs.Prelude.{IfSome};
 ghost use Rattle.name_entries.specs.made_symbols.declared.mode.Mode.TheVariants.{Plain};
 ghost use Rattle.name_entries.specs.link_names.Numbered.{AreNumbers};
 ghost use Rattle.name_entries.specs.View.{InputsRise};
 
-use crate::objects::{grouped, inputs_rise, read};
+use crate::objects::{grouped, numbered, read, strong, weak};
 use made_symbols::Mode;
 use name_entries::{EntryTable, Names, Object};
 use name_jobs::{group_winners, name_winners};
 use std::alloc::Global;
 use std::thread::Threads;
 use symbol_race::rank;
+use weak_rules::inputs_rise;
 use wl_fan::Workers;
 use wl_outside::OpenGate;
 
-/// An object with a function that is `f`, strong.
-fn strong() -> &'static [u8] {
-    b"\0asm\x01\0\0\0\x01\x04\x01`\0\0\x03\x02\x01\0\x0a\x04\x01\x02\0\x0b\0\x11\x07linking\x02\x08\x06\x01\0\0\0\x01f".as_slice()
-}
-
-/// The same, weak.
-fn weak() -> &'static [u8] {
-    b"\0asm\x01\0\0\0\x01\x04\x01`\0\0\x03\x02\x01\0\x0a\x04\x01\x02\0\x0b\0\x11\x07linking\x02\x08\x06\x01\0\x01\0\x01f".as_slice()
-}
-
-/// The same, in the group `g`.
+/// An object with a function that is `f`, weak and in the group `g`.
 fn weak_grouped() -> &'static [u8] {
     b"\0asm\x01\0\0\0\x01\x04\x01`\0\0\x03\x02\x01\0\x0a\x04\x01\x02\0\x0b\0\x1a\x07linking\x02\x08\x06\x01\0\x01\0\x01f\x07\x07\x01\x01g\0\x01\x01\0".as_slice()
 }
@@ -59,16 +49,6 @@ fn raced<R: Threads + Sync>(
             .find(b"f".as_slice())
             .and_then(|number| winners.of(number)),
     })
-}
-
-/// The numbers of the names of these objects.
-fn numbered(alloc: Global, objects: &[Object]) -> Option<Names>
-    ensures { IfSome result (λ names. AreNumbers Plain objects.now names) }
-{
-    match Names::new(alloc, Mode::Plain, &[], objects, 1 << 20) {
-        Ok(names) => Some(names),
-        Err(_) => None,
-    }
 }
 
 /// The winners of these objects, by so many workers.

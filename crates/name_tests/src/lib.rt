@@ -1,6 +1,15 @@
-//! Tests. Names by number, what is asked of the races for them, what symbols mean, and which names are left open.
+//! Tests. Names by number, what is looked up of symbols, how the races for names are asked and who wins, what symbols mean, and which
+//! names clash, are duplicates or are left open.
 #![tactic(auto)]
 
+#[cfg(test)]
+mod answers;
+#[cfg(test)]
+mod asked;
+#[cfg(test)]
+mod counted;
+#[cfg(test)]
+mod entries;
 #[cfg(test)]
 mod jobs;
 #[cfg(test)]

@@ -4,7 +4,7 @@ ghost use Rattle.name_entries.specs.link_names.Numbered.{AreNumbers};
 ghost use Rattle.name_entries.specs.View.{InputsRise};
 ghost use Rattle.name_unresolved.specs.Unresolved.{AreMeant};
 
-use crate::objects::{grouped, inputs_rise, read};
+use crate::objects::{grouped, numbered, read};
 use made_symbols::Mode;
 use name_entries::{EntryTable, Meaning, Names, Object};
 use name_jobs::{group_winners, name_winners};
@@ -12,6 +12,7 @@ use name_meanings::{Resolution, resolve};
 use name_unresolved::laws::resolved_is_meant;
 use std::alloc::Global;
 use std::thread::Threads;
+use weak_rules::inputs_rise;
 use wl_fan::Workers;
 use wl_outside::OpenGate;
 
@@ -121,9 +122,7 @@ fn meant_by<R: Threads + Sync>(
     if !inputs_rise(objects.as_slice()) {
         return None;
     }
-    let Ok(names) = Names::new(alloc, Mode::Plain, &[], objects.as_slice(), 1 << 20) else {
-        return None;
-    };
+    let names = numbered(alloc, objects.as_slice())?;
     resolved(rt, alloc, objects.as_slice(), &names, allow_undefined)
 }
 

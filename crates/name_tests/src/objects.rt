@@ -1,8 +1,10 @@
-//! Objects that were read or begin with nothing, and whether their inputs rise.
-ghost use Rattle.std.specs.Prelude.{IsTrue};
-ghost use Rattle.name_entries.specs.View.{InputsRise};
+//! Objects that were read or begin with nothing, and the numbers of their names.
+ghost use Rattle.std.specs.Prelude.{IfSome};
+ghost use Rattle.name_entries.specs.made_symbols.declared.mode.Mode.TheVariants.{Plain};
+ghost use Rattle.name_entries.specs.link_names.Numbered.{AreNumbers};
 
-use name_entries::{FuncTypes, Functions, Imports, Object, Segments, Symbols, read_object};
+use made_symbols::Mode;
+use name_entries::{FuncTypes, Functions, Imports, Names, Object, Segments, Symbols, read_object};
 use std::alloc::Global;
 use wl_base::Seq;
 
@@ -21,7 +23,17 @@ pub fn nothing(alloc: Global, input: u32) -> Object {
     }
 }
 
-/// An object with a function that is `f`, strong and in the group `g`.
+/// An object with a function that is `f`, strong.
+pub fn strong() -> &'static [u8] {
+    b"\0asm\x01\0\0\0\x01\x04\x01`\0\0\x03\x02\x01\0\x0a\x04\x01\x02\0\x0b\0\x11\x07linking\x02\x08\x06\x01\0\0\0\x01f".as_slice()
+}
+
+/// The same, weak.
+pub fn weak() -> &'static [u8] {
+    b"\0asm\x01\0\0\0\x01\x04\x01`\0\0\x03\x02\x01\0\x0a\x04\x01\x02\0\x0b\0\x11\x07linking\x02\x08\x06\x01\0\x01\0\x01f".as_slice()
+}
+
+/// The same, strong and in the group `g`.
 pub fn grouped() -> &'static [u8] {
     b"\0asm\x01\0\0\0\x01\x04\x01`\0\0\x03\x02\x01\0\x0a\x04\x01\x02\0\x0b\0\x1a\x07linking\x02\x08\x06\x01\0\0\0\x01f\x07\x07\x01\x01g\0\x01\x01\0".as_slice()
 }
@@ -37,16 +49,12 @@ pub fn read(alloc: Global, files: &[&[u8]]) -> Option<Vec<Object>> {
     Some(objects)
 }
 
-/// Whether the inputs rise, from 1 to below 2^20.
-pub fn inputs_rise(objects: &[Object]) -> bool
-    ensures { IsTrue result → InputsRise 0 objects.now }
+/// The numbers of the names of these objects.
+pub fn numbered(alloc: Global, objects: &[Object]) -> Option<Names>
+    ensures { IfSome result (λ names. AreNumbers Plain objects.now names) }
 {
-    let mut last = 0;
-    for object in objects {
-        if object.input <= last || object.input >= 1 << 20 {
-            return false;
-        }
-        last = object.input;
+    match Names::new(alloc, Mode::Plain, &[], objects, 1 << 20) {
+        Ok(names) => Some(names),
+        Err(_) => None,
     }
-    true
 }

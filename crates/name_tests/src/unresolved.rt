@@ -4,7 +4,7 @@ ghost use Rattle.mark_bits.specs.Seats.{IsSeatOf};
 ghost use Rattle.name_meanings.specs.Means.{row_of};
 ghost use Rattle.name_unresolved.specs.Unresolved.{AreMeant};
 
-use crate::objects::{inputs_rise, nothing};
+use crate::objects::nothing;
 use mark_bits::{Chunk, ChunkTable, MarkBits, MarkSeat, MarkSet};
 use name_entries::{
     FunctionRef, Functions, InitFunc, Meaning, Object, Operand, Operands, Reloc, SegmentRef,
@@ -15,6 +15,7 @@ use name_unresolved::first_unresolved;
 use std::alloc::Global;
 use std::test::Fail;
 use std::thread::Threads;
+use weak_rules::inputs_rise;
 use wl_base::{InputId, OutOfMemory, Seq, Span};
 use wl_lists::Lists;
 

@@ -1,7 +1,6 @@
 -- How many functions and globals an object has.
-use Rattle.std.proofs.Common.{◌≡◌, ℕ, suc, ◌+◌, List, [], ◌∷◌, ◌++◌, length, map, refl, ap, arith}
+use Rattle.std.proofs.Common.{◌≡◌, List, [], ◌∷◌, length, map, refl, arith}
 use Rattle.std.specs.Prelude.{filter_map}
-use Rattle.std.specs.List.{cons_option, filter}
 use Rattle.std.proofs.lemmas.List.{length-append, length-map}
 use Rattle.object_rules.specs.wasm_types.declared.import.Import.{Import}
 use Rattle.object_rules.specs.wasm_types.declared.import.ImportKind.{ImportKind}

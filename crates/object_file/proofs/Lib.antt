@@ -1,13 +1,16 @@
+pub mod Addressed
 pub mod Agreed
 pub mod Counted
 pub mod Differing
 pub mod Exported
+pub mod Framed
 pub mod Made
 pub mod Named
 pub mod Operated
 pub mod Placing
 pub mod Read
 pub mod SoundObject
+pub mod Spelled
 pub mod Standing
 pub mod Targets
 pub mod Told

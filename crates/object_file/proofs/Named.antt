@@ -19,7 +19,7 @@ use Rattle.object_rules.specs.Symbols.{field_of, own_or, import_name, name_of, i
 -- ---- the items of a list that is said
 
 module _ {A : Type 0} (Item : A → List ℕ → Type 0) where
-  many_all : (xs : List A) (bytes : List ℕ) → SpellsMany Item xs bytes → All (λ x. (text : List ℕ) × Item x text) xs
+  pub many_all : (xs : List A) (bytes : List ℕ) → SpellsMany Item xs bytes → All (λ x. (text : List ℕ) × Item x text) xs
   many_all [] bytes s = All-nil (λ x. (text : List ℕ) × Item x text)
   many_all (x ∷ xs) bytes s = All-cons (λ x. (text : List ℕ) × Item x text) x xs (s.0, s.2) (many_all xs s.1 s.3)
 

@@ -25,7 +25,7 @@ use Rattle.object_file.proofs.Told.{BodyTold}
 
 -- ---- where they stand
 
-pub operands_stand_in : (bytes : List ℕ) (relocs : List Reloc) (b : CodeBody) → BodyTold bytes relocs b → StandIn 0 b.span.len (operands_of b.windows)
+pub operands_stand_in : {begin : ℕ} (bytes : List ℕ) (relocs : List Reloc) (b : CodeBody) → BodyTold begin bytes relocs b → StandIn 0 b.span.len (operands_of b.windows)
 operands_stand_in bytes relocs b t = by b.windows refl
   where
     by : (windows : Result (List Operand) Mismatch) → b.windows ≡ windows → StandIn 0 b.span.len (operands_of windows)
@@ -120,7 +120,7 @@ module _ (P : Operand → Type 0) (Q : Reloc → Type 0) (number : P Number) (ze
 
 -- What holds of the relocations for the code, where their types are those of code, holds of operands.
 module _ (P : Operand → Type 0) (E : Reloc → Type 0) (number : P Number) (zero_table : P TableZero) (each : (i : Immediate) (r : Reloc) → E r × IsOfCode r → P (operand_of i r)) where
-  pub operands_all : (bytes : List ℕ) (relocs : List Reloc) (b : CodeBody) → All E relocs → BodyTold bytes relocs b → All P (operands_of b.windows)
+  pub operands_all : {begin : ℕ} (bytes : List ℕ) (relocs : List Reloc) (b : CodeBody) → All E relocs → BodyTold begin bytes relocs b → All P (operands_of b.windows)
   operands_all bytes relocs b known t = by b.windows refl
     where
       by : (windows : Result (List Operand) Mismatch) → b.windows ≡ windows → All P (operands_of windows)

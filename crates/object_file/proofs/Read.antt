@@ -1,5 +1,5 @@
 -- What is read is an object, and an object is read.
-use Rattle.std.proofs.Common.{◌≡◌, ℕ, ◌^◌, ◌≤◌, Bool, true, false, cond, List, length, Result, Ok, Err, Option, Some, None, refl, sym, ap}
+use Rattle.std.proofs.Common.{◌≡◌, ℕ, ◌^◌, ◌≤◌, Bool, true, false, cond, List, length, Result, Ok, Err, Option, Some, None, refl, sym, ap, ◌∙◌}
 use Rattle.std.specs.Prelude.{IfOk, nat_lt}
 use Rattle.std.proofs.lemmas.Bool.{ltb-false, le-ltb}
 use Rattle.object_rules.specs.wl_base.declared.fault.Fault.{Fault}
@@ -53,6 +53,9 @@ unfolding object_of
 object_again input bytes o is =
     rw (le-ltb (2 ^ 30) (length bytes) is.short, frame_again bytes is.sections is.framed, parts_again is.sections bytes is.parts is.spelled, is.agrees)
     (ap (λ (x : Object). let r : Result Object Fault = Ok x in r) (sym is.is))
+
+pub one_object : (input : ℕ) (bytes : List ℕ) (a b : Object) → IsObject input bytes a → IsObject input bytes b → a ≡ b
+one_object input bytes a b x y = ok_is (sym (object_again input bytes a x) ∙ object_again input bytes b y)
 
 pub is_object : (input : ℕ) (bytes : List ℕ) (r : Result Object ObjectError) → Answers r (object_of input bytes) → IfOk r (IsObject input bytes)
 is_object input bytes (Ok o) said = object_found input bytes o said

@@ -30,7 +30,7 @@ use Rattle.object_rules.specs.Indexes.{count_is, import_in_range, export_in_rang
 use Rattle.object_rules.specs.Symbols.{is_section, is_seen, seen_name, symbol_stands, name_of}
 use Rattle.object_rules.specs.Differ.{all_differ}
 use Rattle.object_rules.specs.Relocs.{target_stands, windows_lie, may_name, is_table_name, names_symbol, entry_stands}
-use Rattle.object_rules.specs.Windows.{start_of, relocs_for, in_segment, data_windows_stand, code_windows_stand, is_placed, is_covered, may_stand}
+use Rattle.object_rules.specs.Windows.{start_of, relocs_for, in_segment, data_windows_stand, code_windows_stand, is_placed, is_covered, is_set_or_read}
 use Rattle.object_rules.specs.object_parts.declared.parts.DataPart.{DataPart}
 use Rattle.object_rules.specs.object_parts.Code.{begins_before, before, base_in, end_in}
 use Rattle.object_rules.specs.reloc_section.declared.entry.Reloc.{Reloc}
@@ -46,20 +46,19 @@ use Rattle.object_file.specs.declared.object.Object.{Object}
 use Rattle.object_file.specs.Objects.{window_from, with_name, linking_of, object_with, object_from}
 use Rattle.object_file.specs.ObjectOf.{IsObject}
 use Rattle.object_file.specs.Sound.{function_count, global_count, TypeInRange, EndsIn, NamesInRange, is_code_type, IsNamedBy, OperandNames, WindowNames, WindowsStandIn, IsInit, MemberStands, NamesDiffer, Sound}
-use Rattle.object_rules.proofs.wasm_sections_lemmas.FrameLaws.{frame_within}
 use Rattle.object_rules.proofs.object_parts_lemmas.Lying.{parts_lie}
 use Rattle.object_rules.proofs.object_parts_lemmas.Sections.{parts_again}
 use Rattle.object_file.specs.Bodies.{BodyStands}
 use Rattle.object_file.proofs.Standing.{made_stands}
-use Rattle.object_rules.specs.wasm_sections.Sections.{IsFrame}
 use Rattle.object_file.proofs.Agreed.{Keeps, agreed_keeps}
+use Rattle.object_file.proofs.Framed.{frame_fits}
 use Rattle.object_file.proofs.Told.{BodyTold, LinkingTold, Told, parts_told}
 use Rattle.object_file.proofs.Named.{NamesImport, symbol_named, symbols_spelled, members_spelled}
 use Rattle.object_file.proofs.Differing.{same_bytes, one_key, groups_differ, members_differ}
 use Rattle.object_file.proofs.Placing.{functions_len, functions_all, segment_spans, segments_aligned, segments_len, imported_types_are, defined_types_are, plain_type, datum_ends, names_one_of, import_of, defined_datum}
 
 module _ (input : ℕ) (all : List SectionSpan) (bytes : List ℕ) (parts : Parts) (l : Linking) (k : Keeps all bytes parts l)
-    (lie : LieIn (length bytes) parts) (told : Told bytes (code_relocs all bytes all) parts) (spelled : All (λ s. (text : List ℕ) × SpellsSymbol s text) l.symbols)
+    (lie : LieIn (length bytes) parts) (told : Told (start_of 10 all) bytes (code_relocs all bytes all) parts) (spelled : All (λ s. (text : List ℕ) × SpellsSymbol s text) l.symbols)
     (tie : relocs_for 10 all parts.relocs ≡ code_relocs all bytes all)
     (kinds_known : All (λ g. All (λ m. IsTrue (is_member_kind m.kind)) g.members) l.groups) (short : length bytes ≤ 2 ^ 30) where
   abbrev o : Object
@@ -242,12 +241,12 @@ module _ (input : ℕ) (all : List SectionSpan) (bytes : List ℕ) (parts : Part
       by false is e code = (code, symbol_named_by r.kind r.index is e)
 
   operands_in_place : All (λ f. StandIn 0 f.span.len f.operands) o.functions
-  operands_in_place = functions_all (λ t. t < length parts.types) (BodyTold bytes (code_relocs all bytes all)) (λ f. StandIn 0 f.span.len f.operands) parts.exports
+  operands_in_place = functions_all (λ t. t < length parts.types) (BodyTold (start_of 10 all) bytes (code_relocs all bytes all)) (λ f. StandIn 0 f.span.len f.operands) parts.exports
       (λ n t b lt read. operands_stand_in bytes (code_relocs all bytes all) b read)
       (counts_of all parts).imported_functions parts.functions parts.bodies types told.bodies
 
   operand_names : All (λ f. All (OperandNames o) f.operands) o.functions
-  operand_names = functions_all (λ t. t < length parts.types) (BodyTold bytes (code_relocs all bytes all)) (λ f. All (OperandNames o) f.operands) parts.exports
+  operand_names = functions_all (λ t. t < length parts.types) (BodyTold (start_of 10 all) bytes (code_relocs all bytes all)) (λ f. All (OperandNames o) f.operands) parts.exports
       (λ n t b lt read. operands_all (OperandNames o) Stands tt tt operand_named bytes (code_relocs all bytes all) b code_stands read)
       (counts_of all parts).imported_functions parts.functions parts.bodies types told.bodies
 
@@ -349,17 +348,13 @@ module _ (input : ℕ) (all : List SectionSpan) (bytes : List ℕ) (parts : Part
     names_differ = names_apart;
   }
 
--- the sections of a frame lie in the file
-frame_fits : (all : List SectionSpan) (bytes : List ℕ) → IsFrame all bytes → All (λ s. LiesIn (length bytes) s.payload) all
-frame_fits all bytes framed = All-weaker (λ s. (8 < s.payload.start) × (s.payload.start + s.payload.len ≤ length bytes)) (λ s. LiesIn (length bytes) s.payload) (λ s p. p.1) all (frame_within all bytes framed)
-
 pub read_is_sound : (input : ℕ) (bytes : List ℕ) (o : Object) → IsObject input bytes o → Sound (length bytes) o
 unfolding object_from
 read_is_sound input bytes o is =
     let linked = agreed_keeps is.sections bytes is.parts is.agrees in
     let l : Linking = linked.0 in
     let fit = frame_fits is.sections bytes is.framed in
-    let told = parts_told (code_relocs is.sections bytes is.sections) is.sections bytes is.parts fit is.spelled in
+    let told = parts_told (code_relocs is.sections bytes is.sections) is.sections bytes is.parts is.framed is.spelled in
     let spelled = subst LinkingTold linked.1 told.linking in
     let lie = parts_lie is.sections bytes (Ok is.parts) fit (parts_again is.sections bytes is.parts is.spelled) in
     let same : object_with input is.sections is.parts l ≡ o = ap (λ (x : Option Linking). object_with input is.sections is.parts (linking_of x)) (sym linked.1) ∙ sym is.is in
@@ -374,14 +369,14 @@ bodies_stand input bytes o is =
     let parts : Parts = is.parts in
     let symbols : List Symbol = (agreed_keeps all bytes parts is.agrees).0.symbols in
     let relocs : List Reloc = code_relocs all bytes all in
-    let told = parts_told relocs all bytes parts (frame_fits all bytes is.framed) is.spelled in
+    let told = parts_told relocs all bytes parts is.framed is.spelled in
     let code = and_parts (code_windows_stand all bytes parts symbols) (data_windows_stand (start_of 11 all) (relocs_for 11 all parts.relocs) parts.segments) kept.windows in
     let more = and_parts (list_all (λ b. is_placed b.windows) parts.bodies && (not (eqb (length parts.bodies) 0) || eqb (length (relocs_for 10 all parts.relocs)) 0))
-    (list_all (may_stand bytes (start_of 10 all) symbols) (relocs_for 10 all parts.relocs)) code.0 in
+    (list_all (is_set_or_read bytes (start_of 10 all) symbols) (relocs_for 10 all parts.relocs)) code.0 in
     let placed = and_parts (list_all (λ b. is_placed b.windows) parts.bodies) (not (eqb (length parts.bodies) 0) || eqb (length (relocs_for 10 all parts.relocs)) 0) more.0 in
-    let each : All (λ b. BodyTold bytes relocs b × (is_placed b.windows ≡ true) × (is_covered b.windows ≡ true)) parts.bodies =
+    let each : All (λ b. BodyTold (start_of 10 all) bytes relocs b × (is_placed b.windows ≡ true) × (is_covered b.windows ≡ true)) parts.bodies =
     λ k d lt. (told.bodies k d lt, AllPass-from_list_all (λ b. is_placed b.windows) parts.bodies placed.0 k d lt, AllPass-from_list_all (λ b. is_covered b.windows) parts.bodies kept.covered k d lt) in
-    let made_all = functions_all (λ t. Unit {0}) (λ b. BodyTold bytes relocs b × (is_placed b.windows ≡ true) × (is_covered b.windows ≡ true)) (BodyStands bytes) parts.exports
+    let made_all = functions_all (λ t. Unit {0}) (λ b. BodyTold (start_of 10 all) bytes relocs b × (is_placed b.windows ≡ true) × (is_covered b.windows ≡ true)) (BodyStands bytes) parts.exports
     (λ n t b any known. made_stands bytes relocs parts.exports n t b known.0 known.1 known.2) (counts_of all parts).imported_functions parts.functions parts.bodies (λ k d lt. tt) each in
     subst (λ (x : Object). All (BodyStands bytes) x.functions) (sym is.is) made_all
 

@@ -35,15 +35,15 @@ none_wrong None (Some n) bare xs os e = absurd cc
 none_wrong None None (Some n) xs os e = absurd cc
 none_wrong None None None xs os e = (refl, refl)
 
-all_right : (base : ℕ) (relocs : List Reloc) (is : List Immediate) (os : List Operand) → operands_at base relocs is ≡ Ok os → (first_off base is relocs ≡ None) × (first_bare base relocs is ≡ None)
+pub all_right : (base : ℕ) (relocs : List Reloc) (is : List Immediate) (os : List Operand) → operands_at base relocs is ≡ Ok os → (first_off base is relocs ≡ None) × (first_bare base relocs is ≡ None)
 unfolding operands_at
 all_right base relocs is os e = none_wrong (least_overlap relocs) (first_off base is relocs) (first_bare base relocs is) (map (operand_at base relocs) is) os e
 
 -- Some immediate is the window.
-abbrev Fills : ℕ → List Immediate → Reloc → Type 0
+abbrev pub Fills : ℕ → List Immediate → Reloc → Type 0
 Fills base is r = list_any (fills base r) is ≡ true
 
-all_fill : (base : ℕ) (is : List Immediate) (relocs : List Reloc) → first_off base is relocs ≡ None → All (Fills base is) relocs
+pub all_fill : (base : ℕ) (is : List Immediate) (relocs : List Reloc) → first_off base is relocs ≡ None → All (Fills base is) relocs
 all_fill base is [] e = All-nil (Fills base is)
 all_fill base is (r ∷ rs) e = by (list_any (fills base r) is) refl e (all_fill base is rs)
   where
@@ -52,7 +52,7 @@ all_fill base is (r ∷ rs) e = by (list_any (fills base r) is) refl e (all_fill
     by false found f others = absurd cc
 
 -- What a relocation that was looked up is.
-found_at : (place : ℕ) (relocs : List Reloc) (r : Reloc) (P : Reloc → Type 0) → All P relocs → reloc_at place relocs ≡ Some r → (r.offset ≡ place) × P r
+pub found_at : (place : ℕ) (relocs : List Reloc) (r : Reloc) (P : Reloc → Type 0) → All P relocs → reloc_at place relocs ≡ Some r → (r.offset ≡ place) × P r
 found_at place [] r P known e = absurd cc
 found_at place (x ∷ xs) r P known e = by (eqb x.offset place) refl e (found_at place xs r P (All-tail P x xs known))
   where
@@ -170,7 +170,7 @@ no_fault (Err (Overlap place)) placed covered = absurd cc
 no_fault (Err (OffImmediate place)) placed covered = absurd cc
 no_fault (Err (BareIndex place)) placed covered = absurd cc
 
-pub made_stands : (bytes : List ℕ) (relocs : List Reloc) (exports : List Export) (n t : ℕ) (b : CodeBody) → BodyTold bytes relocs b → is_placed b.windows ≡ true → is_covered b.windows ≡ true → BodyStands bytes (made exports n t b)
+pub made_stands : {begin : ℕ} (bytes : List ℕ) (relocs : List Reloc) (exports : List Export) (n t : ℕ) (b : CodeBody) → BodyTold begin bytes relocs b → is_placed b.windows ≡ true → is_covered b.windows ≡ true → BodyStands bytes (made exports n t b)
 made_stands bytes relocs exports n t b told placed covered =
     let os = no_fault b.windows placed covered in
     let read : windows_of told.base told.some told.body ≡ Ok os.0 = sym told.windows ∙ os.1 in

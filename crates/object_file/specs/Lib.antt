@@ -5,6 +5,8 @@ pub mod Exports
 pub mod Rows
 pub mod Spaces
 pub mod Sound
+pub mod Spellable
+pub mod Addresses
 pub mod Bodies
 pub use Rattle.object_rules.specs.wl_base as wl_base
 pub use Rattle.object_rules.specs.wl_lists as wl_lists

@@ -10,7 +10,9 @@ use Rattle.object_rules.specs.linking_section.declared.group.Member.{Member}
 use Rattle.object_rules.specs.linking_section.declared.group.Group.{Group}
 use Rattle.object_rules.specs.linking_section.Flags.{is_undefined}
 use Rattle.object_rules.specs.linking_section.Linking.{is_member_kind}
+use Rattle.object_rules.specs.linking_section.declared.member_kinds.TheConstants.{DATA, FUNCTION}
 use Rattle.object_rules.specs.reloc_section.declared.entry.Reloc.{Reloc}
+use Rattle.object_rules.specs.reloc_section.declared.kinds.TheConstants.{FUNCTION_INDEX_LEB, TABLE_INDEX_SLEB, TABLE_INDEX_I32, MEMORY_ADDR_LEB, MEMORY_ADDR_SLEB, MEMORY_ADDR_I32, GLOBAL_INDEX_LEB, MEMORY_ADDR_REL_SLEB, TABLE_INDEX_REL_SLEB, TABLE_NUMBER_LEB}
 use Rattle.object_rules.specs.body_windows.declared.operand.Operand.{Operand}
 use Rattle.object_rules.specs.body_windows.declared.operand.Operand.TheVariants as operands
 use Rattle.object_rules.specs.body_windows.Operands.{StandIn}
@@ -59,23 +61,21 @@ NamesInRange o s Table = NamesOneOf (length (table_imports o)) (length (table_im
 
 -- ---- windows
 
--- The types of relocations that stand in code and name a symbol: FUNCTION_INDEX_LEB (0),
--- TABLE_INDEX_SLEB (1), MEMORY_ADDR_LEB (3), MEMORY_ADDR_SLEB (4), GLOBAL_INDEX_LEB (7),
--- MEMORY_ADDR_REL_SLEB (11), TABLE_INDEX_REL_SLEB (12) and TABLE_NUMBER_LEB (20) (Linking.md,
--- "Relocation Sections").
+-- The types of relocations that stand in code and name a symbol (Linking.md, "Relocation Sections").
 abbrev pub is_code_type : ℕ → Bool
 is_code_type kind =
-    (kind == 0) || (kind == 1) || (kind == 3) || (kind == 4) || (kind == 7) || (kind == 11) || (kind == 12) || (kind == 20)
+    (kind == FUNCTION_INDEX_LEB) || (kind == TABLE_INDEX_SLEB) || (kind == MEMORY_ADDR_LEB) || (kind == MEMORY_ADDR_SLEB)
+    || (kind == GLOBAL_INDEX_LEB) || (kind == MEMORY_ADDR_REL_SLEB) || (kind == TABLE_INDEX_REL_SLEB) || (kind == TABLE_NUMBER_LEB)
 
--- Those that stand in data: TABLE_INDEX_I32 (2) and MEMORY_ADDR_I32 (5).
+-- Those that stand in data.
 abbrev pub is_data_type : ℕ → Bool
-is_data_type kind = (kind == 2) || (kind == 5)
+is_data_type kind = (kind == TABLE_INDEX_I32) || (kind == MEMORY_ADDR_I32)
 
 -- The symbol is there, and of a kind that a relocation of this type names; a table is the one of
 -- functions.
 abbrev pub IsNamedBy : ℕ → Option Symbol → Type 0
 IsNamedBy kind None = ⊥
-IsNamedBy kind (Some s) = IsTrue (may_name kind s.kind) × (kind ≡ 20 → IsTrue (is_table_name s.name))
+IsNamedBy kind (Some s) = IsTrue (may_name kind s.kind) × (kind ≡ TABLE_NUMBER_LEB → IsTrue (is_table_name s.name))
 
 -- What an operand of a body names: a symbol, or a type in range.
 abbrev pub OperandNames : Object → Operand → Type 0
@@ -101,12 +101,12 @@ abbrev pub IsInit : Object → Option Symbol → Type 0
 IsInit o None = ⊥
 IsInit o (Some s) = IsTrue (is_function_kind s.kind) × (slice_get (function_types o) s.index ≡ Some no_type)
 
--- A member of a group is there: 0 a data segment, 1 a defined function; the sections of an object (5)
+-- A member of a group is there: a data segment, or a defined function; the sections of an object
 -- aren't kept (Linking.md, "COMDAT Info Subsection").
 abbrev pub MemberStands : Object → Member → Type 0
 MemberStands o m =
-    IsTrue (is_member_kind m.kind) × (m.kind ≡ 0 → m.index < length o.segments)
-    × (m.kind ≡ 1 → (length (function_imports o) ≤ m.index) × (m.index < function_count o))
+    IsTrue (is_member_kind m.kind) × (m.kind ≡ DATA → m.index < length o.segments)
+    × (m.kind ≡ FUNCTION → (length (function_imports o) ≤ m.index) × (m.index < function_count o))
 
 -- No two groups have one name.
 abbrev pub GroupsDiffer : List Group → Type 0

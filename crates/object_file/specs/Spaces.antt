@@ -1,5 +1,5 @@
 -- The index spaces of an object: what is imported first, then what is defined (Core 2.5.1).
-use Rattle.std.specs.Prelude.{ℕ, ◌-◌, List, [], ◌∷◌, ◌++◌, length, map, filter_map, slice_index_or, Option, Some, None}
+use Rattle.std.specs.Prelude.{ℕ, ◌-◌, List, [], ◌++◌, length, map, filter_map, slice_index_or, Option, Some, None}
 use Rattle.object_rules.specs.wasm_types.declared.function.FuncType.{FuncType}
 use Rattle.object_rules.specs.wasm_types.declared.table.GlobalType.{GlobalType}
 use Rattle.object_rules.specs.wasm_types.declared.import.Import.{Import}

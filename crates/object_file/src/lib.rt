@@ -13,7 +13,10 @@ mod object;
 mod reading;
 mod segments;
 
-pub use laws::{index_spaces_are_counted, operands_stand_on_immediates, read_objects_are_sound};
+pub use laws::{
+    addresses_are_only_read, index_spaces_are_counted, object_is_unambiguous, objects_are_read,
+    operands_stand_on_immediates, read_objects_are_sound, read_objects_are_spellable,
+};
 pub use object::Object;
 pub use object_columns::{
     FuncTypeRef, FuncTypes, FunctionRef, Functions, ImportRef, Imports, SegmentRef, Segments,

@@ -1,15 +1,15 @@
 -- Imports of an object: what is read is spelled so and may stand there, and the other way round.
-use Rattle.std.proofs.Common.{◌≡◌, ℕ, ◌-◌, Bool, true, false, not, ◌&&◌, cond, eqb, List, [], ◌∷◌, ◌++◌, length, Result, Ok, Err, refl, sym, ap, subst, ◌∙◌, append_assoc}
+use Rattle.std.proofs.Common.{◌≡◌, ℕ, Bool, true, false, not, ◌&&◌, cond, eqb, List, [], ◌∷◌, ◌++◌, Result, Ok, Err, refl, sym, ap, subst, ◌∙◌}
 use Rattle.std.specs.Prelude.{IsTrue}
-use Rattle.std.proofs.lemmas.Bool.{eqb-true, eq-eqb}
+use Rattle.std.proofs.lemmas.Bool.{eq-eqb}
 use Rattle.wasm_instr.specs.wl_base.declared.item.Item.TheVariants as items
 use Rattle.wasm_instr.specs.wasm_grammar.declared.fault.Stop.{Stop}
-use Rattle.wasm_instr.specs.wasm_grammar.declared.fault.Stop.TheVariants.{Broken, Foreign}
+use Rattle.wasm_instr.specs.wasm_grammar.declared.fault.Stop.TheVariants.{Foreign}
 use Rattle.wasm_instr.specs.wasm_grammar.Grammar.{SpellsByte, Then}
-use Rattle.wasm_instr.specs.wasm_grammar.Readers.{Takes, IsReader}
-use Rattle.wasm_instr.specs.wasm_grammar.Reading.{Read, ◌>>=◌, byte_at, name_at}
-use Rattle.wasm_instr.specs.wasm_grammar.ReaderLaws.{bind_ok, ok_is, regrouped, branch, never, is_byte, byte_reader, name_reader, Takes-then}
-use Rattle.wasm_instr.specs.wasm_types.Types.{SpellsImportKind, SpellsImport, SpellsTableType, SpellsLimits, ref_byte, table_type_at, import_kind_at}
+use Rattle.wasm_instr.specs.wasm_grammar.Readers.{Takes}
+use Rattle.wasm_instr.specs.wasm_grammar.Reading.{◌>>=◌, byte_at, name_at}
+use Rattle.wasm_instr.specs.wasm_grammar.ReaderLaws.{bind_ok, ok_is, regrouped, is_byte, byte_reader, name_reader, Takes-then}
+use Rattle.wasm_instr.specs.wasm_types.Types.{SpellsImportKind, SpellsTableType, SpellsLimits, ref_byte, table_type_at, import_kind_at}
 use Rattle.wasm_instr.specs.wasm_types.TypeLaws.{table_type_reader, import_kind_reader}
 use Rattle.wasm_instr.specs.wasm_types.declared.table.TableType.{TableType}
 use Rattle.wasm_instr.specs.wasm_types.declared.import.Import.{Import}

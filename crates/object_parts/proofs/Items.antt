@@ -1,34 +1,21 @@
 -- Imports, globals, segments and bodies: what is read of each is spelled so, and the other way round.
-use Rattle.std.proofs.Common.{◌≡◌, ℕ, ◌-◌, ◌+◌, ◌≤◌, Bool, true, false, not, ◌&&◌, cond, eqb, List, [], ◌∷◌, ◌++◌, length, Result, Ok, Err, Option, refl, sym, ap, subst, ◌∙◌, append_assoc, arith}
-use Rattle.std.specs.Prelude.{IsTrue}
-use Rattle.std.proofs.lemmas.List.{length-append}
-use Rattle.std.proofs.lemmas.Bool.{eqb-true}
-use Rattle.wasm_instr.specs.wl_base.declared.item.Item.TheVariants as items
+use Rattle.std.proofs.Common.{◌≡◌, ℕ, false, List, ◌++◌, length, Result, Ok, refl, sym, ap, subst, ◌∙◌, append_assoc}
 use Rattle.wasm_instr.specs.wl_base.declared.span.Span.{Span}
 use Rattle.wasm_instr.specs.wasm_grammar.declared.fault.Stop.{Stop}
-use Rattle.wasm_instr.specs.wasm_grammar.declared.fault.Stop.TheVariants.{Broken, Foreign}
-use Rattle.wasm_instr.specs.wasm_grammar.Grammar.{SpellsByte, SpellsU32}
-use Rattle.wasm_instr.specs.wasm_grammar.Readers.{Takes, IsReader}
-use Rattle.wasm_instr.specs.wasm_grammar.Reading.{Read, ◌>>=◌, byte_at, name_at, part_at}
-use Rattle.wasm_instr.specs.wasm_grammar.ReaderLaws.{bind_ok, ok_is, regrouped, branch, never, byte_reader, name_reader, part_found, part_again, Takes-then}
-use Rattle.wasm_instr.specs.wasm_types.Types.{SpellsImportKind, SpellsImport, SpellsGlobalType, SpellsConstExpr, global_type_at, const_expr_at, table_type_at, import_kind_at}
-use Rattle.wasm_instr.specs.wasm_types.TypeLaws.{global_type_reader, const_expr_reader, table_type_reader, import_kind_reader}
-use Rattle.wasm_instr.specs.wasm_types.declared.import.Import.{Import}
-use Rattle.wasm_instr.specs.wasm_types.declared.import.ImportKind.{ImportKind}
-use Rattle.wasm_instr.specs.wasm_types.declared.import.ImportKind.TheVariants as kinds
-use Rattle.wasm_instr.specs.Bodies.{SpellsBody, body_at}
+use Rattle.wasm_instr.specs.wasm_grammar.Reading.{◌>>=◌, part_at}
+use Rattle.wasm_instr.specs.wasm_grammar.ReaderLaws.{bind_ok, ok_is, regrouped, part_found, part_again}
+use Rattle.wasm_instr.specs.wasm_types.Types.{global_type_at, const_expr_at}
+use Rattle.wasm_instr.specs.wasm_types.TypeLaws.{global_type_reader, const_expr_reader}
+use Rattle.wasm_instr.specs.Bodies.{body_at}
 use Rattle.wasm_instr.specs.BodyLaws.{body_found, body_again}
-use Rattle.wasm_module.specs.declared.parts.DataSegment.{DataSegment}
 use Rattle.wasm_module.specs.PartReading.{data_segment_at}
 use Rattle.wasm_module.specs.PartLaws.{data_segment_reader}
 use Rattle.reloc_section.specs.declared.entry.Reloc.{Reloc}
 use Rattle.body_windows.specs.Windows.{windows_of}
-use Rattle.object_parts.specs.declared.imports.Seen.{Seen}
 use Rattle.object_parts.specs.declared.parts.GlobalDef.{GlobalDef}
 use Rattle.object_parts.specs.declared.parts.DataPart.{DataPart}
 use Rattle.object_parts.specs.declared.parts.CodeBody.{CodeBody}
 use Rattle.object_parts.specs.Turns.{IsPlacedReader}
-use Rattle.object_parts.specs.Imports.{names_table, IsTaken, SpellsObjectImport, funcref_table_at, table_import_at, taken_kind, object_import_at}
 use Rattle.object_parts.specs.Placed.{span_between, span_before, SpellsGlobalDef, global_def_at, SpellsDataPart, data_part_at}
 use Rattle.object_parts.specs.Code.{before, end_in, base_in, SpellsCodeBody, body_in, code_body_at}
 

@@ -1,13 +1,13 @@
 -- What one section adds to the parts of an object (Core 5.5, Linking.md): which payloads spell it,
 -- and how it is read.
-use Rattle.std.specs.Prelude.{◌≡◌, ℕ, zero, suc, ◌+◌, ◌==◌, ◌&&◌, Bool, true, false, List, [], ◌∷◌, ◌++◌, length, take, drop, slice_get, Option, Some, None, is_some, if◌then◌else◌, Result, Ok, Err}
+use Rattle.std.specs.Prelude.{◌≡◌, ℕ, zero, suc, ◌+◌, ◌==◌, ◌&&◌, Bool, true, false, List, [], ◌∷◌, ◌++◌, slice_get, Option, Some, None, is_some, Result, Ok, Err}
 use Rattle.wasm_instr.specs.wl_base.declared.item.Item.{Item}
 use Rattle.wasm_instr.specs.wl_base.declared.item.Item.TheVariants as items
 use Rattle.wasm_instr.specs.wl_base.declared.span.Span.{Span}
 use Rattle.wasm_instr.specs.wasm_grammar.declared.fault.Stop.{Stop}
 use Rattle.wasm_instr.specs.wasm_grammar.declared.fault.Stop.TheVariants.{Broken, Foreign}
 use Rattle.wasm_instr.specs.wasm_grammar.Grammar.{SpellsU32, SpellsName, SpellsVector}
-use Rattle.wasm_instr.specs.wasm_grammar.Reading.{Read, ◌>>=◌, u32_at, name_at, vector_at, whole, ended}
+use Rattle.wasm_instr.specs.wasm_grammar.Reading.{◌>>=◌, u32_at, name_at, vector_at, whole, ended}
 use Rattle.wasm_instr.specs.wasm_types.declared.function.FuncType.{FuncType}
 use Rattle.wasm_instr.specs.wasm_types.declared.import.Import.{Import}
 use Rattle.wasm_instr.specs.wasm_types.Types.{SpellsFuncType, func_type_at}
@@ -30,7 +30,7 @@ use Rattle.object_parts.specs.declared.parts.GlobalDef.{GlobalDef}
 use Rattle.object_parts.specs.declared.parts.DataPart.{DataPart}
 use Rattle.object_parts.specs.declared.parts.CodeBody.{CodeBody}
 use Rattle.object_parts.specs.declared.parts.Parts.{Parts}
-use Rattle.object_parts.specs.Kinds.{kind_of, custom_kind_of}
+use Rattle.object_parts.specs.Kinds.{custom_kind_of}
 use Rattle.object_parts.specs.Turns.{AreEntries, entries_at}
 use Rattle.object_parts.specs.Imports.{SpellsObjectImport, seen_import, none_seen, object_import_at}
 use Rattle.object_parts.specs.Placed.{SpellsGlobalDef, SpellsDataPart, stays, global_def_at, data_part_at}
@@ -76,6 +76,10 @@ has_id id sections target = section_is id (slice_get sections target)
 -- Where the payload of a section ends.
 abbrev pub end_of : Span → ℕ
 end_of span = span.start + span.len
+
+-- The span with so many bytes more behind it.
+abbrev pub longer : Span → ℕ → Span
+longer span n = record { start = span.start; len = span.len + n }
 
 -- ---- the grammar
 

@@ -1,6 +1,6 @@
 -- The imports of an object (Core 5.5.5, Linking.md): at most one memory, and at most one table,
 -- which is the table of functions of funcref.
-use Rattle.std.specs.Prelude.{◌≡◌, ℕ, ◌==◌, ◌&&◌, Bool, true, false, not, IsTrue, List, length, codes, if◌then◌else◌, Result, Ok, Err}
+use Rattle.std.specs.Prelude.{◌≡◌, ℕ, ◌==◌, ◌&&◌, Bool, true, false, not, IsTrue, List, codes, if◌then◌else◌, Result, Ok, Err}
 use Rattle.std.specs.Str.{bytes_eq}
 use Rattle.wasm_instr.specs.wl_base.declared.item.Item.TheVariants as items
 use Rattle.wasm_instr.specs.wasm_grammar.declared.fault.Stop.{Stop}

@@ -1,7 +1,7 @@
 -- What sections hold: by their ids (WebAssembly Core Specification 2.0, section 5.5.2; 13 is the
 -- tag section of the exception handling proposal), and custom ones by their names (tool
 -- conventions, Linking.md and DynamicLinking.md).
-use Rattle.std.specs.Prelude.{ℕ, ◌==◌, ◌||◌, List, length, take, codes, if◌then◌else◌}
+use Rattle.std.specs.Prelude.{ℕ, ◌==◌, ◌||◌, List, take, codes, if◌then◌else◌}
 use Rattle.std.specs.Str.{bytes_eq}
 use Rattle.object_parts.specs.declared.kind.SectionKind.{SectionKind}
 use Rattle.object_parts.specs.declared.kind.SectionKind.TheVariants.{Custom, Types, Imports, Functions, Tables, Memories, Globals, Exports, Start, Elements, DataCount, Code, Segments, Tags}

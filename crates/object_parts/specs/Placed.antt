@@ -1,5 +1,5 @@
 -- Globals and data segments of an object, with where they stand (Core 5.5.9, 5.5.14).
-use Rattle.std.specs.Prelude.{◌≡◌, ℕ, ◌-◌, false, List, ◌++◌, length, Option, Result, Ok}
+use Rattle.std.specs.Prelude.{◌≡◌, ℕ, ◌-◌, false, List, ◌++◌, length, Ok}
 use Rattle.wasm_instr.specs.wl_base.declared.span.Span.{Span}
 use Rattle.wasm_instr.specs.wasm_grammar.Reading.{Read, ◌>>=◌}
 use Rattle.wasm_instr.specs.wasm_types.Types.{SpellsGlobalType, SpellsConstExpr, global_type_at, const_expr_at}

@@ -13,6 +13,7 @@ mod elements;
 mod globals;
 mod imports;
 mod kind;
+mod laws;
 mod parts;
 mod placed;
 mod reading;
@@ -21,11 +22,14 @@ pub use body_windows::{Mismatch, Operand, Operands, OperandsRef, Reference};
 pub use code::split_at_place;
 pub use custom::has_id;
 pub use kind::{CustomKind, SectionKind};
+pub use laws::sections_are_steady;
 pub use linking_section::{
     Group, HIDDEN, InitFunc, LOCAL, Linking, Member, SegmentInfo, Symbol, SymbolKind, UNDEFINED,
+    member_kinds,
 };
 pub use parts::{CodeBody, DataPart, GlobalDef, Parts};
 pub use reading::{PartsFault, SectionStop, parts_of};
 pub use reloc_section::{Reloc, RelocSection, kinds};
+pub use wasm_instr::opcodes::GLOBAL_GET;
 pub use wasm_module::{Element, Export};
 pub use wasm_sections::{FrameFault, SectionSpan, frame};

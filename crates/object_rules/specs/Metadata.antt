@@ -11,6 +11,7 @@ use Rattle.object_parts.specs.linking_section.declared.segment.SegmentInfo.{Segm
 use Rattle.object_parts.specs.linking_section.declared.init.InitFunc.{InitFunc}
 use Rattle.object_parts.specs.linking_section.declared.group.Member.{Member}
 use Rattle.object_parts.specs.linking_section.declared.group.Group.{Group}
+use Rattle.object_parts.specs.linking_section.declared.member_kinds.TheConstants.{DATA, FUNCTION}
 use Rattle.object_parts.specs.declared.parts.Parts.{Parts}
 use Rattle.object_rules.specs.declared.spaces.Counts.{Counts}
 use Rattle.object_rules.specs.Spaces.{function_types}
@@ -45,11 +46,11 @@ is_init types functions (Some s) = is_function_kind s.kind && is_plain_at types 
 abbrev pub inits_stand : Parts → List Symbol → List InitFunc → Bool
 inits_stand parts symbols inits = list_all (λ i. is_init parts.types (function_types parts) (slice_get symbols i.symbol)) inits
 
--- A member is there: 0 a data segment, 1 a defined function, 5 a section.
+-- A member is there: a data segment, a defined function, or a section.
 abbrev pub member_stands : Counts → Member → Bool
 member_stands counts m =
-    if m.kind == 0 then nat_lt m.index counts.segments
-    else (if m.kind == 1 then nat_le counts.imported_functions m.index && nat_lt m.index counts.functions
+    if m.kind == DATA then nat_lt m.index counts.segments
+    else (if m.kind == FUNCTION then nat_le counts.imported_functions m.index && nat_lt m.index counts.functions
     else nat_lt m.index counts.sections)
 
 -- A member as one number.

@@ -5,6 +5,7 @@ use Rattle.std.specs.Str.{bytes_eq}
 use Rattle.object_parts.specs.wasm_types.declared.import.Import.{Import}
 use Rattle.object_parts.specs.wasm_sections.declared.section.SectionSpan.{SectionSpan}
 use Rattle.object_parts.specs.reloc_section.declared.entry.Reloc.{Reloc}
+use Rattle.object_parts.specs.reloc_section.declared.kinds.TheConstants.{FUNCTION_INDEX_LEB, TABLE_INDEX_SLEB, TABLE_INDEX_I32, MEMORY_ADDR_LEB, MEMORY_ADDR_SLEB, MEMORY_ADDR_I32, TYPE_INDEX_LEB, GLOBAL_INDEX_LEB, FUNCTION_OFFSET_I32, SECTION_OFFSET_I32, MEMORY_ADDR_REL_SLEB, TABLE_INDEX_REL_SLEB, GLOBAL_INDEX_I32, TABLE_NUMBER_LEB}
 use Rattle.object_parts.specs.reloc_section.declared.section.RelocSection.{RelocSection}
 use Rattle.object_parts.specs.linking_section.declared.symbol.Symbol.{Symbol}
 use Rattle.object_parts.specs.linking_section.declared.symbol.SymbolKind.{SymbolKind}
@@ -47,11 +48,15 @@ targets_stand all relocs =
 
 -- The kinds of symbols that a relocation of this type names (Linking.md, "Relocation Sections").
 abbrev pub may_name : ℕ → SymbolKind → Bool
-may_name kind Function = (kind == 0) || (kind == 1) || (kind == 2) || (kind == 7) || (kind == 8) || (kind == 12)
-may_name kind Datum = (kind == 3) || (kind == 4) || (kind == 5) || (kind == 7) || (kind == 11)
-may_name kind GlobalVar = (kind == 7) || (kind == 13)
-may_name kind Section = kind == 9
-may_name kind Table = kind == 20
+may_name kind Function =
+    (kind == FUNCTION_INDEX_LEB) || (kind == TABLE_INDEX_SLEB) || (kind == TABLE_INDEX_I32)
+    || (kind == GLOBAL_INDEX_LEB) || (kind == FUNCTION_OFFSET_I32) || (kind == TABLE_INDEX_REL_SLEB)
+may_name kind Datum =
+    (kind == MEMORY_ADDR_LEB) || (kind == MEMORY_ADDR_SLEB) || (kind == MEMORY_ADDR_I32)
+    || (kind == GLOBAL_INDEX_LEB) || (kind == MEMORY_ADDR_REL_SLEB)
+may_name kind GlobalVar = (kind == GLOBAL_INDEX_LEB) || (kind == GLOBAL_INDEX_I32)
+may_name kind Section = kind == SECTION_OFFSET_I32
+may_name kind Table = kind == TABLE_NUMBER_LEB
 
 abbrev pub is_table_name : Option (List ℕ) → Bool
 is_table_name None = false
@@ -60,12 +65,12 @@ is_table_name (Some name) = bytes_eq name (codes "__indirect_function_table")
 -- The one table is that of functions.
 abbrev pub names_symbol : List Import → ℕ → Option Symbol → Bool
 names_symbol imports kind None = false
-names_symbol imports kind (Some s) = may_name kind s.kind && (if kind == 20 then is_table_name (name_of imports s) else true)
+names_symbol imports kind (Some s) = may_name kind s.kind && (if kind == TABLE_NUMBER_LEB then is_table_name (name_of imports s) else true)
 
--- Type 6 names a type, each other one a symbol.
+-- TYPE_INDEX_LEB names a type, each other type of relocation a symbol.
 abbrev pub entry_stands : Counts → List Import → List Symbol → Reloc → Bool
 entry_stands counts imports symbols r =
-    if r.kind == 6 then nat_lt r.index counts.types
+    if r.kind == TYPE_INDEX_LEB then nat_lt r.index counts.types
     else names_symbol imports r.kind (slice_get symbols r.index)
 
 abbrev pub entries_stand : Counts → List Import → List Symbol → List RelocSection → Bool

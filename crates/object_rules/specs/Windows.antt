@@ -4,7 +4,9 @@ use Rattle.std.specs.Prelude.{ℕ, ◌+◌, ◌-◌, ◌==◌, nat_le, Bool, tru
 use Rattle.std.specs.List.{list_all}
 use Rattle.object_parts.specs.wl_base.declared.span.Span.{Span}
 use Rattle.object_parts.specs.wasm_sections.declared.section.SectionSpan.{SectionSpan}
+use Rattle.object_parts.specs.wasm_instr.declared.opcodes.TheConstants.{GLOBAL_GET}
 use Rattle.object_parts.specs.reloc_section.declared.entry.Reloc.{Reloc}
+use Rattle.object_parts.specs.reloc_section.declared.kinds.TheConstants.{TABLE_INDEX_I32, MEMORY_ADDR_I32, GLOBAL_INDEX_LEB}
 use Rattle.object_parts.specs.reloc_section.declared.section.RelocSection.{RelocSection}
 use Rattle.object_parts.specs.linking_section.declared.symbol.Symbol.{Symbol}
 use Rattle.object_parts.specs.linking_section.declared.symbol.SymbolKind.{SymbolKind}
@@ -29,14 +31,15 @@ start_of id (s ∷ ss) = if s.id == id then s.payload.start else start_of id ss
 
 -- ---- code
 
--- Each relocation stands on an immediate of its type's kind.
+-- Each relocation fills an immediate of its type's kind, and none overlaps another: what a body's
+-- windows tell (body_windows, Windows.antt) is no fault of a relocation.
 abbrev pub is_placed : Result (List Operand) Mismatch → Bool
 is_placed (Ok operands) = true
 is_placed (Err (mismatches.Overlap place)) = false
 is_placed (Err (mismatches.OffImmediate place)) = false
 is_placed (Err (mismatches.BareIndex place)) = true
 
--- Each index has its window.
+-- Each immediate that needs a window has one: what the windows tell is no fault of an immediate.
 abbrev pub is_covered : Result (List Operand) Mismatch → Bool
 is_covered (Ok operands) = true
 is_covered (Err (mismatches.Overlap place)) = true
@@ -54,25 +57,29 @@ abbrev pub is_global_symbol : Option Symbol → Bool
 is_global_symbol None = false
 is_global_symbol (Some s) = is_global_kind s.kind
 
--- A global alone is set: where a window of type 7 names a function or a datum, the opcode, which is
--- the byte before it, isn't that of global.set (24).
-abbrev pub may_stand : List ℕ → ℕ → List Symbol → Reloc → Bool
-may_stand bytes start symbols r =
-    not (r.kind == 7) || is_global_symbol (slice_get symbols r.index)
-    || not (slice_index_or bytes (start + r.offset - 1) 0 == 0x24)
+-- The byte before a place: the opcode of an instruction whose one immediate begins there (Core 5.4).
+abbrev pub byte_before : List ℕ → ℕ → ℕ
+byte_before bytes place = slice_index_or bytes (place - 1) 0
+
+-- A global alone is set. A GLOBAL_INDEX_LEB that names a function or a datum is for its address, which
+-- is read: the instruction is `global.get`.
+abbrev pub is_set_or_read : List ℕ → ℕ → List Symbol → Reloc → Bool
+is_set_or_read bytes start symbols r =
+    not (r.kind == GLOBAL_INDEX_LEB) || is_global_symbol (slice_get symbols r.index)
+    || (byte_before bytes (start + r.offset) == GLOBAL_GET)
 
 abbrev pub code_windows_stand : List SectionSpan → List ℕ → Parts → List Symbol → Bool
 code_windows_stand all bytes parts symbols =
     list_all (λ b. is_placed b.windows) parts.bodies
     && (not (length parts.bodies == 0) || (length (relocs_for 10 all parts.relocs) == 0))
-    && list_all (may_stand bytes (start_of 10 all) symbols) (relocs_for 10 all parts.relocs)
+    && list_all (is_set_or_read bytes (start_of 10 all) symbols) (relocs_for 10 all parts.relocs)
 
 -- ---- data
 
 -- The window is of a type that stands in data, and lies in the segment's bytes.
 abbrev pub in_segment : ℕ → Span → Reloc → Bool
 in_segment start span r =
-    ((r.kind == 2) || (r.kind == 5)) && nat_le (base_in start span) r.offset && nat_le (r.offset + 4) (end_in start span)
+    ((r.kind == TABLE_INDEX_I32) || (r.kind == MEMORY_ADDR_I32)) && nat_le (base_in start span) r.offset && nat_le (r.offset + 4) (end_in start span)
 
 -- A relocation belongs to the first segment that ends behind it.
 abbrev pub data_windows_stand : ℕ → List Reloc → List DataPart → Bool

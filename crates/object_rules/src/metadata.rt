@@ -9,7 +9,7 @@ ghost use Rattle.object_rules.specs.Metadata.{infos_stand, is_plain, is_plain_at
 use crate::differ::numbers_differ;
 use crate::spaces::{Counts, function_types};
 use indexmap::IndexSet;
-use object_parts::{Group, InitFunc, Member, Parts, SegmentInfo, Symbol, SymbolKind};
+use object_parts::{Group, InitFunc, Member, Parts, SegmentInfo, Symbol, SymbolKind, member_kinds};
 use std::alloc::Global;
 use wasm_types::FuncType;
 use wl_base::{OutOfMemory, Seq};
@@ -84,8 +84,8 @@ fn member_stands(counts: &Counts, member: &Member) -> bool
 {
     let index = member.index as usize;
     match member.kind {
-        0 => index < counts.segments,
-        1 => counts.imported_functions <= index && index < counts.functions,
+        member_kinds::DATA => index < counts.segments,
+        member_kinds::FUNCTION => counts.imported_functions <= index && index < counts.functions,
         _ => index < counts.sections,
     }
 }

@@ -1,12 +1,13 @@
 //! Windows stand where their types say, and what has to have a window has one.
-ghost use Rattle.std.specs.Prelude.{◌≡◌, ◌+◌, ◌-◌, slice_get, slice_index_or};
+ghost use Rattle.std.specs.Prelude.{◌≡◌, ◌+◌, slice_get};
 ghost use Rattle.std.specs.List.{list_all};
 ghost use Rattle.object_parts.specs.Code.{end_in, base_in};
-ghost use Rattle.object_rules.specs.Windows.{is_placed, is_covered, is_global_symbol, may_stand, code_windows_stand, in_segment, data_windows_stand, windows_stand, indexes_are_covered};
+ghost use Rattle.object_rules.specs.Windows.{is_placed, is_covered, is_global_symbol, byte_before, is_set_or_read, code_windows_stand, in_segment, data_windows_stand, windows_stand, indexes_are_covered};
 
 use crate::windows::{relocs_for, split_before, start_of};
 use object_parts::{
-    CodeBody, DataPart, Mismatch, Operands, Parts, Reloc, SectionSpan, Symbol, SymbolKind, kinds,
+    CodeBody, DataPart, GLOBAL_GET, Mismatch, Operands, Parts, Reloc, SectionSpan, Symbol,
+    SymbolKind, kinds,
 };
 use wl_base::Span;
 
@@ -49,7 +50,7 @@ fn is_global_symbol(symbols: &[Symbol], at: usize) -> bool
 
 /// The byte before this offset of a payload that begins at `start`; 0 where there is none.
 fn byte_before(bytes: &[u8], start: u64, offset: u32) -> u8
-    ensures { result ≡ slice_index_or bytes.now (start + offset - 1) 0 }
+    ensures { result ≡ byte_before bytes.now (start + offset) }
 {
     let place = (u128::from(start) + u128::from(offset)).saturating_sub(1);
     if place < bytes.len() as u128 {
@@ -59,21 +60,21 @@ fn byte_before(bytes: &[u8], start: u64, offset: u32) -> u8
     }
 }
 
-/// Whether no function or datum is the operand of a `global.set` (opcode 24).
-fn may_stand(bytes: &[u8], start: u64, symbols: &[Symbol], reloc: &Reloc) -> bool
-    ensures { result ≡ may_stand bytes.now start symbols.now reloc.now }
+/// Whether the address of a function or datum is the operand of a `global.get` alone.
+fn is_set_or_read(bytes: &[u8], start: u64, symbols: &[Symbol], reloc: &Reloc) -> bool
+    ensures { result ≡ is_set_or_read bytes.now start symbols.now reloc.now }
 {
     reloc.kind != kinds::GLOBAL_INDEX_LEB
         || is_global_symbol(symbols, reloc.index as usize)
-        || byte_before(bytes, start, reloc.offset) != 0x24
+        || byte_before(bytes, start, reloc.offset) == GLOBAL_GET
 }
 
-fn all_may_stand(bytes: &[u8], start: u64, symbols: &[Symbol], relocs: &[Reloc]) -> bool
-    ensures { result ≡ list_all (may_stand bytes.now start symbols.now) relocs.now }
+fn are_set_or_read(bytes: &[u8], start: u64, symbols: &[Symbol], relocs: &[Reloc]) -> bool
+    ensures { result ≡ list_all (is_set_or_read bytes.now start symbols.now) relocs.now }
 {
     relocs
         .iter()
-        .all(|reloc| may_stand(bytes, start, symbols, reloc))
+        .all(|reloc| is_set_or_read(bytes, start, symbols, reloc))
 }
 
 fn code_windows_stand(all: &[SectionSpan], bytes: &[u8], parts: &Parts, symbols: &[Symbol]) -> bool
@@ -82,7 +83,7 @@ fn code_windows_stand(all: &[SectionSpan], bytes: &[u8], parts: &Parts, symbols:
     let relocs = relocs_for(10, all, parts.relocs.as_slice());
     are_placed(parts.bodies.as_slice())
         && (!parts.bodies.is_empty() || relocs.is_empty())
-        && all_may_stand(bytes, start_of(10, all), symbols, relocs)
+        && are_set_or_read(bytes, start_of(10, all), symbols, relocs)
 }
 
 /// Where a part of the object ends in a payload that begins at `start`.

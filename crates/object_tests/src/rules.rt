@@ -27,10 +27,11 @@ fn sections() -> [SectionSpan; 7] {
     ]
 }
 
-/// The object's bytes, with the opcode of `global.set` at the place 59.
+/// The object's bytes, with the opcodes of `global.set` at the place 59 and of `global.get` at 60.
 fn bytes() -> [u8; 140] {
     let mut bytes = [0; 140];
     bytes[59] = 0x24;
+    bytes[60] = 0x23;
     bytes
 }
 
@@ -485,11 +486,13 @@ fn relocations_agree(rt: HostRuntime) {
         (Change::Relocs(4, &[(5, 10, 3)]), Some(11)),
         (Change::Relocs(4, &[(5, 4, 3)]), Some(11)),
         (Change::Relocs(4, &[(3, 5, 3)]), Some(11)),
-        // Behind the opcode of global.set a function and a datum, a global, and a function elsewhere.
+        // Behind the opcode of global.set a function, a datum and a global; behind that of
+        // global.get a function; and one behind another byte.
         (Change::Relocs(3, &[(7, 10, 0)]), Some(11)),
         (Change::Relocs(3, &[(7, 10, 3)]), Some(11)),
         (Change::Relocs(3, &[(7, 10, 4)]), None),
         (Change::Relocs(3, &[(7, 11, 0)]), None),
+        (Change::Relocs(3, &[(7, 12, 0)]), Some(11)),
         (Change::Body(Mismatch::Overlap(2)), Some(11)),
         (Change::Body(Mismatch::OffImmediate(2)), Some(11)),
         (Change::Body(Mismatch::BareIndex(2)), Some(12)),

@@ -4,7 +4,7 @@ use Rattle.object_file.specs.wl_base.Choice.{first_some, given, unless, â—Œ>>=â—
 use Rattle.object_file.specs.wl_base.declared.fault.Fault.{Fault}
 use Rattle.object_file.specs.wl_base.declared.fault.Fault.TheVariants.{NotPartial, PartialTooLong}
 use Rattle.made_symbols.specs.declared.mode.Mode.TheVariants.{Plain}
-use Rattle.lib_rounds.specs.Rounds.{load}
+use Rattle.round_rules.specs.Rounds.{load}
 use Rattle.name_rules.specs.Cases.{clash, duplicate}
 use Rattle.link_plan.specs.declared.plan.Plan.{Plan}
 use Rattle.link_plan.specs.declared.plan.InputWord.{InputWord}

@@ -4,7 +4,7 @@ use Rattle.object_file.specs.leb_codec.Shortest.{u32, u32_padded, s32, s32_padde
 use Rattle.object_file.specs.wl_base.declared.fault.Fault.TheVariants.{Duplicate, Unresolved, NotPartial}
 use Rattle.object_file.specs.declared.object.Object.{Object}
 use Rattle.made_symbols.specs.declared.mode.Mode.TheVariants.{Plain}
-use Rattle.lib_rounds.specs.Rounds.{load}
+use Rattle.round_rules.specs.Rounds.{load}
 use Rattle.name_rules.specs.Entries.{entries}
 use Rattle.name_rules.specs.Meanings.{resolve}
 use Rattle.name_rules.specs.Cases.{clash, duplicate}

@@ -20,8 +20,8 @@ use Rattle.link_program.specs.link_rules.Program.{Program, program_of}
 use Rattle.link_program.specs.link_rules.Keys.{import_of, imports_in_order}
 use Rattle.link_program.specs.declared.home.Home.{Home}
 use Rattle.link_program.specs.Loaded.{Origin, IsLoaded}
-use Rattle.program_build.specs.declared.error.BuildError.{BuildError}
-use Rattle.program_build.specs.declared.error.BuildError.TheVariants.{Refused, OutOfMemory}
+use Rattle.link_program.specs.declared.error.LinkError.{LinkError}
+use Rattle.link_program.specs.declared.error.LinkError.TheVariants.{Refused, OutOfMemory}
 use Rattle.program_build.specs.declared.found.Found.{Found}
 use Rattle.program_build.specs.declared.meanings.Meanings.{Meanings}
 use Rattle.link_program.specs.link_rules.LinkOf.{asked_names, too_many_names}
@@ -89,7 +89,7 @@ module _ (mode : Mode) (origin : Origin) (objects : List Object) where
 
   -- ---- by what the steps answered
 
-  pub names_refused : (s : Result Found BuildError) (e : BuildError) (r : Result names.Numbered BuildError) → r ≡ Err e → Numbered mode r origin.plan objects → IsErr s × IsErrAnd s (λ b. b ≡ e)
+  pub names_refused : (s : Result Found LinkError) (e : LinkError) (r : Result names.Numbered LinkError) → r ≡ Err e → Numbered mode r origin.plan objects → IsErr s × IsErrAnd s (λ b. b ≡ e)
       → Finds mode s origin.plan objects (program mode origin objects)
   names_refused (Ok f) e r is told was = let no = was.0 in absurd cc
   names_refused (Err OutOfMemory) e r is told was = tt
@@ -97,7 +97,7 @@ module _ (mode : Mode) (origin : Origin) (objects : List Object) where
       let error : e ≡ Refused fault = sym was.1 in
       names_many fault (subst (λ r. Numbered mode r origin.plan objects) (is ∙ ap (λ e. Err e) error) told)
 
-  pub meanings_refused : (n : names.Numbered) (s : Result Found BuildError) (e : BuildError) (r : Result Meanings BuildError) → Numbered mode (Ok n) origin.plan objects
+  pub meanings_refused : (n : names.Numbered) (s : Result Found LinkError) (e : LinkError) (r : Result Meanings LinkError) → Numbered mode (Ok n) origin.plan objects
       → r ≡ Err e → MeansOrRefused mode r origin objects n.names → IsErr s × IsErrAnd s (λ b. b ≡ e) → Finds mode s origin.plan objects (program mode origin objects)
   meanings_refused n (Ok f) e r numbered is told was = let no = was.0 in absurd cc
   meanings_refused n (Err OutOfMemory) e r numbered is told was = tt
@@ -112,7 +112,7 @@ module _ (mode : Mode) (origin : Origin) (objects : List Object) where
 
 -- ---- the same plan, and a view of the same objects
 
-pub seen_meanings : (mode : Mode) (origin : Origin) (plan : Plan) (objects seen : List Object) (held shown : List (List ℕ)) (r : Result Meanings BuildError) → origin.plan ≡ plan → seen ≡ objects → shown ≡ held
+pub seen_meanings : (mode : Mode) (origin : Origin) (plan : Plan) (objects seen : List Object) (held shown : List (List ℕ)) (r : Result Meanings LinkError) → origin.plan ≡ plan → seen ≡ objects → shown ≡ held
     → MeansOrRefused mode r origin seen shown → MeansOrRefused mode r (record { plan = plan; files = origin.files; all = origin.all }) objects held
 seen_meanings mode origin plan objects seen held shown r same of_objects of_names told =
     subst (λ os. MeansOrRefused mode r (record { plan = plan; files = origin.files; all = origin.all }) os held) of_objects

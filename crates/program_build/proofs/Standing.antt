@@ -15,7 +15,7 @@ use Rattle.link_program.specs.object_file.declared.object.Object.{Object}
 use Rattle.link_program.specs.object_file.Sound.{Sound, WindowNames, WindowsStandIn}
 use Rattle.link_program.specs.made_symbols.declared.mode.Mode.{Mode}
 use Rattle.link_program.specs.made_symbols.Made.{made, MadeSymbol}
-use Rattle.link_program.specs.lib_rounds.Rounds.{Candidate}
+use Rattle.link_program.specs.round_rules.Rounds.{Candidate}
 use Rattle.link_program.specs.name_rules.Entries.{Entry, entries, made_entry}
 use Rattle.link_program.specs.name_rules.Meanings.{Resolved, resolve, resolved_in, uses_of}
 use Rattle.link_program.specs.link_plan.declared.plan.Plan.{Plan}

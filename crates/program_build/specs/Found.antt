@@ -4,7 +4,7 @@ use Rattle.link_program.specs.wl_base.Choice.{unless, ◌>>=◌}
 use Rattle.link_program.specs.wl_base.declared.fault.Fault.{Fault}
 use Rattle.link_program.specs.object_file.declared.object.Object.{Object}
 use Rattle.link_program.specs.made_symbols.declared.mode.Mode.{Mode}
-use Rattle.link_program.specs.lib_rounds.Rounds.{Candidate}
+use Rattle.link_program.specs.round_rules.Rounds.{Candidate}
 use Rattle.link_program.specs.link_names.Numbered.{AreNumbers, different_names}
 use Rattle.link_program.specs.name_rules.Entries.{entries}
 use Rattle.link_program.specs.name_rules.Meanings.{resolve}
@@ -17,8 +17,8 @@ use Rattle.link_program.specs.link_rules.Program.{Program, winners_of, parts_of}
 use Rattle.link_program.specs.link_rules.Keys.{imports_in_order}
 use Rattle.link_program.specs.link_rules.LinkOf.{asked_names, too_many_names}
 use Rattle.link_program.specs.Program.{AreTables}
-use Rattle.program_build.specs.declared.error.BuildError.{BuildError}
-use Rattle.program_build.specs.declared.error.BuildError.TheVariants.{Refused, OutOfMemory}
+use Rattle.link_program.specs.declared.error.LinkError.{LinkError}
+use Rattle.link_program.specs.declared.error.LinkError.TheVariants.{Refused, OutOfMemory}
 use Rattle.program_build.specs.declared.found.Found.{Found}
 
 -- The first faults of a program, in this order: too many names, a clash, a duplicate.
@@ -48,7 +48,7 @@ pub record IsFound (mode : Mode) (asked : Plan) (loaded : List Object) (f : Foun
   pub tables : AreTables f.names.names f.resolution.imports f.tables p
 
 -- All is found, or the program is refused by its first fault.
-abbrev pub Finds : Mode → Result Found BuildError → Plan → List Object → Program → Type 0
+abbrev pub Finds : Mode → Result Found LinkError → Plan → List Object → Program → Type 0
 Finds mode (Ok f) plan objects p = (found_of p ≡ Ok p) × IsFound mode plan objects f p
 Finds mode (Err (Refused fault)) plan objects p = found_of p ≡ Err fault
 Finds mode (Err OutOfMemory) plan objects p = Unit {0}

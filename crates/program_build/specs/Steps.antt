@@ -17,8 +17,8 @@ use Rattle.link_program.specs.link_rules.Program.{program_of}
 use Rattle.link_program.specs.link_rules.LinkOf.{asked_names}
 use Rattle.link_program.specs.Loaded.{Origin}
 use Rattle.link_program.specs.Program.{AreTables}
-use Rattle.program_build.specs.declared.error.BuildError.{BuildError}
-use Rattle.program_build.specs.declared.error.BuildError.TheVariants.{Refused, OutOfMemory}
+use Rattle.link_program.specs.declared.error.LinkError.{LinkError}
+use Rattle.link_program.specs.declared.error.LinkError.TheVariants.{Refused, OutOfMemory}
 use Rattle.program_build.specs.declared.meanings.Meanings.{Meanings}
 
 -- ---- names
@@ -28,7 +28,7 @@ unfoldable pub names_of : Mode → Plan → List Object → List (List ℕ)
 names_of mode plan objects = different_names mode (asked_names plan ++ plan.exports_if) objects
 
 -- The names and their numbers; or there are more than 2^24.
-abbrev pub Numbered : Mode → Result names.Numbered BuildError → Plan → List Object → Type 0
+abbrev pub Numbered : Mode → Result names.Numbered LinkError → Plan → List Object → Type 0
 Numbered mode (Ok n) plan objects = (n.names ≡ names_of mode plan objects) × (length n.names ≤ 2 ^ 24) × AreNumbers mode objects n
 Numbered mode (Err (Refused fault)) plan objects = (fault ≡ TooManyNames) × (2 ^ 24 < length (names_of mode plan objects))
 Numbered mode (Err OutOfMemory) plan objects = Unit {0}
@@ -39,11 +39,6 @@ Numbered mode (Err OutOfMemory) plan objects = Unit {0}
 abbrev pub case_of : List Entry → Option Fault
 case_of es = first_some (clash es ∷ duplicate es ∷ [])
 
-abbrev pub Passes : {A : Type 0} → Result A BuildError → List Entry → Type 0
-Passes (Ok a) es = case_of es ≡ None
-Passes (Err (Refused fault)) es = case_of es ≡ Some fault
-Passes (Err OutOfMemory) es = Unit {0}
-
 -- ---- meanings
 
 -- The winners by number, what symbols mean, and the tables are those of these objects.
@@ -52,7 +47,7 @@ pub record AreMeanings (mode : Mode) (m : Meanings) (origin : Origin) (objects :
   pub resolved : IsResolution m.resolution (resolve mode origin.plan.allow_undefined (entries mode objects) objects)
   pub tabled : AreTables held m.resolution.imports m.tables (program_of mode origin.plan origin.files origin.all objects)
 
-abbrev pub MeansOrRefused : Mode → Result Meanings BuildError → Origin → List Object → List (List ℕ) → Type 0
+abbrev pub MeansOrRefused : Mode → Result Meanings LinkError → Origin → List Object → List (List ℕ) → Type 0
 MeansOrRefused mode (Ok m) origin objects held = (case_of (entries mode objects) ≡ None) × AreMeanings mode m origin objects held
 MeansOrRefused mode (Err (Refused fault)) origin objects held = case_of (entries mode objects) ≡ Some fault
 MeansOrRefused mode (Err OutOfMemory) origin objects held = Unit {0}

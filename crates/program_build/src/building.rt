@@ -7,12 +7,11 @@ ghost use Rattle.link_program.specs.link_rules.Program.{program_of};
 ghost use Rattle.link_program.specs.Loaded.{IsLoaded, Origin};
 ghost use Rattle.program_build.specs.Found.{Finds};
 
-use crate::error::BuildError;
 use crate::found::Found;
 use crate::meanings::{Meanings, meanings_of};
 use crate::numbers::numbers_of;
 use link_plan::Plan;
-use link_program::{EntryTable, Home, Object};
+use link_program::{EntryTable, Home, LinkError, Object};
 use made_symbols::Mode;
 use name_jobs::group_winners;
 use std::alloc::Global;
@@ -21,7 +20,7 @@ use wl_fan::Workers;
 use wl_outside::Gate;
 
 /// What the loaded objects are as a program: the numbers of their names, who wins each name, what each symbol means, and the tables of
-/// their symbols, parts and references. `homes` has where the bytes of each candidate begin.
+/// their symbols, parts and references. `homes` has where the bytes of each candidate stand.
 ///
 /// It is `Refused` by the first of these faults: there are more than 2^24 different names; two entries of one name clash; a name has two
 /// strong definitions. The races for groups and names are the gate's phases `Groups` and `Names`, by as many workers as the plan has
@@ -33,7 +32,7 @@ pub fn find<G: Gate, R: Threads + Sync>(
     objects: &[Object],
     homes: &[Home],
     gate: &G,
-) -> Result<Found, BuildError>
+) -> Result<Found, LinkError>
     ghost origin: { Origin }
     requires plan { IsPlan plan.now }
     requires same { origin.plan ≡ plan.now }

@@ -1,36 +1,26 @@
 //! Entries of one name that can't stand together.
-ghost use Rattle.std.specs.Prelude.{◌≡◌, [], slice_index_or, IfOk};
+ghost use Rattle.std.specs.Prelude.{◌≡◌, ◌<◌, length, IfOk};
 ghost use Rattle.link_program.specs.made_symbols.declared.mode.Mode.TheVariants as modes;
 ghost use Rattle.link_program.specs.name_rules.Entries.{entries};
 ghost use Rattle.link_program.specs.name_entries.Fits.{Fits};
 ghost use Rattle.name_cases.specs.Told.{clash_told, duplicate_told};
-ghost use Rattle.program_build.specs.Steps.{Passes};
+ghost use Rattle.link_program.specs.Answers.{Passes};
+ghost use Rattle.program_build.specs.Steps.{case_of};
 
-use crate::error::BuildError;
-use link_program::{Entries, Names, PairCase};
+use link_program::{Entries, LinkError, Names, PairCase};
 use made_symbols::Mode;
 use name_cases::{first_clash, first_duplicate};
 use std::alloc::Global;
 use std::thread::Threads;
 use wl_base::{Fault, OutOfMemory, Seq};
 
-/// The name of a number; the empty one where there is no such name.
-fn name_at(names: &Names, number: u32) -> &[u8]
-    ensures { result.now ≡ slice_index_or names.now.names number [] }
-{
-    if number < names.count() {
-        names.name(number)
-    } else {
-        &[]
-    }
-}
-
 /// A clash as a fault.
 fn clash_of(alloc: Global, names: &Names, case: PairCase) -> Result<Fault, OutOfMemory>
+    requires { case.name < length names.now.names }
     ensures { IfOk result (λ fault. fault ≡ clash_told names.now.names case) }
 {
     Ok(Fault::Clash {
-        name: Seq::from_slice(alloc, name_at(names, case.name))?,
+        name: Seq::from_slice(alloc, names.name(case.name))?,
         first: case.first,
         other: case.other,
     })
@@ -38,10 +28,11 @@ fn clash_of(alloc: Global, names: &Names, case: PairCase) -> Result<Fault, OutOf
 
 /// A duplicate as a fault.
 fn duplicate_of(alloc: Global, names: &Names, case: PairCase) -> Result<Fault, OutOfMemory>
+    requires { case.name < length names.now.names }
     ensures { IfOk result (λ fault. fault ≡ duplicate_told names.now.names case) }
 {
     Ok(Fault::Duplicate {
-        name: Seq::from_slice(alloc, name_at(names, case.name))?,
+        name: Seq::from_slice(alloc, names.name(case.name))?,
         first: case.first,
         other: case.other,
     })
@@ -52,15 +43,15 @@ pub(crate) fn refuse_cases<R: Threads + Sync>(
     rt: &R,
     alloc: Global,
     view: Entries<'_>,
-) -> Result<(), BuildError>
+) -> Result<(), LinkError>
     requires { Fits modes.Plain view }
-    ensures { Passes result (entries modes.Plain view.entry.objects.now) }
+    ensures { Passes result (case_of (entries modes.Plain view.entry.objects.now)) }
 {
     if let Some(case) = first_clash(rt, alloc, view, Mode::Plain)? {
-        return Err(BuildError::Refused(clash_of(alloc, view.names, case)?));
+        return Err(LinkError::Refused(clash_of(alloc, view.names, case)?));
     }
     if let Some(case) = first_duplicate(rt, alloc, view, Mode::Plain)? {
-        return Err(BuildError::Refused(duplicate_of(alloc, view.names, case)?));
+        return Err(LinkError::Refused(duplicate_of(alloc, view.names, case)?));
     }
     Ok(())
 }

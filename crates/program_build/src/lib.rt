@@ -4,7 +4,6 @@
 
 mod building;
 mod cases;
-mod error;
 mod found;
 pub mod laws;
 mod meanings;
@@ -12,5 +11,5 @@ mod numbers;
 mod words;
 
 pub use building::find;
-pub use error::BuildError;
 pub use found::Found;
+pub use link_program::LinkError;

@@ -6,9 +6,8 @@ ghost use Rattle.link_program.specs.Loaded.{IsLoaded, Origin};
 ghost use Rattle.program_build.specs.Steps.{MeansOrRefused};
 
 use crate::cases::refuse_cases;
-use crate::error::BuildError;
 use link_plan::Plan;
-use link_program::{Entries, Home, Tables};
+use link_program::{Entries, Home, LinkError, Tables};
 use made_symbols::Mode;
 use name_jobs::name_winners;
 use name_meanings::{Resolution, resolve};
@@ -36,7 +35,7 @@ pub(crate) fn meanings_of<G: Gate, R: Threads + Sync>(
     homes: &[Home],
     workers: Workers,
     gate: &G,
-) -> Result<Meanings, BuildError>
+) -> Result<Meanings, LinkError>
     ghost origin: { Origin }
     requires same { origin.plan ≡ plan.now }
     requires fits { Fits modes.Plain view }

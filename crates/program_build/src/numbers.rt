@@ -1,10 +1,9 @@
 //! The numbers of the names of a link.
 ghost use Rattle.program_build.specs.Steps.{Numbered};
 
-use crate::error::BuildError;
 use crate::words::words_of;
 use link_plan::Plan;
-use link_program::{Names, Object};
+use link_program::{LinkError, Names, Object};
 use made_symbols::Mode;
 use std::alloc::Global;
 use wl_base::{Fault, NameFault};
@@ -18,13 +17,13 @@ pub(crate) fn numbers_of(
     plan: &Plan,
     objects: &[Object],
     mode: Mode,
-) -> Result<Names, BuildError>
+) -> Result<Names, LinkError>
     ensures { Numbered mode result plan.now objects.now }
 {
     let words = words_of(alloc, plan)?;
     match Names::new(alloc, mode, words.as_slice(), objects, MOST_NAMES) {
         Ok(names) => Ok(names),
-        Err(NameFault::TooMany) => Err(BuildError::Refused(Fault::TooManyNames)),
-        Err(NameFault::OutOfMemory) => Err(BuildError::OutOfMemory),
+        Err(NameFault::TooMany) => Err(LinkError::Refused(Fault::TooManyNames)),
+        Err(NameFault::OutOfMemory) => Err(LinkError::OutOfMemory),
     }
 }

@@ -22,7 +22,7 @@ use Rattle.link_program.specs.mark_bits.declared.chunk.Chunk.{Chunk}
 use Rattle.link_program.specs.name_rules.Entries.{Entry, ImportKey, is_kept, symbols_of}
 use Rattle.link_program.specs.name_rules.Meanings.{Meaning, Resolved, is_init_use}
 use Rattle.link_program.specs.name_entries.Parts.{has_flag, ArePartsOf}
-use Rattle.link_program.specs.lib_rounds.Rounds.{Candidate}
+use Rattle.link_program.specs.round_rules.Rounds.{Candidate}
 use Rattle.link_program.specs.link_rules.Program as rules
 use Rattle.link_program.specs.link_rules.Program.{ref_to, ref_in, operand_named as rule_operand, window_named as rule_window, a_symbol, a_type, indexed, function_part, segment_part, global_part, is_part_kept, parts_in, kept_in, span_of, init_call, init_calls_in, is_skipped}
 use Rattle.link_program.specs.declared.symbol.Symbol.{Symbol}

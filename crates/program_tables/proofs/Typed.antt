@@ -8,7 +8,7 @@ use Rattle.link_program.specs.wl_base.declared.span.Span.{Span}
 use Rattle.link_program.specs.wasm_types.declared.function.FuncType.{FuncType}
 use Rattle.link_program.specs.object_file.declared.object.Object.{Object}
 use Rattle.link_program.specs.object_file.Spaces.{no_type, written_type}
-use Rattle.link_program.specs.lib_rounds.Rounds.{Candidate}
+use Rattle.link_program.specs.round_rules.Rounds.{Candidate}
 use Rattle.link_program.specs.link_rules.Program.{span_in, span_of}
 use Rattle.link_program.specs.declared.home.Home.{Home}
 use Rattle.link_program.specs.Loaded.{home_of}

@@ -18,7 +18,7 @@ use Rattle.link_program.specs.name_entries.View.{InputsRise, rows_of}
 use Rattle.link_program.specs.name_entries.Parts.{AreParts}
 use Rattle.link_program.specs.name_entries.declared.parts.ObjectParts.{ObjectParts}
 use Rattle.link_program.proofs.name_entries_lemmas.Found.{counted}
-use Rattle.link_program.specs.lib_rounds.Rounds.{Candidate}
+use Rattle.link_program.specs.round_rules.Rounds.{Candidate}
 use Rattle.link_program.specs.link_rules.Program as rules
 use Rattle.link_program.specs.link_rules.Program.{parts_in, parts_of, init_calls, init_calls_in, insert_call, by_priority, made_part, made_parts_from, made_kind, option_onto, a_symbol, linker_made, no_source}
 use Rattle.link_program.specs.declared.named.Named.{Named}

@@ -12,7 +12,7 @@ ghost use Rattle.program_tables.specs.Gains.{Gains, AreGained, rank_of, AllBelow
 
 use crate::inits::init_calls;
 use crate::view::{Lookups, NO_SOURCE, ObjectView};
-use link_program::{Content, FunctionRef, GlobalDef, Named, Part, SegmentRef};
+use link_program::{Content, FunctionRef, GlobalDef, Named, Part, SegmentRef, chunk_kinds};
 use linking_section::SymbolKind;
 use made_symbols::{Mode, count, kind};
 use mark_bits::{Chunk, ChunkTable};
@@ -43,8 +43,8 @@ fn made_kind(kind: SymbolKind) -> Option<u8>
     ensures { result ≡ made_kind kind }
 {
     match kind {
-        SymbolKind::Function => Some(0),
-        SymbolKind::GlobalVar => Some(2),
+        SymbolKind::Function => Some(chunk_kinds::FUNCTION),
+        SymbolKind::GlobalVar => Some(chunk_kinds::GLOBAL),
         SymbolKind::Datum | SymbolKind::Section | SymbolKind::Table => None,
     }
 }
@@ -100,7 +100,7 @@ impl AllParts {
         let part = Part {
             chunk: Chunk {
                 input: view.from.input,
-                kind: 0,
+                kind: chunk_kinds::FUNCTION,
                 index,
             },
             content: Content::Function(view.type_number(function.type_index)),
@@ -153,7 +153,7 @@ impl AllParts {
         let part = Part {
             chunk: Chunk {
                 input: view.from.input,
-                kind: 1,
+                kind: chunk_kinds::SEGMENT,
                 index,
             },
             content: Content::Segment {
@@ -203,7 +203,7 @@ impl AllParts {
         let part = Part {
             chunk: Chunk {
                 input: view.from.input,
-                kind: 2,
+                kind: chunk_kinds::GLOBAL,
                 index,
             },
             content: Content::Global {
@@ -266,7 +266,11 @@ impl AllParts {
             content: Content::Made,
             source: NO_SOURCE,
         };
-        let named = if kind == 0 && number == 0 { calls } else { &[] };
+        let named = if kind == chunk_kinds::FUNCTION && number == 0 {
+            calls
+        } else {
+            &[]
+        };
         self.add(part, named)
     }
 

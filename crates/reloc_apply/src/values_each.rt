@@ -1,5 +1,5 @@
 //! The value of each window.
-ghost use Rattle.std.specs.Prelude.{◌≡◌, ◌-◌, ◌^◌, ◌≤ℤ◌, ◌<ℤ◌, ◌+ℤ◌, pos, negsuc, [], ◌∷◌, All, IfOk};
+ghost use Rattle.std.specs.Prelude.{◌≡◌, ◌-◌, ◌^◌, ◌≤ℤ◌, ◌<ℤ◌, ◌+ℤ◌, pos, negsuc, [], ◌∷◌, All, IfOk, OnErr};
 ghost use Rattle.wl_base.specs.Answers.{Answers};
 ghost use Rattle.reloc_apply.specs.Windows.{IsSum, patches_of, patches_from, patch_at, patched_on, Puts, bits32, fits_form};
 
@@ -49,14 +49,15 @@ impl Patches {
         })
     }
 
-    /// Puts what is written into a window behind the others.
+    /// Puts what is written into a window behind the others. Where it is refused they stay as they were.
     ///
     /// # Errors
     ///
     /// `Overflow` with `Reference` exactly where the value is out of the range of its form. `OutOfMemory`.
     pub fn push(&mut self, window: &Window) -> Result<(), LayoutError>
         requires { IsSum window.now }
-        ensures { Puts result self.new.patches (patched_on self.old.patches (window.now ∷ [])) }
+        ensures put { Puts result self.new.patches (patched_on self.old.patches (window.now ∷ [])) }
+        ensures refused { OnErr result (self.new ≡ self.old) }
     {
         let patch = patch(window)?;
         self.patches.push(patch)?;

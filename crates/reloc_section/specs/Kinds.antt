@@ -1,13 +1,18 @@
 -- The types of relocations (tool conventions, Linking.md, 'Relocation Sections').
 use Rattle.std.specs.Prelude.{ℕ, Bool, nat_le, ◌==◌, ◌&&◌, ◌||◌}
+use Rattle.reloc_section.specs.declared.kinds.TheConstants.{MEMORY_ADDR_LEB, MEMORY_ADDR_I32, FUNCTION_OFFSET_I32, SECTION_OFFSET_I32, MEMORY_ADDR_REL_SLEB, GLOBAL_INDEX_I32, TABLE_NUMBER_LEB}
 
--- The types that are read: 0 to 9, from FUNCTION_INDEX_LEB to SECTION_OFFSET_I32; 11 to 13, from
--- MEMORY_ADDR_REL_SLEB to GLOBAL_INDEX_I32; and 20, TABLE_NUMBER_LEB. So 10, TAG_INDEX_LEB, isn't,
--- nor is any of 64 bits (14 to 19, 22 to 26).
+-- The types that are read: those up to SECTION_OFFSET_I32 (9), those from MEMORY_ADDR_REL_SLEB (11) to
+-- GLOBAL_INDEX_I32 (13), and TABLE_NUMBER_LEB (20). So TAG_INDEX_LEB (10) isn't, nor is any of 64 bits
+-- (14 to 19, 22 to 26).
 abbrev pub is_read : ℕ → Bool
-is_read kind = nat_le kind 9 || (nat_le 11 kind && nat_le kind 13) || (kind == 20)
+is_read kind =
+    nat_le kind SECTION_OFFSET_I32
+    || (nat_le MEMORY_ADDR_REL_SLEB kind && nat_le kind GLOBAL_INDEX_I32)
+    || (kind == TABLE_NUMBER_LEB)
 
--- Those whose entries have an addend: MEMORY_ADDR_LEB, _SLEB and _I32 (3 to 5), FUNCTION_OFFSET_I32
--- (8), SECTION_OFFSET_I32 (9) and MEMORY_ADDR_REL_SLEB (11).
+-- Those whose entries have an addend: addresses, and places in functions and sections.
 abbrev pub has_addend : ℕ → Bool
-has_addend kind = (nat_le 3 kind && nat_le kind 5) || (kind == 8) || (kind == 9) || (kind == 11)
+has_addend kind =
+    (nat_le MEMORY_ADDR_LEB kind && nat_le kind MEMORY_ADDR_I32)
+    || (kind == FUNCTION_OFFSET_I32) || (kind == SECTION_OFFSET_I32) || (kind == MEMORY_ADDR_REL_SLEB)

@@ -6,39 +6,39 @@ use Rattle.std.proofs.lemmas.List.Elements.{filter-append}
 use Rattle.object_file.specs.wl_base.declared.span.Span.{Span}
 use Rattle.lib_index.specs.Library.{bytes_of}
 use Rattle.object_file.specs.ObjectOf.{object_of}
-use Rattle.lib_rounds.specs.declared.given.Given.{Given}
-use Rattle.lib_rounds.specs.declared.given.LibraryFile.{LibraryFile}
-use Rattle.lib_rounds.specs.Rounds.{Candidate, defined_names}
-use Rattle.lib_rounds.specs.Inputs.{AreGiven, AreCandidates, IsGivenAs, names_of_member, members_from, members_of, IsRead}
+use Rattle.round_rules.specs.declared.given.GivenObject.{GivenObject}
+use Rattle.round_rules.specs.declared.given.LibraryFile.{LibraryFile}
+use Rattle.round_rules.specs.Rounds.{Candidate, defined_names}
+use Rattle.round_rules.specs.Inputs.{AreGiven, AreCandidates, IsGivenAs, names_of_member, members_from, members_of, IsRead}
 
-abbrev pub as_candidate : Given → Candidate
+abbrev pub as_candidate : GivenObject → Candidate
 as_candidate g = record { input = g.object.input; file = 0; start = 0; len = 0; is_member = false; by_need = g.lazy; offers = if g.lazy then defined_names g.object else []; object = Ok g.object }
 
 -- the objects, and the members of the libraries behind them
-abbrev pub candidates : List Given → List LibraryFile → List (List ℕ) → List Candidate
+abbrev pub candidates : List GivenObject → List LibraryFile → List (List ℕ) → List Candidate
 candidates given libraries files = map as_candidate given ++ flat_map (members_of files) libraries
 
-abbrev pub AreNumbered : List Given → Type 0
-AreNumbered given = (k : ℕ) (g : Given) → slice_get given k ≡ Some g → g.object.input ≡ k + 1
+abbrev pub AreNumbered : List GivenObject → Type 0
+AreNumbered given = (k : ℕ) (g : GivenObject) → slice_get given k ≡ Some g → g.object.input ≡ k + 1
 
 -- the objects are the inputs behind one, without a gap
-abbrev pub NumberedFrom : ℕ → List Given → Type 0
+abbrev pub NumberedFrom : ℕ → List GivenObject → Type 0
 NumberedFrom last [] = Unit {0}
 NumberedFrom last (g ∷ gs) = (last < g.object.input) × (g.object.input ≤ last + 1) × NumberedFrom g.object.input gs
 
-numbered_at : (last : ℕ) (gs : List Given) → NumberedFrom last gs → (k : ℕ) (g : Given) → slice_get gs k ≡ Some g → g.object.input ≡ last + k + 1
+numbered_at : (last : ℕ) (gs : List GivenObject) → NumberedFrom last gs → (k : ℕ) (g : GivenObject) → slice_get gs k ≡ Some g → g.object.input ≡ last + k + 1
 numbered_at last [] h k g e = absurd cc
 numbered_at last (x ∷ xs) h zero g e = let one : x.object.input ≡ g.object.input = cc in let a = h.0 in let b = h.1 in omega (arith, one, a, b)
 numbered_at last (x ∷ xs) h (suc k) g e = let p = numbered_at x.object.input xs h.2 k g e in let a = h.0 in let b = h.1 in omega (arith, p, a, b)
 
-pub numbered_from_one : (gs : List Given) → NumberedFrom 0 gs → (k : ℕ) (g : Given) → slice_get gs k ≡ Some g → g.object.input ≡ k + 1
+pub numbered_from_one : (gs : List GivenObject) → NumberedFrom 0 gs → (k : ℕ) (g : GivenObject) → slice_get gs k ≡ Some g → g.object.input ≡ k + 1
 numbered_from_one gs h k g e = let p = numbered_at 0 gs h k g e in omega (arith, p)
 
-objects_kept : (gs : List Given) → AreGiven (filter (λ c. not c.is_member) (map as_candidate gs)) gs
+objects_kept : (gs : List GivenObject) → AreGiven (filter (λ c. not c.is_member) (map as_candidate gs)) gs
 objects_kept [] = tt
 objects_kept (g ∷ gs) = (record { input = refl; is_member = refl; by_need = refl; offers = refl; object = refl }, objects_kept gs)
 
-objects_left : (gs : List Given) → filter (λ c. c.is_member) (map as_candidate gs) ≡ []
+objects_left : (gs : List GivenObject) → filter (λ c. c.is_member) (map as_candidate gs) ≡ []
 objects_left [] = refl
 objects_left (g ∷ gs) = objects_left gs
 
@@ -59,7 +59,7 @@ members_numbered l bytes n m [] i c e = absurd cc
 members_numbered l bytes n m (s ∷ ss) zero c e = let h : n ≡ c.input = cc in omega (arith, h)
 members_numbered l bytes n m (s ∷ ss) (suc i) c e = let h = members_numbered l bytes (n + 1) (m + 1) ss i c e in omega (arith, h)
 
-all_numbered : (l : LibraryFile) (bytes : List ℕ) (start : ℕ) (gs : List Given) → ((k : ℕ) (g : Given) → slice_get gs k ≡ Some g → g.object.input ≡ start + k) → (n : ℕ) → n ≡ start + length gs → (m : ℕ) (ss : List Span) (i : ℕ) (c : Candidate)
+all_numbered : (l : LibraryFile) (bytes : List ℕ) (start : ℕ) (gs : List GivenObject) → ((k : ℕ) (g : GivenObject) → slice_get gs k ≡ Some g → g.object.input ≡ start + k) → (n : ℕ) → n ≡ start + length gs → (m : ℕ) (ss : List Span) (i : ℕ) (c : Candidate)
     → slice_get (map as_candidate gs ++ members_from l bytes n m ss) i ≡ Some c → c.input ≡ start + i
 all_numbered l bytes start [] h n is m ss i c e = let k = members_numbered l bytes n m ss i c e in omega (arith, k, is)
 all_numbered l bytes start (g ∷ gs) h n is m ss zero c e = let one : g.object.input ≡ c.input = cc in let k = h 0 g refl in omega (arith, one, k)
@@ -67,7 +67,7 @@ all_numbered l bytes start (g ∷ gs) h n is m ss (suc i) c e =
     let k = all_numbered l bytes (suc start) gs (λ j x at. let p = h (suc j) x at in omega (arith, p)) n (omega (arith, is)) m ss i c e in
     omega (arith, k)
 
-pub are_candidates : (given : List Given) (l : LibraryFile) (files : List (List ℕ)) → AreNumbered given → l.first ≡ length given + 1 → length given + length l.library.members < 2 ^ 20
+pub are_candidates : (given : List GivenObject) (l : LibraryFile) (files : List (List ℕ)) → AreNumbered given → l.first ≡ length given + 1 → length given + length l.library.members < 2 ^ 20
     → AreCandidates (candidates given (l ∷ []) files) given (l ∷ []) files
 are_candidates given l files numbered first few =
     let bytes = slice_index_or files l.file [] in

@@ -1,10 +1,10 @@
 //! Rounds over real bytes: two objects of the words, and a library of two members behind them.
 ghost use Rattle.std.specs.Prelude.{◌≡◌, ◌+◌, ◌<◌, ◌^◌, ℕ, Some, [], ◌∷◌, length, slice_get, IfSome, IsTrue};
-ghost use Rattle.lib_rounds.specs.declared.given.Given.{Given as GivenObject};
-ghost use Rattle.lib_rounds.specs.Inputs.{IsRead};
+ghost use Rattle.round_rules.specs.declared.given.GivenObject.{GivenObject};
+ghost use Rattle.round_rules.specs.Inputs.{IsRead};
 
 use lib_index::read_index;
-use lib_rounds::{Given, LibraryFile, Loaded, RoundError, load_rounds};
+use lib_rounds::{GivenObject, LibraryFile, Loaded, RoundError, load_rounds};
 use made_symbols::Mode;
 use object_file::read_object;
 use std::alloc::Global;
@@ -85,18 +85,18 @@ enum Outcome {
 }
 
 /// Objects as inputs 1 and 2, the second a lazy one.
-fn given(alloc: Global, plain: &[u8], lazy: &[u8]) -> Option<Seq<Given>> {
+fn given(alloc: Global, plain: &[u8], lazy: &[u8]) -> Option<Seq<GivenObject>> {
     let plain = read_object(alloc, 1, plain).ok()?;
     let lazy = read_object(alloc, 2, lazy).ok()?;
     let mut given = Seq::new(alloc);
     given
-        .push(Given {
+        .push(GivenObject {
             object: plain,
             lazy: false,
         })
         .ok()?;
     given
-        .push(Given {
+        .push(GivenObject {
             object: lazy,
             lazy: true,
         })
@@ -105,7 +105,7 @@ fn given(alloc: Global, plain: &[u8], lazy: &[u8]) -> Option<Seq<Given>> {
 }
 
 /// Whether the objects are the inputs from 1 on.
-fn are_numbered(given: &[Given]) -> bool
+fn are_numbered(given: &[GivenObject]) -> bool
     ensures { IsTrue result → (k : ℕ) (g : GivenObject) → slice_get given.now k ≡ Some g → g.object.input ≡ k + 1 }
 {
     let mut last = 0;
@@ -159,7 +159,7 @@ fn told(answer: Result<Loaded, RoundError>) -> Outcome {
 fn called<R: Threads + Sync>(
     rt: &R,
     alloc: Global,
-    given: Seq<Given>,
+    given: Seq<GivenObject>,
     library: LibraryFile,
     file: Seq<u8>,
     workers: Workers,

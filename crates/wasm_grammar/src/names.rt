@@ -1,11 +1,11 @@
 //! Bytes and names that are kept.
 ghost use Rattle.std.specs.Prelude.{◌≡◌};
-ghost use Rattle.std.specs.Str.{is_utf8};
 ghost use Rattle.wasm_grammar.specs.Fault.{Gives};
 ghost use Rattle.wasm_grammar.specs.Reading.{bytes_at, name_at};
 
 use crate::fault::{ReadFault, Stop};
 use crate::parts::{bytes_at, place};
+use byte_text::is_utf8;
 use std::alloc::Global;
 use wl_base::{Name, Seq};
 
@@ -16,16 +16,6 @@ pub fn blob_at(alloc: Global, end: usize, bytes: &[u8]) -> Result<(Seq<u8>, &[u8
     let (text, rest) = bytes_at(end, bytes)?;
     let kept = Seq::from_slice(alloc, text)?;
     Ok((kept, rest))
-}
-
-/// Whether the bytes are UTF-8.
-fn is_utf8(text: &[u8]) -> bool
-    ensures { result ≡ is_utf8 text.now }
-{
-    match std::str::from_utf8(text) {
-        Ok(_) => true,
-        Err(_) => false,
-    }
 }
 
 /// A name at the front, and the bytes after it (Core 5.2.4). Bytes that aren't UTF-8 are broken at

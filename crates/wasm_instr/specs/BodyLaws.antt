@@ -20,7 +20,7 @@ use Rattle.wasm_instr.specs.Bodies.{SpellsRun, all_locals, SpellsLocals, counted
 
 -- ---- local runs
 
-run_found : (before end : ℕ) (bytes : List ℕ) (run : LocalRun) (rest : List ℕ) → run_at before end bytes ≡ Ok (run, rest) → Takes (SpellsRun run) bytes rest × (before + run.count < 2 ^ 32)
+pub run_found : (before end : ℕ) (bytes : List ℕ) (run : LocalRun) (rest : List ℕ) → run_at before end bytes ≡ Ok (run, rest) → Takes (SpellsRun run) bytes rest × (before + run.count < 2 ^ 32)
 unfolding run_at
 run_found before end bytes run rest e =
     let a = bind_ok (u32_at end bytes) (λ count. counted (end - length bytes) before count.0 >>= λ checked. val_type_at end count.1 >>= λ kind. Ok (record { count = checked; kind = kind.0 }, kind.1)) (run, rest) e in
@@ -33,7 +33,7 @@ run_found before end bytes run rest e =
     subst (λ (p : LocalRun × List ℕ). Takes (SpellsRun p.0) bytes p.1 × (before + p.0.count < 2 ^ 32)) (ok_is c.2)
     (Takes-then count (val_type_reader.found end a.0.1 c.0.0 c.0.1 c.1), fits)
 
-run_again : (before end : ℕ) (run : LocalRun) (text rest : List ℕ) → before + run.count < 2 ^ 32 → SpellsRun run text → run_at before end (text ++ rest) ≡ Ok (run, rest)
+pub run_again : (before end : ℕ) (run : LocalRun) (text rest : List ℕ) → before + run.count < 2 ^ 32 → SpellsRun run text → run_at before end (text ++ rest) ≡ Ok (run, rest)
 unfolding run_at
 run_again before end run text rest fits s =
     rw (regrouped s.0 s.1 text rest s.4, u32_reader.again end run.count s.0 (s.1 ++ rest) s.2, lt-ltb (before + run.count) (2 ^ 32) fits, val_type_reader.again end run.kind s.1 rest s.3) refl

@@ -85,7 +85,7 @@ f32_again end n text rest s =
     let le : 4 ≤ length (text ++ rest) = omega (arith, length-append text rest, s.0) in
     rw (le-leb 4 (length (text ++ rest)) le, take_at text rest 4 s.0, drop_at text rest 4 s.0, s.1) refl
 
-f32_reader : IsReader SpellsF32 f32_at
+pub f32_reader : IsReader SpellsF32 f32_at
 f32_reader = record { found = f32_found; again = f32_again }
 
 f64_found : (end : ℕ) (bytes : List ℕ) (n : ℕ) (rest : List ℕ) → f64_at end bytes ≡ Ok (n, rest) → Takes (SpellsF64 n) bytes rest
@@ -101,7 +101,7 @@ f64_again end n text rest s =
     let le : 8 ≤ length (text ++ rest) = omega (arith, length-append text rest, s.0) in
     rw (le-leb 8 (length (text ++ rest)) le, take_at text rest 8 s.0, drop_at text rest 8 s.0, s.1) refl
 
-f64_reader : IsReader SpellsF64 f64_at
+pub f64_reader : IsReader SpellsF64 f64_at
 f64_reader = record { found = f64_found; again = f64_again }
 
 -- ---- what is read

@@ -9,6 +9,7 @@ pub mod BodyBounds
 pub mod Skimming
 pub mod SkimLaws
 pub mod Places
+pub mod Stays
 pub mod Placeless
 pub mod Examples
 pub use Rattle.wasm_grammar.specs.wl_base as wl_base

@@ -1,10 +1,12 @@
 //! What holds of the grammars, as calls that do nothing: their contracts are the laws.
-ghost use Rattle.std.specs.Prelude.{◌≡◌, List, ℕ};
+ghost use Rattle.std.specs.Prelude.{◌≡◌, ◌++◌, List, ℕ};
 ghost use Rattle.wasm_instr.specs.declared.body.Body.{Body};
 ghost use Rattle.wasm_instr.specs.declared.instr.Instr.{Instr};
 ghost use Rattle.wasm_grammar.specs.Readers.{IsUnambiguous};
+ghost use Rattle.wasm_grammar.specs.Stays.{Stays};
 ghost use Rattle.wasm_instr.specs.Instrs.{SpellsInstr};
-ghost use Rattle.wasm_instr.specs.Bodies.{Nest, step_of, SpellsBody};
+ghost use Rattle.wasm_instr.specs.Reading.{instr_at};
+ghost use Rattle.wasm_instr.specs.Bodies.{Nest, step_of, SpellsBody, body_at};
 ghost use Rattle.wasm_instr.specs.Places.{HasRisingPlaces};
 ghost use Rattle.wasm_instr.specs.Skimming.{outline_of, outline_step};
 
@@ -16,6 +18,16 @@ pub fn instr_is_unambiguous()
 /// No bytes are two bodies.
 pub fn body_is_unambiguous()
     ensures { (a b : Body) (bytes : List ℕ) → SpellsBody a bytes → SpellsBody b bytes → a ≡ b }
+{}
+
+/// A foreign opcode or value type is the answer, whatever follows it.
+pub fn instr_is_steady()
+    ensures { (end other : ℕ) (bytes more : List ℕ) → Stays (instr_at end bytes) (instr_at other (bytes ++ more)) }
+{}
+
+/// A foreign item in a body is the answer, whatever follows it.
+pub fn body_is_steady()
+    ensures { (bytes more : List ℕ) → Stays (body_at bytes) (body_at (bytes ++ more)) }
 {}
 
 /// In a body the places rise: the first instruction begins where the locals end, each other one

@@ -10,6 +10,7 @@ mod class;
 mod immediates;
 mod instr;
 mod laws;
+pub mod opcodes;
 mod outline;
 mod skim;
 mod writing;
@@ -17,7 +18,10 @@ mod writing;
 pub use body::{Body, BodyFault, LocalRun, Placed, body_at, read_body};
 pub use class::{Class, class_of};
 pub use instr::{BlockKind, Instr, instr_at};
-pub use laws::{body_is_unambiguous, instr_is_unambiguous, outlines_tell_blocks, places_rise};
+pub use laws::{
+    body_is_steady, body_is_unambiguous, instr_is_steady, instr_is_unambiguous,
+    outlines_tell_blocks, places_rise,
+};
 pub use outline::{Outline, outline_step};
 pub use skim::{skim_at, skip_locals_at};
 pub use writing::{put_body, put_instr, write_instr};

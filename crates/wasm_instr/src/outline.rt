@@ -1,6 +1,8 @@
 //! Outlines: what a scanner of bodies has to know of an instruction.
-ghost use Rattle.std.specs.Prelude.{◌≡◌};
+ghost use Rattle.std.specs.Prelude.{◌≡◌, Err};
 ghost use Rattle.wasm_grammar.specs.Fault.{Gives};
+ghost use Rattle.wasm_grammar.specs.declared.fault.Stop.{Stop};
+ghost use Rattle.wasm_grammar.specs.declared.fault.ReadFault.TheVariants.{Stopped};
 ghost use Rattle.wasm_instr.specs.Bodies.{stepped};
 ghost use Rattle.wasm_instr.specs.declared.instr.Instr.TheVariants as instrs;
 ghost use Rattle.wasm_instr.specs.Skimming.{is_index, outline_of, outline_step};
@@ -87,18 +89,23 @@ impl Instr {
 }
 
 /// Opens and closes the blocks of an instruction of this outline at this place. The list has, for
-/// each open block, whether it may still have an `else`, the outermost first.
+/// each open block, whether it may still have an `else`, the outermost first. An `else` at a wrong
+/// place leaves it as it was.
 #[inline(always)]
 pub fn outline_step(opens: &mut Seq<bool>, place: usize, outline: Outline) -> Result<(), ReadFault>
-    ensures { Gives (λ _. opens.new) result (stepped place (outline_step opens.old outline)) }
+    ensures value { Gives (λ _. opens.new) result (stepped place (outline_step opens.old outline)) }
+    ensures refused { (stop : Stop) → result ≡ Err (Stopped stop) → opens.new ≡ opens.old }
 {
     match outline {
         Outline::End => {
             opens.pop();
             Ok(())
         }
-        Outline::Else => match opens.pop() {
-            Some(true) => Ok(opens.push(false)?),
+        Outline::Else => match opens.as_slice().last() {
+            Some(true) => {
+                opens.pop();
+                Ok(opens.push(false)?)
+            }
             _ => Err(ReadFault::Stopped(Stop::Broken(place))),
         },
         Outline::Block { may_else, .. } => Ok(opens.push(may_else)?),

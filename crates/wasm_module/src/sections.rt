@@ -1,25 +1,15 @@
 //! Reading sections.
 ghost use Rattle.std.specs.Prelude.{◌≡◌, [], None, length};
-ghost use Rattle.std.specs.Str.{is_utf8};
 ghost use Rattle.wasm_instr.specs.wasm_grammar.Fault.{Reads, Gives};
 ghost use Rattle.wasm_instr.specs.wasm_grammar.Reading.{name_at, vector_at, sized_at};
 ghost use Rattle.wasm_module.specs.Sections.{begins, custom_at, customs_at, section_at, next_at, given_at};
 
+use byte_text::is_utf8;
 use std::alloc::Global;
 use wasm_grammar::{
     Form, ReadFault, Stop, bytes_at, none_at, part_at, place, sized_at, tag_at, u32_at,
 };
 use wl_base::Seq;
-
-/// Whether the bytes are UTF-8.
-fn is_utf8(text: &[u8]) -> bool
-    ensures { result ≡ is_utf8 text.now }
-{
-    match std::str::from_utf8(text) {
-        Ok(_) => true,
-        Err(_) => false,
-    }
-}
 
 /// The name at the front, which is lent, and the bytes after it (Core 5.2.4). It takes no memory.
 #[tactic(auto, unfolding(wasm_grammar::specs::Reading::name_at))]

@@ -15,7 +15,7 @@ use Rattle.wasm_types.specs.TypeLaws.{val_type_reader, limits_reader, global_typ
 
 -- ---- value types
 
-type_stays : (place other byte : ℕ) → Stays (val_type_of place byte) (val_type_of other byte)
+pub type_stays : (place other byte : ℕ) → Stays (val_type_of place byte) (val_type_of other byte)
 type_stays place other byte =
     cond_stays (eqb byte 0x7f) (Ok I32) _ (Ok I32) _ tt (
     cond_stays (eqb byte 0x7e) (Ok I64) _ (Ok I64) _ tt (
@@ -28,7 +28,7 @@ answers : {A : Type 0} (q : Bool) (x y : A) (r s : Result A Stop) → (r ≡ Ok 
 answers true x y r s f e = e
 answers false x y r s f e = f e
 
-type_same : (place other byte : ℕ) (t : ValType) → val_type_of place byte ≡ Ok t → val_type_of other byte ≡ Ok t
+pub type_same : (place other byte : ℕ) (t : ValType) → val_type_of place byte ≡ Ok t → val_type_of other byte ≡ Ok t
 type_same place other byte t =
     answers (eqb byte 0x7f) I32 t _ _ (
     answers (eqb byte 0x7e) I64 t _ _ (

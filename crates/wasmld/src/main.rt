@@ -1,23 +1,17 @@
-//! wasmld: links WebAssembly objects into one module.
+//! wasmld: links WebAssembly objects into one module. Here is what knows of the real machine: its words, its files and its standard
+//! output; the work is `link_command`.
 #![tactic(auto)]
 
-mod command;
-mod ending;
 mod file_shelf;
-mod inputs;
 mod manual;
 mod output_sink;
-mod status;
-#[cfg(test)]
-mod tests;
 mod words;
 mod writing;
 
-pub use command::link_command;
-pub use file_shelf::FileShelf;
+use file_shelf::FileShelf;
+use link_command::link_command;
 use manual::answer;
-pub use output_sink::OutputSink;
-pub use status::Status;
+use output_sink::OutputSink;
 use std::env;
 use std::process::ExitCode;
 use wl_outside::OpenGate;

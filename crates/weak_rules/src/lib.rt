@@ -2,11 +2,7 @@
 //! them on.
 #![tactic(auto)]
 
-#[cfg(test)]
-mod counted;
 mod inputs;
-#[cfg(test)]
-mod tests;
 
 pub use inputs::inputs_rise;
 pub use name_cases::{first_clash, first_duplicate};

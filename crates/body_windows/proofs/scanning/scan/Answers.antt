@@ -1,6 +1,6 @@
 use Rattle.std.proofs.Common.{◌≡◌, length, [], ◌∷◌, false, Ok, sym}
 use Rattle.std.proofs.lemmas.Result.{err_from_is_err_and}
-use Rattle.body_windows.specs.Scanning.{walked}
+use Rattle.body_windows.specs.Merging.{walked}
 use Rattle.body_windows.proofs.Merge.{start}
 use Rattle.body_windows.proofs.Walk.{scan_ok, scan_locals_fault, code_fails, locals_within, scan_stands}
 use Rattle.body_windows.proofs.scanning.scan.Goals as goal

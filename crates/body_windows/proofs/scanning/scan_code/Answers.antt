@@ -18,7 +18,7 @@ returns-in_err-outline_step c =
     let l = c.loop-rest in
     let p = err_from_is_err_and c.from_residual-in_err-outline_step.result c.from_residual-in_err-outline_step.ensures.1 in
     rw (p.1, p.2) (step_fails c.in_err-outline_step.field-0.0 l.merger c.args.end l.opens l.rest.now c.in_ok-outline.outline c.in_ok-outline.last.now c.in_ok-outline.after.now _
-    (omega (arith, c.loop-rest-test.true, c.len.ensures)) c.in_ok-outline.ensures (rw (sym c.place-at.ensures) c.in_err-outline_step.ensures) l.invariant.so_far)
+    (omega (arith, c.loop-rest-test.true, c.len.ensures)) c.in_ok-outline.ensures (rw (sym c.place-at.ensures) c.in_err-outline_step.ensures.value) l.invariant.so_far)
 
 pub offer_outline-requires : goal.offer_outline-requires
 offer_outline-requires c =
@@ -34,7 +34,7 @@ loop-rest-preserved c =
     let l = c.loop-rest in
     let o = c.in_ok-outline in
     let less : length o.after.now < length l.rest.now = walk_shorter c.args.end l.rest.now o.outline o.last.now o.after.now o.ensures in
-    let step : stepped (c.args.end - length l.rest.now) (outline_step l.opens o.outline) ≡ Ok c.outline_step.new.opens = rw (sym c.place-at.ensures) c.in_ok-outline_step.ensures in
+    let step : stepped (c.args.end - length l.rest.now) (outline_step l.opens o.outline) ≡ Ok c.outline_step.new.opens = rw (sym c.place-at.ensures) c.in_ok-outline_step.ensures.value in
     rw (c.in_ok-offer_outline.ensures, c.place-at.ensures, c.place-mid.ensures, c.place-until.ensures) (record {
       so_far = sym (walk_on l.merger c.args.end l.opens l.rest.now o.outline o.last.now o.after.now c.outline_step.new.opens (omega (arith, c.loop-rest-test.true, c.len.ensures)) o.ensures step) ∙ l.invariant.so_far;
       within = omega (arith, less, l.invariant.within);

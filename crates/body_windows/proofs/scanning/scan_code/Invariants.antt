@@ -1,5 +1,5 @@
 use Rattle.std.proofs.Common.{◌≡◌, ◌+◌, ◌<◌, ◌≤◌, ◌^◌, length, [], ◌∷◌, false}
-use Rattle.body_windows.specs.Scanning.{walked}
+use Rattle.body_windows.specs.Merging.{walked}
 use Rattle.body_windows.proofs.scanning.scan_code.Given as goal
 
 abbrev pub invariant-loop-rest : goal.invariant-loop-rest

@@ -9,7 +9,7 @@ use Rattle.lib_rounds.specs.Held.{Held, absent}
 use Rattle.lib_rounds.specs.State.{Defines, FailsBy}
 use Rattle.lib_rounds.specs.Begin.{input_count, starts}
 use Rattle.lib_rounds.proofs.Adding.{holds_by}
-use Rattle.lib_rounds.proofs.AtOnce.{given_fault_is}
+use Rattle.lib_rounds.proofs.AtOnce.{always_read_fault_is}
 use Rattle.lib_rounds.proofs.Starting.{count_is, knows_given, knows_members, knows_all, start_defines, put_all, shows_at_once}
 use Rattle.lib_rounds.proofs.begin.begin.Goals as goal
 
@@ -53,7 +53,7 @@ load_whole-requires g c =
 pub returns-in_err-load_whole : goal.returns-in_err-load_whole
 returns-in_err-load_whole g c =
     let p = err_from_is_err_and c.from_residual-in_err-load_whole.result c.from_residual-in_err-load_whole.ensures.1 in
-    let f = subst (FailsBy c.in_err-load_whole.field-0.0) (sym (given_fault_is g.w.all c.args.given c.args.inputs.libraries.now
+    let f = subst (FailsBy c.in_err-load_whole.field-0.0) (sym (always_read_fault_is g.w.all c.args.given c.args.inputs.libraries.now
     c.args.inputs.files.now c.requires.1.0)) c.in_err-load_whole.ensures in
     rw (p.1, p.2) f
 
@@ -62,7 +62,7 @@ returns g c =
     let are = c.requires.1.0 in
     let puts = c.in_ok-put_given.ensures in
     let loads = c.in_ok-load_whole.ensures in
-    let no_fault = given_fault_is g.w.all c.args.given c.args.inputs.libraries.now c.args.inputs.files.now are ∙ loads.no_fault in (
+    let no_fault = always_read_fault_is g.w.all c.args.given c.args.inputs.libraries.now c.args.inputs.files.now are ∙ loads.no_fault in (
       no_fault,
       shows_at_once g.w c.args.given c.args.inputs.libraries.now c.args.inputs.files.now are c.put_given.new.slots.items
           c.load_whole.new.slots.items puts.slots_are loads.slots no_fault,

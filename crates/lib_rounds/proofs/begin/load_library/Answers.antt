@@ -5,10 +5,10 @@ use Rattle.std.proofs.lemmas.Option.{slice_get-get_or, get_or_from_slice_get}
 use Rattle.std.proofs.lemmas.Result.{err_from_is_err_and}
 use Rattle.object_file.specs.wl_base.Choice.{first_some}
 use Rattle.lib_index.specs.Table.{shown}
-use Rattle.lib_rounds.specs.declared.given.LibraryFile.{LibraryFile}
-use Rattle.lib_rounds.specs.Rounds.{Candidate, object_fault}
+use Rattle.round_rules.specs.declared.given.LibraryFile.{LibraryFile}
+use Rattle.round_rules.specs.Rounds.{Candidate, object_fault}
 use Rattle.lib_rounds.specs.State.{IsOffer, Fails, FailsBy}
-use Rattle.lib_rounds.specs.Inputs.{members_of}
+use Rattle.round_rules.specs.Inputs.{members_of}
 use Rattle.lib_rounds.specs.Held.{absent, held_as, is_loaded_slot}
 use Rattle.lib_rounds.proofs.Whole.{Loading, loading_start, loading_end, loading_refused, loading_more, loading_skip, loading_unloaded, loading_long, member_here, member_fits, member_is, members_long, drop_at}
 use Rattle.lib_rounds.proofs.begin.load_library.Goals.{then-not-is_loaded+in_ok-load, else-not-is_loaded}

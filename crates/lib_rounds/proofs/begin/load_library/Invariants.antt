@@ -1,9 +1,9 @@
 use Rattle.std.proofs.Common.{◌≡◌, List, Some, drop}
 use Rattle.std.specs.Prelude.{slice_get}
 use Rattle.lib_index.specs.Table.{shown}
-use Rattle.lib_rounds.specs.declared.given.LibraryFile.{LibraryFile}
-use Rattle.lib_rounds.specs.Rounds.{Candidate}
-use Rattle.lib_rounds.specs.Inputs.{members_of}
+use Rattle.round_rules.specs.declared.given.LibraryFile.{LibraryFile}
+use Rattle.round_rules.specs.Rounds.{Candidate}
+use Rattle.round_rules.specs.Inputs.{members_of}
 use Rattle.lib_rounds.specs.State.{candidate_at}
 use Rattle.lib_rounds.proofs.Whole.{Loading}
 use Rattle.lib_rounds.proofs.begin.load_library.Given as goal

@@ -3,8 +3,8 @@ use Rattle.std.proofs.lemmas.List.{drop_all}
 use Rattle.std.proofs.lemmas.Option.{slice_get-get_or}
 use Rattle.std.proofs.lemmas.Result.{err_from_is_err_and}
 use Rattle.lib_index.specs.Table.{shown}
-use Rattle.lib_rounds.specs.Rounds.{Candidate}
-use Rattle.lib_rounds.specs.Inputs.{members_of}
+use Rattle.round_rules.specs.Rounds.{Candidate}
+use Rattle.round_rules.specs.Inputs.{members_of}
 use Rattle.lib_rounds.proofs.Whole.{Loading, loading_start, loading_end, loading_many, loading_fails, loading_hold, whole_members, whole_here, whole_past}
 use Rattle.lib_rounds.proofs.begin.load_whole.Goals.{then-inputs-at+in_ok-load_library, else-inputs-at}
 use Rattle.lib_rounds.proofs.begin.load_whole.Goals as goal

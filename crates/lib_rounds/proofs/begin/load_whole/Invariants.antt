@@ -1,8 +1,8 @@
 use Rattle.std.proofs.Common.{List, drop}
 use Rattle.std.specs.Prelude.{filter, flat_map}
 use Rattle.lib_index.specs.Table.{shown}
-use Rattle.lib_rounds.specs.Rounds.{Candidate}
-use Rattle.lib_rounds.specs.Inputs.{members_of}
+use Rattle.round_rules.specs.Rounds.{Candidate}
+use Rattle.round_rules.specs.Inputs.{members_of}
 use Rattle.lib_rounds.proofs.Whole.{Loading}
 use Rattle.lib_rounds.proofs.begin.load_whole.Given as goal
 

@@ -2,7 +2,7 @@ use Rattle.std.proofs.Common.{sym, subst}
 use Rattle.std.proofs.lemmas.Result.{err_from_is_err_and}
 use Rattle.made_symbols.specs.declared.mode.Mode.{Mode as Kind}
 use Rattle.lib_index.specs.Table.{shown}
-use Rattle.lib_rounds.specs.Rounds.{load}
+use Rattle.round_rules.specs.Rounds.{load}
 use Rattle.lib_rounds.specs.State.{Answers, Defines}
 use Rattle.lib_rounds.proofs.Round.{load_refused}
 use Rattle.lib_rounds.proofs.call.load_all.Goals as goal

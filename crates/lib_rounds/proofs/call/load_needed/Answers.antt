@@ -3,7 +3,7 @@ use Rattle.std.proofs.lemmas.Result.{err_from_is_err_and}
 use Rattle.object_file.specs.wl_base.declared.fault.Fault.{Fault}
 use Rattle.object_file.specs.declared.object.Object.{Object}
 use Rattle.lib_index.specs.Table.{shown}
-use Rattle.lib_rounds.specs.Rounds.{is_loaded, at_once, objects_of}
+use Rattle.round_rules.specs.Rounds.{is_loaded, at_once, objects_of}
 use Rattle.lib_rounds.specs.Lean.{first_names, lean}
 use Rattle.lib_rounds.specs.Held.{Held, loaded_objects}
 use Rattle.lib_rounds.specs.State.{Shows, Looked, Hold, Defines, Fails}

@@ -2,7 +2,7 @@ use Rattle.std.proofs.Common.{◌∙◌, ap, sym, subst, arith, take, ◌+◌, �
 use Rattle.std.specs.Prelude.{option_copied}
 use Rattle.std.specs.BTreeMap.{BTreeMap}
 use Rattle.lib_rounds.specs.declared.adds.Wanted.{Wanted}
-use Rattle.lib_rounds.specs.Rounds.{strong_names}
+use Rattle.round_rules.specs.Rounds.{strong_names}
 use Rattle.lib_rounds.specs.Held.{loaded_in}
 use Rattle.lib_rounds.specs.State.{Looks}
 use Rattle.lib_rounds.proofs.Names.{index_is}

@@ -1,6 +1,6 @@
 use Rattle.std.proofs.Common.{take}
 use Rattle.std.specs.Prelude.{flat_map}
-use Rattle.lib_rounds.specs.Rounds.{strong_names}
+use Rattle.round_rules.specs.Rounds.{strong_names}
 use Rattle.lib_rounds.specs.Held.{loaded_objects}
 use Rattle.lib_rounds.specs.State.{Looks}
 use Rattle.lib_rounds.proofs.gather.look_loaded.Given as goal

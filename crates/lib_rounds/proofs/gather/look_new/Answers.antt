@@ -3,7 +3,7 @@ use Rattle.std.specs.Prelude.{option_copied}
 use Rattle.std.specs.BTreeMap.{BTreeMap}
 use Rattle.std.proofs.lemmas.Option.{slice_get-get_or}
 use Rattle.lib_rounds.specs.declared.adds.Wanted.{Wanted}
-use Rattle.lib_rounds.specs.Rounds.{strong_names}
+use Rattle.round_rules.specs.Rounds.{strong_names}
 use Rattle.lib_rounds.specs.Held.{object_held}
 use Rattle.lib_rounds.specs.State.{Looks, slot_at}
 use Rattle.lib_rounds.proofs.Gathering.{looks_more, looks_same, take_next, taken, got, got_more, got_none}

@@ -1,7 +1,7 @@
 use Rattle.std.proofs.Common.{◌∙◌, ◌-◌, ap, sym, arith}
 use Rattle.std.specs.Prelude.{option_copied}
 use Rattle.lib_index.specs.Table.{shown}
-use Rattle.lib_rounds.specs.Rounds.{lesser_name}
+use Rattle.round_rules.specs.Rounds.{lesser_name}
 use Rattle.lib_rounds.specs.State.{is_other}
 use Rattle.lib_rounds.proofs.Names.{lie_more, no_lie, there}
 use Rattle.lib_rounds.proofs.lies.least_lie.Goals as goal

@@ -1,7 +1,7 @@
 use Rattle.std.proofs.Common.{◌≡◌, drop}
 use Rattle.std.specs.Prelude.{option_copied, filter}
 use Rattle.lib_index.specs.Table.{shown}
-use Rattle.lib_rounds.specs.Rounds.{least_name}
+use Rattle.round_rules.specs.Rounds.{least_name}
 use Rattle.lib_rounds.specs.State.{is_other}
 use Rattle.lib_rounds.proofs.lies.least_lie.Given as goal
 

@@ -1,5 +1,5 @@
 use Rattle.std.proofs.Common.{sym, arith, ◌+◌, ◌<◌, ◌^◌, length, subst, ℕ, refl}
-use Rattle.lib_rounds.specs.declared.given.LibraryFile.{LibraryFile}
+use Rattle.round_rules.specs.declared.given.LibraryFile.{LibraryFile}
 use Rattle.lib_rounds.proofs.Names.{index_is}
 use Rattle.lib_rounds.proofs.offer.library_offer.Goals as goal
 

@@ -1,5 +1,5 @@
 use Rattle.std.proofs.Common.{◌≡◌, drop}
-use Rattle.lib_rounds.specs.Inputs.{library_offer}
+use Rattle.lib_rounds.specs.Offers.{library_offer}
 use Rattle.lib_rounds.proofs.offer.library_offer.Given as goal
 
 abbrev pub invariant-loop-at : goal.invariant-loop-at

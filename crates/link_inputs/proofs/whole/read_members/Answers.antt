@@ -2,7 +2,7 @@ use Rattle.std.proofs.Common.{◌∙◌, []}
 use Rattle.std.proofs.lemmas.List.{get_or_read}
 use Rattle.std.proofs.lemmas.Result.{err_from_is_err_and}
 use Rattle.link_inputs.specs.Reading.{fault_of, file_at}
-use Rattle.link_program.specs.lib_rounds.Inputs.{members_of}
+use Rattle.link_program.specs.round_rules.Inputs.{members_of}
 use Rattle.link_inputs.proofs.Members.{file_there, member_lies, goes_on, fails}
 use Rattle.link_inputs.proofs.whole.read_members.Goals as goal
 

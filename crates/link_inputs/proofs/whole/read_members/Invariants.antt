@@ -1,5 +1,5 @@
 use Rattle.std.proofs.Common.{◌≡◌, ◌+◌, drop}
-use Rattle.link_program.specs.lib_rounds.Inputs.{members_from, members_of}
+use Rattle.link_program.specs.round_rules.Inputs.{members_from, members_of}
 use Rattle.link_inputs.specs.Reading.{fault_of, file_at}
 use Rattle.link_inputs.proofs.whole.read_members.Given as goal
 

@@ -1,9 +1,10 @@
 use Rattle.std.proofs.Common.{◌∙◌, subst, sym, ap}
 use Rattle.std.proofs.lemmas.List.Elements.{All-get_or}
 use Rattle.std.proofs.lemmas.Result.{err_from_is_err_and}
-use Rattle.link_program.specs.lib_rounds.declared.given.LibraryFile.{LibraryFile}
-use Rattle.link_program.specs.lib_rounds.Inputs.{IsRead}
-use Rattle.link_inputs.specs.Reading.{fault_of, early_members, whole_before, FailsBy}
+use Rattle.link_program.specs.round_rules.declared.given.LibraryFile.{LibraryFile}
+use Rattle.link_program.specs.round_rules.Inputs.{IsRead}
+use Rattle.link_program.specs.Answers.{Stops}
+use Rattle.link_inputs.specs.Reading.{fault_of, early_members, whole_before}
 use Rattle.link_inputs.proofs.Members.{library_goes_on, library_fails}
 use Rattle.link_inputs.proofs.whole.read_whole.Goals as goal
 
@@ -19,7 +20,7 @@ returns-in_err-read_early c =
     let p = err_from_is_err_and c.from_residual.result c.from_residual.ensures.1 in
     let f = library_fails files c.args.input libraries c.loop-at.at c.index-libraries-at.result c.loop-at-test.true (fault_of (whole_before files c.args.input libraries))
     c.loop-at.invariant c.in_err-read_early.field-0.0
-    (subst (λ (l : LibraryFile). FailsBy c.in_err-read_early.field-0.0 (fault_of (early_members files c.args.input l))) c.index-libraries-at.is c.in_err-read_early.ensures) in
+    (subst (λ (l : LibraryFile). Stops c.in_err-read_early.field-0.0 (fault_of (early_members files c.args.input l))) c.index-libraries-at.is c.in_err-read_early.ensures) in
     rw (p.1, p.2) f
 
 pub loop-at-preserved : goal.loop-at-preserved

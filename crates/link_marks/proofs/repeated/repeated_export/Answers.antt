@@ -1,4 +1,5 @@
-use Rattle.std.proofs.Common.{◌∙◌}
+use Rattle.std.proofs.Common.{◌∙◌, subst}
+use Rattle.link_program.specs.Answers.{Passes}
 use Rattle.link_marks.proofs.Winning.{winner_names_held, numbers_held, repeats_are}
 use Rattle.link_marks.proofs.repeated.repeated_export.Goals as goal
 
@@ -7,4 +8,6 @@ first_repeat-requires-clause-names g c =
     numbers_held c.args.program.names.now.names g.w.program.winners g.w.exports c.args.exports.now (winner_names_held c.args.program g.w.program c.requires.0) c.requires.1.0 c.requires.1.1
 
 pub returns : goal.returns
-returns g c = c.in_ok-fault.ensures ∙ repeats_are c.args.program g.w.program g.w.exports c.args.exports.now c.requires.0 c.requires.1.0 c.requires.1.1
+returns g c =
+    subst (Passes c.refuse.result) (c.in_ok-fault.ensures ∙ repeats_are c.args.program g.w.program g.w.exports c.args.exports.now c.requires.0 c.requires.1.0 c.requires.1.1)
+    c.refuse.ensures

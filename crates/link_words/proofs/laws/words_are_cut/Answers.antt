@@ -1,4 +1,4 @@
-use Rattle.link_words.proofs.CutLaw.{cut_is, cut_once, stop_is, plan_is}
+use Rattle.link_words.proofs.CutLaw.{cut_is, cut_once, stop_is, plan_is, refusal_is}
 use Rattle.link_words.proofs.laws.words_are_cut.Goals as goal
 
 pub returns-clause-found : goal.returns-clause-found
@@ -12,3 +12,6 @@ returns-clause-faults _ = stop_is
 
 pub returns-clause-plans : goal.returns-clause-plans
 returns-clause-plans _ = plan_is
+
+pub returns-clause-refusals : goal.returns-clause-refusals
+returns-clause-refusals _ = refusal_is

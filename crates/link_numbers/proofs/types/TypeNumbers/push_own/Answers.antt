@@ -1,7 +1,7 @@
 use Rattle.std.proofs.Common.{fold, [], ap, ◌∙◌}
 use Rattle.std.specs.List.{cons_option}
 use Rattle.link_program.specs.declared.part.Part.{Part}
-use Rattle.link_numbers.specs.LiveRefs.{part_at}
+use Rattle.link_program.specs.Look.{part_at}
 use Rattle.link_numbers.specs.Types.{type_in, with_numbered}
 use Rattle.link_numbers.proofs.Steps.{items_more, items_folded, filters_more, folds_more}
 use Rattle.link_numbers.proofs.types.TypeNumbers.push_own.Goals as goal

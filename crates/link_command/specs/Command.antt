@@ -1,0 +1,77 @@
+-- What the program's answer says of the words and of the shelf before and after.
+use Rattle.std.specs.Prelude.{◌≡◌, ◌⊎◌, ℕ, List, [], ◌∷◌, IsTrue, Contains, map, Option, Some, None, IfSome, IsSomeAnd, Result, Ok, Err}
+use Rattle.wl_base.specs.declared.fault.Fault.{Fault}
+use Rattle.wl_outside.specs.Shelf.{Shown, Same, SameBut, Holds, Torn, LoadFailed, SaveFailed}
+use Rattle.link_plan.specs.declared.plan.Plan.{Plan}
+use Rattle.link_words.specs.Words.{word}
+use Rattle.link_rules.specs.LinkOf.{link_of}
+use Rattle.case_objects.specs.Objects.{objects}
+use Rattle.link_command.specs.declared.status.Status.{Status}
+use Rattle.link_command.specs.declared.status.Status.TheVariants.{Linked, Refused, Usage, ReadFault, WriteFault, NoMemory}
+
+-- the contents of the names, where each holds any
+abbrev pub with_first : Option (List ℕ) → Option (List (List ℕ)) → Option (List (List ℕ))
+with_first (Some bytes) (Some rest) = Some (bytes ∷ rest)
+with_first bytes rest = None
+
+abbrev pub contents : (List ℕ → Option (List ℕ)) → List (List ℕ) → Option (List (List ℕ))
+contents held [] = Some []
+contents held (name ∷ names) = with_first (held name) (contents held names)
+
+-- the places of the input words, and the words there
+abbrev pub places : Plan → List ℕ
+places plan = map (λ i. i.place) plan.inputs
+
+abbrev pub input_names : List (List ℕ) → Plan → List (List ℕ)
+input_names words plan = map (word words) (places plan)
+
+-- what is linked: the objects of the generated case, or what the shelf holds under the input words
+abbrev pub files_of : Option ℕ → Shown → List (List ℕ) → Plan → Option (List (List ℕ))
+files_of (Some n) before words plan = Some (objects n)
+files_of None before words plan = contents before.held (input_names words plan)
+
+-- what is linked is told: it is generated, or the shelf tells what it holds
+abbrev pub IsTold : Option ℕ → Shown → Type 0
+IsTold (Some n) before = Unit {0}
+IsTold None before = IsTrue before.tells
+
+-- the link of these files
+pub record LinkIs (before : Shown) (words : List (List ℕ)) (plan : Plan) (said : Result (List ℕ) Fault) : Type 0 where
+  pub files : List (List ℕ)
+  pub held : files_of plan.make_case before words plan ≡ Some files
+  pub link : link_of plan files ≡ said
+
+-- the output, where the plan names one, holds the bytes, and all else is as before
+abbrev pub Saved : Shown → Shown → Option (List ℕ) → List ℕ → Type 0
+Saved before after None bytes = Same before after
+Saved before after (Some output) bytes = Holds after output bytes × SameBut output before after
+
+-- the output holds its old content or a front of the bytes, and all else is as before
+abbrev pub Cut : Shown → Shown → Option (List ℕ) → List ℕ → Type 0
+Cut before after None bytes = Same before after
+Cut before after (Some output) bytes = Torn before after output bytes × SameBut output before after
+
+-- what an answer to words that have a plan shows, row by row
+abbrev pub Shows : Status → Shown → Shown → List (List ℕ) → Plan → Type 0
+Shows Linked before after words plan =
+    IsTold plan.make_case before → (bytes : List ℕ) × LinkIs before words plan (Ok bytes) × Saved before after plan.output bytes
+Shows (Refused fault) before after words plan =
+    (IsTold plan.make_case before → LinkIs before words plan (Err fault)) × Same before after
+Shows (Usage u) before after words plan = ⊥
+Shows (ReadFault k) before after words plan =
+    Contains (places plan) k × LoadFailed before after (word words k) × Same before after
+Shows WriteFault before after words plan =
+    (IsTold plan.make_case before → (bytes : List ℕ) × LinkIs before words plan (Ok bytes) × Cut before after plan.output bytes)
+    × IsSomeAnd plan.output (λ output. SaveFailed before after output)
+Shows NoMemory before after words plan = Same before after
+
+-- no load of an input word failed, and no save of the output
+abbrev pub LoadsWork : Shown → Shown → List (List ℕ) → Plan → Type 0
+LoadsWork before after words plan = (k : ℕ) → Contains (places plan) k → LoadFailed before after (word words k) → ⊥
+
+abbrev pub SaveWorks : Shown → Shown → Plan → Type 0
+SaveWorks before after plan = IfSome plan.output (λ output. SaveFailed before after output → ⊥)
+
+-- the answer, unless memory was refused
+abbrev pub IsUnlessMemory : Status → Status → Type 0
+IsUnlessMemory status wanted = (status ≡ wanted) ⊎ (status ≡ NoMemory)

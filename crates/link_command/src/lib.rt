@@ -1,0 +1,11 @@
+//! All that the program does, over any shelf of files and any sink of lines: it reads the words, loads the inputs, links them, saves the
+//! output, and says how it ended.
+#![tactic(auto)]
+
+mod command;
+mod ending;
+mod inputs;
+mod status;
+
+pub use command::link_command;
+pub use status::Status;

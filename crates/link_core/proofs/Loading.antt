@@ -1,0 +1,52 @@
+-- What is known of the loaded objects once their names are found.
+use Rattle.std.proofs.Common.{◌≡◌, ◌∙◌, ℕ, List, sym, ap, subst, Ok, Err}
+use Rattle.link_program.specs.object_file.declared.object.Object.{Object}
+use Rattle.link_program.specs.made_symbols.declared.mode.Mode.TheVariants.{Plain}
+use Rattle.link_program.specs.name_entries.declared.lookups.Entries.{Entries}
+use Rattle.link_program.specs.name_entries.Fits.{Fits}
+use Rattle.link_program.specs.link_plan.declared.plan.Plan.{Plan}
+use Rattle.link_program.specs.link_plan.Plan.{IsPlan}
+use Rattle.link_program.specs.link_rules.Program.{Program, program_of}
+use Rattle.link_program.specs.link_rules.LinkOf.{link_program}
+use Rattle.link_program.specs.declared.home.Home.{Home}
+use Rattle.link_program.specs.declared.error.LinkError.{LinkError}
+use Rattle.link_program.specs.declared.program.Program.{Program as Data}
+use Rattle.link_program.specs.Loaded.{IsLoaded}
+use Rattle.link_program.specs.Program.{IsProgram}
+use Rattle.program_build.specs.Found.{Finds, found_of}
+use Rattle.program_build.specs.Standing.{LoadedPartsStand}
+use Rattle.link_core.specs.Answers.{Answers}
+use Rattle.link_core.specs.Linking.{IsLinking}
+use Rattle.link_core.specs.Loading.{Loading, program_in}
+use Rattle.link_core.proofs.Answering.{find_failed}
+
+-- The plan and the objects of a call are those of what is loaded.
+module _ (l : Loading) (plan : Plan) (loaded objects : List Object) (same : l.origin.plan ≡ plan) (are : l.objects ≡ loaded) (shown : objects ≡ loaded) where
+  abbrev found_program : Program
+  found_program = program_of Plain plan l.origin.files l.origin.all objects
+
+  program_is : found_program ≡ program_in l
+  program_is =
+      ap (λ plan. program_of Plain plan l.origin.files l.origin.all objects) (sym same)
+      ∙ ap (λ (os : List Object). program_of Plain l.origin.plan l.origin.files l.origin.all os) (shown ∙ sym are)
+
+  pub find_stops : (e x : LinkError) → x ≡ e → Finds Plain (Err e) plan objects found_program → Answers (Err x) (link_program Plain (program_in l))
+  find_stops e x is finds = subst (λ p. Answers (Err x) (link_program Plain p)) program_is (find_failed plan objects found_program e x is finds)
+
+  pub all_found : found_of found_program ≡ Ok found_program → found_of (program_in l) ≡ Ok (program_in l)
+  all_found found = subst (λ p. found_of p ≡ Ok p) program_is found
+
+  pub linking_is : (files : List (List ℕ)) (homes : List Home) (d : Data) (view : Entries) → IsPlan plan → l.origin.files ≡ files
+      → IsLoaded l.origin.files l.origin.all loaded homes → LoadedPartsStand → IsProgram Plain d found_program → Fits Plain view
+      → view.objects.now ≡ d.objects.now → view.names.now ≡ d.names.now → IsLinking (program_in l) d view files
+  unfolding program_of
+  linking_is files homes d view planned held given stand is fits seen named =
+      subst (λ p. IsLinking p d view files) program_is (record {
+        program = is;
+        stand = stand Plain plan l.origin.files l.origin.all objects homes (subst (λ (os : List Object). IsLoaded l.origin.files l.origin.all os homes) (sym shown) given);
+        plan = planned;
+        fits = fits;
+        objects = seen;
+        names = named;
+        files = sym held;
+      })

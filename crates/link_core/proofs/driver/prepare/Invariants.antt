@@ -1,0 +1,12 @@
+use Rattle.link_core.specs.Chosen.{stage_of}
+use Rattle.link_core.specs.Loading.{program_in}
+use Rattle.link_core.proofs.driver.prepare.Given as goal
+
+abbrev pub ghost-find : goal.ghost-find
+ghost-find g a = g.l.origin
+
+abbrev pub ghost-choose : goal.ghost-choose
+ghost-choose g a = program_in g.l
+
+abbrev pub ghost-lay_out : goal.ghost-lay_out
+ghost-lay_out g a = stage_of (program_in g.l)

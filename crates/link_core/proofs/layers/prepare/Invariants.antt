@@ -1,7 +1,0 @@
-use Rattle.link_core.proofs.layers.prepare.Given as goal
-
-abbrev pub ghost-image : goal.ghost-image
-ghost-image g a = g.s
-
-abbrev pub ghost-patches : goal.ghost-patches
-ghost-patches g a = g.s

@@ -1,0 +1,29 @@
+-- When what is exported and what is live are those of a program.
+use Rattle.std.specs.Prelude.{◌≡◌, ℕ, List, map, All, Contains, Result, Ok, Err}
+use Rattle.link_program.specs.made_symbols.declared.mode.Mode.TheVariants.{Plain}
+use Rattle.link_program.specs.link_rules.Program as rules
+use Rattle.link_program.specs.link_rules.Marks.{exported, live}
+use Rattle.link_program.specs.link_rules.LinkOf.{exporting, laid_out}
+use Rattle.link_program.specs.declared.error.LinkError.{LinkError}
+use Rattle.link_program.specs.declared.program.Program.{Program}
+use Rattle.link_program.specs.declared.symbol.Winner.{Winner}
+use Rattle.link_program.specs.Answers.{Fails}
+use Rattle.link_program.specs.Told.{told_winner}
+use Rattle.link_program.specs.Live.{Stage, AreLive, AllMeant}
+use Rattle.link_core.specs.declared.chosen.Chosen.{Chosen}
+
+-- The data tell the exported winners of a stage, and the numbers of its parts; all that these refer to means something.
+pub record IsChosen (s : Stage) (d : Program) (winners : List Winner) (numbers : List ℕ) : Type 0 where
+  pub exports : winners ≡ map (told_winner d.names.now.names) s.exports
+  pub among : All (Contains s.program.winners) s.exports
+  pub live : AreLive s.program numbers s.parts
+  pub meant : AllMeant s.parts
+
+-- Its exported winners and its live parts.
+abbrev pub stage_of : rules.Program → Stage
+stage_of p = record { program = p; exports = exported Plain p; parts = live p (exported Plain p) }
+
+-- What choosing answers: what is exported and live, and then the link is what laying it out gives; or the fault that ends it before.
+abbrev pub Chooses : Result Chosen LinkError → Program → rules.Program → Type 0
+Chooses (Ok c) d p = (exporting Plain p (exported Plain p) ≡ laid_out Plain p (exported Plain p) (live p (exported Plain p))) × IsChosen (stage_of p) d c.exports c.live.numbers
+Chooses (Err e) d p = Fails e (exporting Plain p (exported Plain p))

@@ -1,0 +1,15 @@
+-- What is linked of the files.
+use Rattle.std.specs.Prelude.{List}
+use Rattle.link_program.specs.object_file.declared.object.Object.{Object}
+use Rattle.link_program.specs.made_symbols.declared.mode.Mode.TheVariants.{Plain}
+use Rattle.link_program.specs.link_rules.Program.{Program, program_of}
+use Rattle.link_program.specs.Loaded.{Origin}
+
+-- Where the loaded objects come from, and the objects.
+pub record Loading : Type 0 where
+  pub origin : Origin
+  pub objects : List Object
+
+-- The program that they are.
+abbrev pub program_in : Loading → Program
+program_in l = program_of Plain l.origin.plan l.origin.files l.origin.all l.objects

@@ -1,0 +1,181 @@
+//! The whole link, as a list of steps in the order of its definition (`link_of` in link_rules/specs/LinkOf.antt): load, find, exports,
+//! mark, unresolved, place, number, image, measure, patches, write. Each gives what the next ones need, or a fault that ends the link.
+ghost use Rattle.std.specs.Prelude.{◌≡◌, length, unwrap_or, IfOk};
+ghost use Rattle.link_program.specs.made_symbols.declared.mode.Mode.TheVariants as modes;
+ghost use Rattle.link_program.specs.link_plan.Plan.{IsPlan};
+ghost use Rattle.link_program.specs.link_rules.Program as rules;
+ghost use Rattle.link_program.specs.link_rules.LinkOf.{link_of, link_program, laid_out};
+ghost use Rattle.link_program.specs.Loaded.{IsLoaded};
+ghost use Rattle.link_program.specs.Program.{IsProgram};
+ghost use Rattle.link_program.specs.Stand.{PartsStand};
+ghost use Rattle.link_program.specs.Live.{Stage};
+ghost use Rattle.link_core.specs.Answers.{Answers, IsShort};
+ghost use Rattle.link_core.specs.Chosen.{IsChosen, Chooses};
+ghost use Rattle.link_core.specs.Linking.{IsLinking};
+ghost use Rattle.link_core.specs.Loading.{Loading, program_in};
+ghost use Rattle.link_core.specs.Prepared.{outputs, IsReady};
+
+use crate::chosen::Chosen;
+use crate::prepared::Prepared;
+use link_image::image;
+use link_inputs::{Inputs, load_inputs};
+use link_layout::{Layout, place_segments};
+use link_marks::{all_are_meant, exports, live_parts, repeated_export, unresolved};
+use link_numbers::number;
+use link_output::laws::{
+    patches_make_the_output, values_are_judged_in_turn, windows_stand_in_sources,
+};
+use link_output::{measured, write};
+use link_plan::Plan;
+use link_program::{Entries, LinkError, Program, Winner};
+use program_build::find;
+use program_build::laws::parts_stand;
+use std::alloc::Global;
+use std::mem::forget;
+use std::thread::Threads;
+use wl_base::Seq;
+use wl_fan::Workers;
+use wl_outside::Gate;
+
+/// Links the files as the plan asks: the bytes of the module, or the first fault that applies. There is one file for each input of the
+/// plan, or as many as objects were generated.
+///
+/// Given objects are read, groups and names are raced for, live parts are marked and the output is filled by as many workers as the plan
+/// has threads; each passes the gate before a job. The answer doesn't depend on them. From the moment that the output's buffer is
+/// reserved nothing can want memory.
+///
+/// What was read of the files isn't given back, but kept until the process ends: that would be a free for each small piece, which takes up
+/// to a tenth of a link of many objects.
+pub fn link<R: Threads + Sync, G: Gate>(
+    rt: &R,
+    alloc: Global,
+    plan: &Plan,
+    files: &[Seq<u8>],
+    gate: &G,
+) -> Result<Seq<u8>, LinkError>
+    requires plan { IsPlan plan.now }
+    requires files { length files.now ≡ unwrap_or plan.now.make_case (length plan.now.inputs) }
+    // The answer is the definition's, or want of memory.
+    ensures exact { Answers result (link_of plan.now files.now) }
+    // The module has fewer than 2^31 bytes.
+    ensures short { IsShort result }
+{
+    let inputs = load_inputs(rt, alloc, plan, files, gate)?;
+    let workers = workers_of(plan);
+    let prepared = prepare(rt, alloc, plan, files, &inputs, workers, gate);
+    forget(inputs);
+    let ready = prepared?;
+    let bytes = write(
+        rt,
+        alloc,
+        files,
+        &ready.image,
+        &ready.measured,
+        &ready.patches,
+        workers,
+        gate,
+    )?;
+    Ok(bytes)
+}
+
+// Prepares the output of the loaded objects. What was found of them is given back at the end, before the output's buffer is reserved.
+fn prepare<R: Threads + Sync, G: Gate>(
+    rt: &R,
+    alloc: Global,
+    plan: &Plan,
+    files: &[Seq<u8>],
+    inputs: &Inputs,
+    workers: Workers,
+    gate: &G,
+) -> Result<Prepared, LinkError>
+    ghost l: { Loading }
+    requires plan { IsPlan plan.now }
+    requires same { l.origin.plan ≡ plan.now }
+    requires files { l.origin.files ≡ files.now }
+    requires objects { l.objects ≡ inputs.now.loaded }
+    requires loaded { IsLoaded l.origin.files l.origin.all inputs.now.loaded inputs.now.homes }
+    ensures exact { Answers (outputs files.now result) (link_program modes.Plain (program_in l)) }
+    ensures ready { IfOk result (IsReady files.now) }
+{
+    let objects = inputs.objects();
+    let found = find(rt, alloc, plan, objects, inputs.homes(), gate)?;
+    parts_stand();
+    let program = found.program(plan, objects);
+    let entries = found.view(objects);
+    let chosen = choose(rt, alloc, program, workers, gate)?;
+    let exports = chosen.exports.as_slice();
+    let live = chosen.live.numbers.as_slice();
+    let prepared = lay_out(alloc, program, entries, files, exports, live);
+    prepared
+}
+
+// Chooses what is exported and what is live of a program.
+fn choose<R: Threads + Sync, G: Gate>(
+    rt: &R,
+    alloc: Global,
+    program: Program<'_>,
+    workers: Workers,
+    gate: &G,
+) -> Result<Chosen, LinkError>
+    ghost p: { rules.Program }
+    requires program { IsProgram modes.Plain program p }
+    requires stand { PartsStand p }
+    ensures { Chooses result program.entry p }
+{
+    let exports = exports(alloc, program)?;
+    repeated_export(alloc, program, exports.as_slice())?;
+    let live = live_parts(rt, alloc, program, exports.as_slice(), workers, gate)?;
+    unresolved(rt, alloc, program, &live)?;
+    all_are_meant();
+    Ok(Chosen { exports, live })
+}
+
+// Gives all that is live its place and its number, and prepares the output.
+fn lay_out(
+    alloc: Global,
+    program: Program<'_>,
+    entries: Entries<'_>,
+    files: &[Seq<u8>],
+    exports: &[Winner],
+    live: &[u32],
+) -> Result<Prepared, LinkError>
+    ghost s: { Stage }
+    requires is { IsLinking s.program program entries files.now }
+    requires chosen { IsChosen s program exports.now live.now }
+    ensures exact { Answers (outputs files.now result) (laid_out modes.Plain s.program s.exports s.parts) }
+    ensures ready { IfOk result (IsReady files.now) }
+{
+    let placed = place_segments(alloc, program, files, live)?;
+    let numbering = number(alloc, program, entries, exports, live)?;
+    windows_stand_in_sources();
+    values_are_judged_in_turn();
+    patches_make_the_output();
+    let layout = Layout {
+        program,
+        numbering: &numbering,
+        placed: &placed,
+    };
+    let image = image(alloc, layout, exports, live)?;
+    let measured = measured(alloc, files, &image)?;
+    let again = Layout {
+        program,
+        numbering: &numbering,
+        placed: &placed,
+    };
+    let patches = again.patches(alloc, live, measured.places.as_slice())?;
+    Ok(Prepared {
+        image,
+        measured,
+        patches,
+    })
+}
+
+// As many workers as the plan has threads.
+fn workers_of(plan: &Plan) -> Workers
+    requires { IsPlan plan.now }
+{
+    let Some(workers) = Workers::new(plan.threads) else {
+        unreachable!()
+    };
+    workers
+}

@@ -1,0 +1,5 @@
+pub mod Bytes
+pub mod Libraries
+pub mod FromBytes
+pub mod Links
+pub mod Rows

@@ -1,0 +1,158 @@
+//! What is looked up of symbols: their types and imports, and which define their names where an object loses a group.
+ghost use Rattle.name_entries.specs.made_symbols.declared.mode.Mode.TheVariants.{Plain};
+ghost use Rattle.name_entries.specs.link_names.Numbered.{AreNumbers};
+ghost use Rattle.name_entries.specs.View.{InputsRise};
+ghost use Rattle.name_entries.specs.Fits.{FitsObjects};
+
+use crate::objects::{numbered, read};
+use name_entries::{Entries, EntryTable, Names, Object, TypeRef};
+use std::alloc::Global;
+use std::thread::Threads;
+use wasm_types::{GlobalType, ValType};
+use weak_rules::{group_winners, inputs_rise};
+use wl_fan::Workers;
+use wl_outside::OpenGate;
+
+/// An object with imports: a table, a global `g`, and functions `f` and `h`, of which `h` takes an i32; and
+/// with a function that takes one. Its symbols are `f`, `h`, that function, `g`, the table and a datum.
+fn importing() -> &'static [u8] {
+    b"\0asm\x01\0\0\0\x01\x08\x02`\0\0`\x01\x7f\0\x02<\x04\x03env\x19__indirect_function_table\x01p\0\0\x03env\x01g\x03~\x01\x03env\x01f\0\0\x03env\x01h\0\x01\x03\x02\x01\x01\x0a\x04\x01\x02\0\x0b\0!\x07linking\x02\x08\x16\x06\0\x10\0\0\x10\x01\0\0\x02\x01d\x02\x10\0\x05\x10\0\x01\x10\x01x".as_slice()
+}
+
+/// An object with two functions and two segments, the first of each in a group. Its symbols are both
+/// functions, and a datum in each segment.
+fn grouped() -> &'static [u8] {
+    b"\0asm\x01\0\0\0\x01\x04\x01`\0\0\x03\x03\x02\0\0\x0a\x07\x02\x02\0\x0b\x02\0\x0b\x0b\x0d\x02\0A\0\x0b\x01a\0A\0\x0b\x01b\0<\x07linking\x02\x05\x0b\x02\x02.d\0\0\x02.e\0\0\x08\x19\x04\0\0\0\x01f\0\0\x01\x01h\x01\0\x01d\0\0\x01\x01\0\x01e\x01\0\x01\x07\x09\x01\x01c\0\x02\0\0\x01\0".as_slice()
+}
+
+/// A type, as far as it is compared: how many parameters a function has, and whether a global is an i64
+/// that may change.
+#[derive(Clone, Copy, Debug, PartialEq, Eq)]
+enum Kind {
+    Function(usize),
+    GlobalVar(bool),
+    Untyped,
+}
+
+/// What is looked up of a symbol; of the field of its import the first byte.
+#[derive(Clone, Copy, Debug, PartialEq, Eq)]
+struct Found {
+    kind: Kind,
+    field: Option<u8>,
+    defines: bool,
+}
+
+fn kind_of(kind: TypeRef<'_>) -> Kind {
+    match kind {
+        TypeRef::Function(kind) => Kind::Function(kind.params.len()),
+        TypeRef::GlobalVar(kind) => Kind::GlobalVar(
+            kind == GlobalType {
+                kind: ValType::I64,
+                var: true,
+            },
+        ),
+        TypeRef::Untyped => Kind::Untyped,
+    }
+}
+
+/// What is found of a symbol.
+fn look_up(entries: &Entries<'_>, object: u32, place: u32) -> Option<Found>
+    requires { FitsObjects entries.now }
+{
+    let entry = entries.entry(object, place)?;
+    let kind = entries.type_of(object, place)?;
+    let field = match entries.import_of(object, place) {
+        Some(import) => import.field.get(0).copied(),
+        None => None,
+    };
+    Some(Found {
+        kind: kind_of(kind),
+        field,
+        defines: entry.defines,
+    })
+}
+
+/// What is found of the first six symbols of an object.
+fn all_found(entries: &Entries<'_>, object: u32) -> [Option<Found>; 6]
+    requires { FitsObjects entries.now }
+{
+    [
+        look_up(entries, object, 0),
+        look_up(entries, object, 1),
+        look_up(entries, object, 2),
+        look_up(entries, object, 3),
+        look_up(entries, object, 4),
+        look_up(entries, object, 5),
+    ]
+}
+
+/// What is found of an object among these.
+fn looked_up<R: Threads + Sync>(
+    rt: &R,
+    alloc: Global,
+    objects: &[Object],
+    names: &Names,
+    object: u32,
+) -> Option<[Option<Found>; 6]>
+    requires inputs { InputsRise 0 objects.now }
+    requires numbers { AreNumbers Plain objects.now names.now }
+{
+    let workers = Workers::new(1)?;
+    let groups = group_winners(rt, alloc, objects, names, workers, &OpenGate).ok()?;
+    let table = EntryTable::new(alloc, objects, names, &groups).ok()?;
+    Some(all_found(&table.view(objects, names), object))
+}
+
+/// What is found of an object, by its place among these files.
+fn told<R: Threads + Sync>(
+    rt: &R,
+    alloc: Global,
+    files: &[&[u8]],
+    object: u32,
+) -> Option<[Option<Found>; 6]> {
+    let read = read(alloc, files)?;
+    let objects = read.as_slice();
+    if !inputs_rise(objects) {
+        return None;
+    }
+    let names = numbered(alloc, objects)?;
+    looked_up(rt, alloc, objects, &names, object)
+}
+
+/// A symbol's kind, import and whether it defines its name.
+const fn is(kind: Kind, field: Option<u8>, defines: bool) -> Option<Found> {
+    Some(Found {
+        kind,
+        field,
+        defines,
+    })
+}
+
+#[test]
+fn indexes_name_imports_and_then_definitions(rt: HostRuntime) {
+    let wanted = [
+        is(Kind::Function(0), Some(b'f'), false),
+        is(Kind::Function(1), Some(b'h'), false),
+        is(Kind::Function(1), None, true),
+        is(Kind::GlobalVar(true), Some(b'g'), false),
+        is(Kind::Untyped, Some(b'_'), false),
+        is(Kind::Untyped, None, false),
+    ];
+    assert!(rt; told(&rt, rt.alloc(), &[importing()], 0) == Some(wanted));
+}
+
+#[test]
+fn members_of_a_lost_group_define_nothing(rt: HostRuntime) {
+    let function = Kind::Function(0);
+    for (object, is_kept) in [(0u32, true), (1, false)] {
+        let wanted = [
+            is(function, None, is_kept),
+            is(function, None, true),
+            is(Kind::Untyped, None, is_kept),
+            is(Kind::Untyped, None, true),
+            None,
+            None,
+        ];
+        assert!(rt; told(&rt, rt.alloc(), &[grouped(), grouped()], object) == Some(wanted));
+    }
+}

@@ -1,0 +1,4 @@
+pub mod Rounds
+pub mod RoundLaws
+pub mod Inputs
+pub mod Rows

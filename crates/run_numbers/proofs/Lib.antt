@@ -1,0 +1,3 @@
+pub mod Blocks
+mod Rotate
+mod Spelling

@@ -1,0 +1,4 @@
+//! Opcodes that crates above name (Core 5.4).
+
+/// `global.get`.
+pub const GLOBAL_GET: u8 = 0x23;
