@@ -13,10 +13,9 @@ use image_emit::Source;
 use link_layout::Layout;
 use link_numbers::Numbering;
 use link_program::{
-    FunctionKey, Named, Symbol, Tables, chunk_kinds, chunk_number, function_meant, part_at, row_at,
-    symbol_at,
+    FunctionKey, Named, Symbol, Tables, chunk_number, function_meant, part_at, row_at, symbol_at,
 };
-use mark_bits::Chunk;
+use mark_bits::{Chunk, kinds as chunk_kinds};
 use std::alloc::Global;
 use wl_base::{OutOfMemory, Seq};
 

@@ -14,11 +14,10 @@ ghost use Rattle.link_image.specs.Sections.{constant, entry_of, cell_seen, conte
 
 use link_layout::Layout;
 use link_program::{
-    Content, Definition, FunctionKey, GlobalKey, GotKey, Tables, chunk_kinds, chunk_number,
-    function_of, part_at,
+    Content, Definition, FunctionKey, GlobalKey, GotKey, Tables, chunk_number, function_of, part_at,
 };
 use linking_section::SymbolKind;
-use mark_bits::Chunk;
+use mark_bits::{Chunk, kinds as chunk_kinds};
 use std::alloc::Global;
 use wasm_module::ModuleGlobal;
 use wasm_types::{ConstExpr, GlobalType, ValType};

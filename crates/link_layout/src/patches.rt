@@ -7,8 +7,8 @@ ghost use Rattle.link_layout.specs.Seen.{body_number, AreTargets, row_windows, b
 ghost use Rattle.link_layout.specs.Layout.{looked, AreThere};
 
 use crate::{Layout, Placed};
-use link_program::{FunctionKey, Tables, chunk_kinds, chunk_number, row_at};
-use mark_bits::{Chunk, ChunkTable};
+use link_program::{FunctionKey, Tables, chunk_number, row_at};
+use mark_bits::{Chunk, ChunkTable, kinds as chunk_kinds};
 use reloc_apply::{Patches, Window};
 use std::alloc::Global;
 use wl_base::{LayoutError, OutOfMemory};

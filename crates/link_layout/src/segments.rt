@@ -4,7 +4,8 @@ ghost use Rattle.std.specs.List.{list_all};
 ghost use Rattle.link_program.specs.image_emit.Bytes.{file_part};
 ghost use Rattle.link_layout.specs.Segments.{segment_numbers, align_of, shape_at, shape_by};
 
-use link_program::{Content, Named, Part, Tables, chunk_kinds, part_at, row_at};
+use link_program::{Content, Named, Part, Tables, part_at, row_at};
+use mark_bits::kinds as chunk_kinds;
 use memory_layout::SegmentShape;
 use std::alloc::Global;
 use wl_base::{FileSpan, OutOfMemory, Seq};

@@ -5,7 +5,7 @@ ghost use Rattle.link_program.specs.name_rules.Entries.{Entry};
 ghost use Rattle.link_program.specs.wl_base.Answers.{Answers};
 ghost use Rattle.link_program.specs.reloc_apply.Windows.{IsSum, patches_of};
 ghost use Rattle.link_program.specs.link_rules.Values as values;
-ghost use Rattle.link_program.specs.link_rules.Values.{asks, form_of, made_data};
+ghost use Rattle.link_program.specs.link_rules.Values.{asks, form_of, made_address, made_data};
 ghost use Rattle.link_program.specs.link_rules.Output.{layout, source_windows};
 ghost use Rattle.link_program.specs.Told.{told_definition};
 ghost use Rattle.link_program.specs.Seen.{NamesOne, no_symbol};
@@ -19,10 +19,11 @@ use crate::keys::global_named;
 use crate::patches::all_patches;
 use link_numbers::{Numbering, keys_are_told};
 use link_program::{
-    Definition, Lead, Named, Program, Symbol, chunk_kinds, chunk_number, function_meant, symbol_at,
+    Definition, Lead, Named, Program, Symbol, chunk_number, function_meant, symbol_at,
 };
 use linking_section::SymbolKind;
-use mark_bits::Chunk;
+use made_symbols::{Mode, Role, count, role};
+use mark_bits::{Chunk, kinds as chunk_kinds};
 use memory_layout::Places;
 use reloc_apply::{Form, Patches, Window};
 use reloc_section::kinds;
@@ -37,19 +38,35 @@ pub struct Layout<'a> {
     pub placed: &'a Placed,
 }
 
+/// The address of a linker-made datum, by what it stands for.
+fn address_by(places: &Places, role: Role) -> u32
+    ensures { result ≡ made_address places.now role }
+{
+    match role {
+        Role::HeapBase => places.heap_base,
+        Role::DataEnd => places.data_end,
+        Role::GlobalBase | Role::DsoHandle => places.base,
+        Role::StackLow => places.stack_low,
+        Role::StackHigh => places.stack_high,
+        Role::HeapEnd => (u64::from(places.pages) * 65_536).min(u64::from(u32::MAX)) as u32,
+        Role::CallCtors
+        | Role::ApplyDataRelocs
+        | Role::StackPointer
+        | Role::MemoryBase
+        | Role::TableBase
+        | Role::IndirectFunctionTable => 0,
+    }
+}
+
 /// The address of the linker-made datum of a number.
-#[tactic(auto, using(crate::proofs::MadeData::other))]
+#[tactic(auto, using(crate::proofs::MadeData::named, crate::proofs::MadeData::none))]
 fn made_address(places: &Places, number: u32) -> u32
     ensures { result ≡ slice_index_or (made_data places.now) number 0 }
 {
-    match number {
-        5 => places.heap_base,
-        6 => places.data_end,
-        7 | 8 => places.base,
-        9 => places.stack_low,
-        10 => places.stack_high,
-        11 => (u64::from(places.pages) * 65_536).min(u64::from(u32::MAX)) as u32,
-        _ => 0,
+    if number < count(Mode::Plain) {
+        address_by(places, role(Mode::Plain, number))
+    } else {
+        0
     }
 }
 

@@ -2,9 +2,9 @@
 ghost use Rattle.std.specs.Prelude.{◌≡◌, IfOk};
 ghost use Rattle.link_marks.specs.Seen.{defined_chunk, number_in, led_number, led_numbers};
 
-use link_program::{Definition, Lead, Symbol, chunk_kinds, chunk_number};
+use link_program::{Definition, Lead, Symbol, chunk_number};
 use linking_section::SymbolKind;
-use mark_bits::{Chunk, ChunkTable};
+use mark_bits::{Chunk, ChunkTable, kinds as chunk_kinds};
 use std::alloc::Global;
 use wl_base::OutOfMemory;
 

@@ -10,11 +10,10 @@ use crate::marks::Marks;
 use crate::{Code, function_code, global_code};
 use indexmap::IndexSet;
 use link_program::{
-    FunctionKey, GlobalKey, GotKey, ImportType, Program, Resolution, Tables, Winner, chunk_kinds,
-    part_at,
+    FunctionKey, GlobalKey, GotKey, ImportType, Program, Resolution, Tables, Winner, part_at,
 };
 use linking_section::SymbolKind;
-use mark_bits::Chunk;
+use mark_bits::{Chunk, kinds as chunk_kinds};
 use std::alloc::Global;
 use wl_base::OutOfMemory;
 

@@ -6,7 +6,8 @@ ghost use Rattle.link_numbers.specs.LiveRefs.{is_code};
 ghost use Rattle.link_numbers.specs.Noted.{noted, noted_part, noted_parts, nothing_noted};
 
 use crate::marks::Marks;
-use link_program::{Named, Symbol, Tables, chunk_kinds, part_at, row_at, symbol_at};
+use link_program::{Named, Symbol, Tables, part_at, row_at, symbol_at};
+use mark_bits::kinds as chunk_kinds;
 use std::alloc::Global;
 use wl_base::OutOfMemory;
 

@@ -11,9 +11,9 @@ use crate::firsts::At;
 use crate::lists::{flag_at, is_function_import, is_own};
 use crate::marks::Marks;
 use link_program::{
-    Content, Entries, FuncTypeRef, ImportType, Part, Program, Resolution, Tables, TypeRef,
-    chunk_kinds, part_at,
+    Content, Entries, FuncTypeRef, ImportType, Part, Program, Resolution, Tables, TypeRef, part_at,
 };
+use mark_bits::kinds as chunk_kinds;
 use std::alloc::Global;
 use std::marker::Model;
 use type_merge::TypeTable;

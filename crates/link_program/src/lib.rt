@@ -2,7 +2,6 @@
 #![tactic(auto)]
 
 mod asking;
-pub mod chunk_kinds;
 mod error;
 mod home;
 mod keys;

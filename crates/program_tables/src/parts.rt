@@ -12,10 +12,10 @@ ghost use Rattle.program_tables.specs.Gains.{Gains, AreGained, rank_of, AllBelow
 
 use crate::inits::init_calls;
 use crate::view::{Lookups, NO_SOURCE, ObjectView};
-use link_program::{Content, FunctionRef, GlobalDef, Named, Part, SegmentRef, chunk_kinds};
+use link_program::{Content, FunctionRef, GlobalDef, Named, Part, SegmentRef};
 use linking_section::SymbolKind;
 use made_symbols::{Mode, count, kind};
-use mark_bits::{Chunk, ChunkTable};
+use mark_bits::{Chunk, ChunkTable, kinds as chunk_kinds};
 use std::alloc::Global;
 use wl_base::{OutOfMemory, Seq};
 use wl_lists::{Lists, shrunk};
