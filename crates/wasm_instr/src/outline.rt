@@ -89,12 +89,12 @@ impl Instr {
 }
 
 /// Opens and closes the blocks of an instruction of this outline at this place. The list has, for
-/// each open block, whether it may still have an `else`, the outermost first. An `else` at a wrong
-/// place leaves it as it was.
+/// each open block, whether it may still have an `else`, the outermost first. Where it fails, by an
+/// `else` at a wrong place or for want of memory, the list is as before.
 #[inline(always)]
 pub fn outline_step(opens: &mut Seq<bool>, place: usize, outline: Outline) -> Result<(), ReadFault>
     ensures value { Gives (λ _. opens.new) result (stepped place (outline_step opens.old outline)) }
-    ensures refused { (stop : Stop) → result ≡ Err (Stopped stop) → opens.new ≡ opens.old }
+    ensures refused { (fault : ReadFault) → result ≡ Err fault → opens.new ≡ opens.old }
 {
     match outline {
         Outline::End => {
@@ -103,8 +103,8 @@ pub fn outline_step(opens: &mut Seq<bool>, place: usize, outline: Outline) -> Re
         }
         Outline::Else => match opens.as_slice().last() {
             Some(true) => {
-                opens.pop();
-                Ok(opens.push(false)?)
+                opens.set_last(false);
+                Ok(())
             }
             _ => Err(ReadFault::Stopped(Stop::Broken(place))),
         },

@@ -1,5 +1,5 @@
 //! A list that keeps its allocator, and that contracts see as the list of its items.
-ghost use Rattle.std.specs.Prelude.{◌≡◌, ◌++◌, ◌∷◌, ◌-◌, ◌<◌, ◌↔◌, ◌==◌, [], length, take, slice_get, slice_index_or, Some, IsSome, OnOk, OnErr, IfOk, option_copied};
+ghost use Rattle.std.specs.Prelude.{◌≡◌, ◌++◌, ◌∷◌, ◌-◌, ◌<◌, ◌↔◌, ◌==◌, [], length, take, slice_get, slice_set, slice_index_or, Some, IsSome, OnOk, OnErr, IfOk, option_copied};
 
 use crate::OutOfMemory;
 use std::alloc::Global;
@@ -104,6 +104,16 @@ impl<T: Drop> Seq<T> {
 }
 
 impl<T: Copy> Seq<T> {
+    /// Puts an item in place of the last one; an empty list stays as it is.
+    pub fn set_last(&mut self, item: T)
+        ensures { self.new ≡ slice_set self.old (length self.old - 1) item }
+    {
+        let len = self.items.len();
+        if len > 0 {
+            self.items[len - 1] = item;
+        }
+    }
+
     /// The list of these items.
     pub fn from_slice(alloc: Global, items: &[T]) -> Result<Self, OutOfMemory>
         ensures { IfOk result (λ list. list ≡ items.now) }
