@@ -17,7 +17,7 @@ use Rattle.link_program.specs.image_emit.declared.tree.Image.{Image}
 use Rattle.link_program.specs.image_emit.declared.measuring.Measured.{Measured}
 use Rattle.link_program.specs.image_emit.Bytes.{bytes_of, tree_of}
 use Rattle.link_program.specs.link_plan.declared.plan.Plan.{Plan}
-use Rattle.link_program.specs.name_rules.Entries.{Entry}
+use Rattle.link_program.specs.name_rules.Entries.{InputSymbol}
 use Rattle.link_program.specs.link_rules.Candidates.{candidates_of}
 use Rattle.link_program.specs.link_rules.Program.{Program, Part, program_of}
 use Rattle.link_program.specs.link_rules.Marks.{exported, is_exported_by, repeated_export, live, unresolved}
@@ -83,14 +83,14 @@ pub exports_are_winners : (p : Program) → All (Contains p.winners) (exported P
 unfolding exported
 exports_are_winners p = All-filter (is_exported_by p.plan) (Contains p.winners) p.winners (All-contains_itself p.winners)
 
-pub export_repeats : (p : Program) (es : List Entry) (e x : LinkError) → x ≡ e → Stops e (repeated_export Plain p es) → Fails x (exporting Plain p es)
+pub export_repeats : (p : Program) (es : List InputSymbol) (e x : LinkError) → x ≡ e → Stops e (repeated_export Plain p es) → Fails x (exporting Plain p es)
 export_repeats p es e x is stops = fails_by (exporting Plain p es) e x is (by e stops)
   where
     by : (e : LinkError) → Stops e (repeated_export Plain p es) → Fails e (exporting Plain p es)
     by (Refused f) stops = steps.repeats p es f stops
     by OutOfMemory stops = tt
 
-pub name_left_open : (p : Program) (es : List Entry) (e x : LinkError) → x ≡ e → repeated_export Plain p es ≡ None → Stops e (unresolved p (live p es))
+pub name_left_open : (p : Program) (es : List InputSymbol) (e x : LinkError) → x ≡ e → repeated_export Plain p es ≡ None → Stops e (unresolved p (live p es))
     → Fails x (exporting Plain p es)
 name_left_open p es e x is once stops = fails_by (exporting Plain p es) e x is (subst (Fails e) (sym (steps.exports p es once)) (by e stops))
   where
@@ -98,7 +98,7 @@ name_left_open p es e x is once stops = fails_by (exporting Plain p es) e x is (
     by (Refused f) stops = steps.left_open p es f stops
     by OutOfMemory stops = tt
 
-pub all_closed : (p : Program) (es : List Entry) → repeated_export Plain p es ≡ None → unresolved p (live p es) ≡ None
+pub all_closed : (p : Program) (es : List InputSymbol) → repeated_export Plain p es ≡ None → unresolved p (live p es) ≡ None
     → exporting Plain p es ≡ laid_out Plain p es (live p es)
 all_closed p es once closed = steps.exports p es once ∙ steps.closed p es closed
 
@@ -112,7 +112,7 @@ goes_on_chosen p r found same a = goes_on_found p r found (subst (Answers r) (sy
 
 -- ---- layout
 
-module _ (p : Program) (es : List Entry) (parts : List Part) where
+module _ (p : Program) (es : List InputSymbol) (parts : List Part) where
   -- nothing passes the memory's limits
   abbrev Fits : Type 0
   Fits = memory_overflow (rules_of Plain p.plan) (shapes p parts) ≡ None
@@ -156,7 +156,7 @@ module _ (p : Program) (es : List Entry) (parts : List Part) where
   unfolding layout
   goes_on_placed r fits none a = subst (Answers r) (sym (steps.placed p es parts fits none)) a
 
-pub layout_is : (p : Program) (parts : List Part) (es : List Entry) (d : LayoutData) (ns : List ℕ) → IsProgram Plain d.program p → PartsStand p → AreLive p ns parts → AllMeant parts
+pub layout_is : (p : Program) (parts : List Part) (es : List InputSymbol) (d : LayoutData) (ns : List ℕ) → IsProgram Plain d.program p → PartsStand p → AreLive p ns parts → AllMeant parts
     → IsNumbering d.program.names.now.names d.program.resolution.now.imports d.program.tables.now.types p parts d.numbering.now (numbers Plain p parts es) → IsPlaced p parts d.placed.now → IsLayout p parts es d
 layout_is p parts es d ns program stand live meant numbering placed =
     record { program = program; stand = stand; live = (ns, live); meant = meant; numbering = numbering; placed = placed }

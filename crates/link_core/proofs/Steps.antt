@@ -17,7 +17,7 @@ use Rattle.link_program.specs.image_emit.declared.tree.Image.{Image}
 use Rattle.link_program.specs.image_emit.Bytes.{bytes_of, tree_of}
 use Rattle.link_program.specs.image_emit.Filled.{tree_filled}
 use Rattle.link_program.specs.link_plan.declared.plan.Plan.{Plan}
-use Rattle.link_program.specs.name_rules.Entries.{Entry}
+use Rattle.link_program.specs.name_rules.Entries.{InputSymbol}
 use Rattle.link_program.specs.name_rules.Cases.{clash, duplicate}
 use Rattle.link_program.specs.link_rules.Candidates.{candidates_of}
 use Rattle.link_program.specs.link_rules.Program.{Program, Part, program_of}
@@ -90,23 +90,23 @@ named p e = named_by p (λ p. clash p.entries) (λ p. duplicate p.entries) (λ p
 
 -- ---- exports and marks
 
-pub repeats : (p : Program) (es : List Entry) (f : Fault) → repeated_export Plain p es ≡ Some f → exporting Plain p es ≡ Err f
+pub repeats : (p : Program) (es : List InputSymbol) (f : Fault) → repeated_export Plain p es ≡ Some f → exporting Plain p es ≡ Err f
 repeats p es f e = stop (repeated_export Plain p es) es (λ es. marked Plain p es) f e
 
-pub exports : (p : Program) (es : List Entry) → repeated_export Plain p es ≡ None → exporting Plain p es ≡ marked Plain p es
+pub exports : (p : Program) (es : List InputSymbol) → repeated_export Plain p es ≡ None → exporting Plain p es ≡ marked Plain p es
 exports p es e = step (repeated_export Plain p es) es (λ es. marked Plain p es) e
 
 no_pic : (parts : List Part) → pic_fault Plain parts ≡ None
 unfolding pic_fault
 no_pic parts = refl
 
-pub left_open : (p : Program) (es : List Entry) (f : Fault) → unresolved p (live p es) ≡ Some f → marked Plain p es ≡ Err f
+pub left_open : (p : Program) (es : List InputSymbol) (f : Fault) → unresolved p (live p es) ≡ Some f → marked Plain p es ≡ Err f
 unfolding marked
 left_open p es f e =
     step (pic_fault Plain (live p es)) (live p es) (λ parts. unless (unresolved p parts) parts >>= λ parts. laid_out Plain p es parts) (no_pic (live p es))
     ∙ stop (unresolved p (live p es)) (live p es) (λ parts. laid_out Plain p es parts) f e
 
-pub closed : (p : Program) (es : List Entry) → unresolved p (live p es) ≡ None → marked Plain p es ≡ laid_out Plain p es (live p es)
+pub closed : (p : Program) (es : List InputSymbol) → unresolved p (live p es) ≡ None → marked Plain p es ≡ laid_out Plain p es (live p es)
 unfolding marked
 closed p es e =
     step (pic_fault Plain (live p es)) (live p es) (λ parts. unless (unresolved p parts) parts >>= λ parts. laid_out Plain p es parts) (no_pic (live p es))
@@ -114,7 +114,7 @@ closed p es e =
 
 -- ---- layout
 
-module _ (p : Program) (es : List Entry) (parts : List Part) where
+module _ (p : Program) (es : List InputSymbol) (parts : List Part) where
   abbrev l : Layout
   l = layout Plain p parts es
 

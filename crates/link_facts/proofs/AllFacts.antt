@@ -19,7 +19,7 @@ use Rattle.link_plan.specs.declared.plan.Plan.{Plan}
 use Rattle.made_symbols.specs.Made.{made}
 use Rattle.made_symbols.specs.declared.mode.Mode.TheVariants.{Plain}
 use Rattle.mark_bits.specs.declared.chunk.Chunk.{Chunk}
-use Rattle.name_rules.specs.Entries.{Entry, is_kind, entry_in, entries, in_kept_part, index_in}
+use Rattle.name_rules.specs.Entries.{InputSymbol, is_kind, entry_in, entries, in_kept_part, index_in}
 use Rattle.name_rules.specs.Meanings.{Resolved, resolved_in, no_uses}
 use Rattle.name_rules.specs.Cases.{clash}
 use Rattle.link_rules.specs.Program.{Program, program_of, Part, Ref, parts_of, made_parts_from, init_calls, segment_part, chunk_at, span_in}
@@ -133,18 +133,18 @@ module _ (sound_law : SoundLaw) (bodies_law : BodiesLaw) (stand_law : LoadedPart
       datum Section e z = absurd (omega (arith, z))
       datum Table e z = absurd (omega (arith, z))
 
-  inside_by : (e : Entry) (x : OfObject objects e) → e.defines ≡ true → is_kind Datum e ≡ true → (part : Part) → part.chunk ≡ chunk_at e.input 1 e.index → Stood all objects (res x.object) part
+  inside_by : (e : InputSymbol) (x : OfObject objects e) → e.defines ≡ true → is_kind Datum e ≡ true → (part : Part) → part.chunk ≡ chunk_at e.input 1 e.index → Stood all objects (res x.object) part
       → e.symbol.offset ≤ part.source.span.len
   inside_by e x d t part c (as_function k f at q) = absurd (let a : part.chunk.kind ≡ 0 = ap (λ (y : Part). y.chunk.kind) q in let b : part.chunk.kind ≡ 1 = ap (λ (y : Chunk). y.kind) c in omega (arith, a, b))
   inside_by e x d t part c (as_global k g at q) = absurd (let a : part.chunk.kind ≡ 2 = ap (λ (y : Part). y.chunk.kind) q in let b : part.chunk.kind ≡ 1 = ap (λ (y : Chunk). y.kind) c in omega (arith, a, b))
   inside_by e x d t part c (as_segment k g at q) =
       let o = x.object in
       let s = x.symbol.symbol in
-      let kd : kind_code s.kind ≡ 1 = ap (λ (w : Entry). kind_code w.symbol.kind) (sym x.symbol.is) ∙ eqb-true (kind_code e.symbol.kind) 1 t in
-      let df = and_parts (not (is_undefined s)) (in_kept_part objects o s s.kind) (ap (λ (w : Entry). w.defines) (sym x.symbol.is) ∙ d) in
-      let ix : k ≡ s.index = sym (ap (λ (y : Part). y.chunk.index) q) ∙ ap (λ (y : Chunk). y.index) c ∙ ap (λ (w : Entry). w.index) x.symbol.is ∙ index_is o s s.kind x.symbol.place refl kd in
+      let kd : kind_code s.kind ≡ 1 = ap (λ (w : InputSymbol). kind_code w.symbol.kind) (sym x.symbol.is) ∙ eqb-true (kind_code e.symbol.kind) 1 t in
+      let df = and_parts (not (is_undefined s)) (in_kept_part objects o s s.kind) (ap (λ (w : InputSymbol). w.defines) (sym x.symbol.is) ∙ d) in
+      let ix : k ≡ s.index = sym (ap (λ (y : Part). y.chunk.index) q) ∙ ap (λ (y : Chunk). y.index) c ∙ ap (λ (w : InputSymbol). w.index) x.symbol.is ∙ index_is o s s.kind x.symbol.place refl kd in
       let l : s.offset ≤ g.span.len = ends o x.there s s.kind refl kd (all_has (λ w. NamesInRange o w w.kind) o.symbols (object_sound o x.there).symbols s (has_at o.symbols x.symbol.place s x.symbol.there)) (is_not (is_undefined s) df.0) g (ap (slice_get o.segments) (sym ix) ∙ at) in
-      let a : e.symbol.offset ≡ s.offset = ap (λ (w : Entry). w.symbol.offset) x.symbol.is in
+      let a : e.symbol.offset ≡ s.offset = ap (λ (w : InputSymbol). w.symbol.offset) x.symbol.is in
       let b : part.source.span.len ≡ g.span.len = ap (λ (y : Part). y.source.span.len) q ∙ len_is o x.there k g in
       omega (arith, a, b, l)
     where
@@ -152,11 +152,11 @@ module _ (sound_law : SoundLaw) (bodies_law : BodiesLaw) (stand_law : LoadedPart
       is_not true h = absurd (grind arith)
       is_not false h = refl
 
-  inside : (e : Entry) → Known objects e × (e.defines ≡ true) → is_kind Datum e ≡ true → (e.input ≡ 0 → ⊥) → (part : Part) → Has p.parts part → part.chunk ≡ chunk_at e.input 1 e.index
+  inside : (e : InputSymbol) → Known objects e × (e.defines ≡ true) → is_kind Datum e ≡ true → (e.input ≡ 0 → ⊥) → (part : Part) → Has p.parts part → part.chunk ≡ chunk_at e.input 1 e.index
       → e.symbol.offset ≤ part.source.span.len
-  inside e (inl m, d) t n part h c = absurd (n (ap (λ (w : Entry). w.input) m.is))
+  inside e (inl m, d) t n part h c = absurd (n (ap (λ (w : InputSymbol). w.input) m.is))
   inside e (inr x, d) t n part h c =
-      inside_by e x d t part c (of_object x.object x.there part h (ap (λ (y : Chunk). y.input) c ∙ ap (λ (w : Entry). w.input) x.symbol.is))
+      inside_by e x d t part c (of_object x.object x.there part h (ap (λ (y : Chunk). y.input) c ∙ ap (λ (w : InputSymbol). w.input) x.symbol.is))
 
   facts : clash p.entries ≡ None → Facts p (exported Plain p)
   facts clear' =

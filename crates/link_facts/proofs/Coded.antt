@@ -18,7 +18,7 @@ use Rattle.object_file.specs.Bodies.{IsOperandOf, AreOperandsOf, BodyStands}
 use Rattle.object_file.specs.Sound.{Sound as ObjectSound, OperandNames, IsNamedBy, is_code_type}
 use Rattle.round_rules.specs.Rounds.{Candidate}
 use Rattle.made_symbols.specs.declared.mode.Mode.TheVariants.{Plain}
-use Rattle.name_rules.specs.Entries.{Entry, entry_in, entries_from, symbols_of, entries}
+use Rattle.name_rules.specs.Entries.{InputSymbol, entry_in, entries_from, symbols_of, entries}
 use Rattle.name_rules.specs.Meanings.{Meaning, Resolved, resolved_in, meaning, no_uses}
 use Rattle.link_rules.specs.Program.{Program, Ref, Named, a_symbol, ref_to, ref_in, operand_named, function_part, span_in}
 use Rattle.image_emit.specs.Bytes.{file_part}
@@ -28,7 +28,7 @@ use Rattle.output_module.specs.Outputs.{IsCoded}
 use Rattle.link_facts.specs.Facts.{IsFrom, bytes_of}
 use Rattle.link_facts.proofs.Bytes.{part_in}
 
-named_listed : (objects : List Object) (o : Object) (place : ℕ) (ss : List Symbol) (k : ℕ) (s : Symbol) → slice_get ss k ≡ Some s → (e : Entry) × (slice_get (entries_from objects o place ss) k ≡ Some e)
+named_listed : (objects : List Object) (o : Object) (place : ℕ) (ss : List Symbol) (k : ℕ) (s : Symbol) → slice_get ss k ≡ Some s → (e : InputSymbol) × (slice_get (entries_from objects o place ss) k ≡ Some e)
 named_listed objects o place [] k s h = absurd (grind arith)
 named_listed objects o place (y ∷ ys) zero s h = (entry_in objects o place y, refl)
 named_listed objects o place (y ∷ ys) (suc k) s h = named_listed objects o (place + 1) ys k s h
@@ -37,10 +37,10 @@ module _ (allow : Bool) (objects : List Object) (o : Object) where
   abbrev res : Resolved
   res = resolved_in Plain no_uses allow (entries Plain objects) objects o
 
-  abbrev mean : Entry → Meaning
+  abbrev mean : InputSymbol → Meaning
   mean = meaning Plain no_uses allow (entries Plain objects)
 
-  named_there : (kind symbol : ℕ) (x : Option Symbol) → slice_get o.symbols symbol ≡ x → IsNamedBy kind x → (e : Entry) × (slice_get (symbols_of objects o) symbol ≡ Some e)
+  named_there : (kind symbol : ℕ) (x : Option Symbol) → slice_get o.symbols symbol ≡ x → IsNamedBy kind x → (e : InputSymbol) × (slice_get (symbols_of objects o) symbol ≡ Some e)
   named_there kind symbol None q n = absurd n
   named_there kind symbol (Some s) q n = named_listed objects o 0 o.symbols symbol s q
 

@@ -18,7 +18,7 @@ use Rattle.object_file.specs.Spaces.{function_imports, global_imports, function_
 use Rattle.object_file.specs.Sound.{Sound as ObjectSound, NamesInRange}
 use Rattle.round_rules.specs.Rounds.{Candidate}
 use Rattle.name_entries.specs.View.{InputsRise}
-use Rattle.name_rules.specs.Entries.{Entry, entry_in, made_entry, is_kept, in_kept_part, index_in}
+use Rattle.name_rules.specs.Entries.{InputSymbol, entry_in, made_entry, is_kept, in_kept_part, index_in}
 use Rattle.name_rules.specs.Meanings.{Resolved}
 use Rattle.mark_bits.specs.declared.chunk.Chunk.{Chunk}
 use Rattle.link_rules.specs.Program.{Part, Ref, a_symbol, linker_made, no_source, indexed, option_onto, function_part, segment_part, global_part, is_part_kept, parts_in, made_kind, made_part, made_parts_from, chunk_at, chunk_of, chunk_by}
@@ -300,7 +300,7 @@ module _ (all : List Candidate) (objects : List Object) (res : Object → Resolv
 
   symbol_kept : (o : Object) → Has objects o → (s : Symbol) (place : ℕ) (c : Chunk) (kind : SymbolKind) → NamesInRange o s kind → is_undefined s ≡ false → in_kept_part objects o s kind ≡ true
       → (i : ℕ) → ((kind ≡ Function → i ≡ function_place o s.index) × (kind ≡ Datum → i ≡ s.index) × (kind ≡ GlobalVar → i ≡ global_place o s.index))
-      → (e : Entry) → e.input ≡ o.input → e.index ≡ i → chunk_by e kind ≡ Some c → PartOf all_parts c
+      → (e : InputSymbol) → e.input ≡ o.input → e.index ≡ i → chunk_by e kind ≡ Some c → PartOf all_parts c
   symbol_kept o ho s place c Function n u t i is e ei ej h =
       let b = behind (length (function_imports o)) (length o.functions) s.index (is_undefined s) n.0 n.1 u in
       let f = there_is o.functions (function_place o s.index) b.0 in
@@ -329,12 +329,12 @@ module _ (all : List Candidate) (objects : List Object) (res : Object → Resolv
   symbol_kept o ho s place c Section n u t i is e ei ej h = absurd (grind arith)
   symbol_kept o ho s place c Table n u t i is e ei ej h = absurd (grind arith)
 
-  pub known_kept : InputsRise 0 objects → ((o : Object) → Has objects o → (size : ℕ) × ObjectSound size o) → (e : Entry) → Known objects e → e.defines ≡ true → (c : Chunk) → chunk_of e ≡ Some c → PartOf all_parts c
+  pub known_kept : InputsRise 0 objects → ((o : Object) → Has objects o → (size : ℕ) × ObjectSound size o) → (e : InputSymbol) → Known objects e → e.defines ≡ true → (c : Chunk) → chunk_of e ≡ Some c → PartOf all_parts c
   known_kept rise sound e (inl x) d c h = made_kept x.symbol x.place c x.symbol.kind refl x.there (ap chunk_of (sym x.is) ∙ h)
   known_kept rise sound e (inr x) d c h =
       let o = x.object in
       let s = x.symbol.symbol in
-      let q = and_parts (not (is_undefined s)) (in_kept_part objects o s s.kind) (ap (λ (y : Entry). y.defines) (sym x.symbol.is) ∙ d) in
+      let q = and_parts (not (is_undefined s)) (in_kept_part objects o s s.kind) (ap (λ (y : InputSymbol). y.defines) (sym x.symbol.is) ∙ d) in
       symbol_kept o x.there s x.symbol.place c s.kind
       (all_has (λ w. NamesInRange o w w.kind) o.symbols (sound o x.there).1.symbols s (has_at o.symbols x.symbol.place s x.symbol.there))
       (is_not (is_undefined s) q.0) q.1 (entry_in objects o x.symbol.place s).index (λ k. ap (index_in o s) k, λ k. ap (index_in o s) k, λ k. ap (index_in o s) k)

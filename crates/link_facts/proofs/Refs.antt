@@ -17,7 +17,7 @@ use Rattle.object_rules.specs.Metadata.{is_function_kind}
 use Rattle.object_file.specs.declared.object.Object.{Object}
 use Rattle.object_file.specs.Sound.{Sound as ObjectSound, OperandNames, WindowNames, IsNamedBy, IsInit, is_data_type}
 use Rattle.made_symbols.specs.declared.mode.Mode.TheVariants.{Plain}
-use Rattle.name_rules.specs.Entries.{Entry, entry_in, symbols_of, entries}
+use Rattle.name_rules.specs.Entries.{InputSymbol, entry_in, symbols_of, entries}
 use Rattle.name_rules.specs.Meanings.{Meaning, Resolved, resolved_in, meaning, no_uses}
 use Rattle.link_rules.specs.Program.{Part, Ref, refs, Named, a_symbol, a_type, named_ref, ref_to, ref_in, operand_named, window_named, InitCall, init_call, init_calls_in, init_calls, insert_call, by_priority, is_skipped}
 use Rattle.link_facts.proofs.Symbols.{symbol_at}
@@ -42,13 +42,13 @@ module _ (allow : Bool) (objects : List Object) (o : Object) where
   abbrev res : Resolved
   res = resolved_in Plain no_uses allow (entries Plain objects) objects o
 
-  abbrev mean : Entry → Meaning
+  abbrev mean : InputSymbol → Meaning
   mean = meaning Plain no_uses allow (entries Plain objects)
 
   ref_is : (place kind symbol : ℕ) (addend : ℤ) (ref : Ref) → ref_in res place kind symbol addend ≡ Some ref → IsRef allow objects o kind symbol ref
   ref_is place kind symbol addend ref h = by_entry (slice_get (symbols_of objects o) symbol) refl (subst (λ m. ref_to place kind addend (slice_get (symbols_of objects o) symbol) m ≡ Some ref) (slice_get-map mean (symbols_of objects o) symbol) h)
     where
-      by_entry : (x : Option Entry) → slice_get (symbols_of objects o) symbol ≡ x → ref_to place kind addend x (option_map mean x) ≡ Some ref → IsRef allow objects o kind symbol ref
+      by_entry : (x : Option InputSymbol) → slice_get (symbols_of objects o) symbol ≡ x → ref_to place kind addend x (option_map mean x) ≡ Some ref → IsRef allow objects o kind symbol ref
       by_entry None q h = absurd (grind arith)
       by_entry (Some e) q h =
           let r = some_is (record { place = place; kind = kind; addend = addend; entry = e; meaning = mean e }) ref h in

@@ -7,7 +7,7 @@ use Rattle.std.proofs.lemmas.Bool.{and_parts, eqb-true}
 use Rattle.list_places.specs.Has.{Has}
 use Rattle.list_places.proofs.Lists.{has_either, has_filter, all_has}
 use Rattle.made_symbols.specs.declared.mode.Mode.TheVariants.{Plain}
-use Rattle.name_rules.specs.Entries.{Entry}
+use Rattle.name_rules.specs.Entries.{InputSymbol}
 use Rattle.memory_layout.specs.Memory.{address_after, end_after, last_end, places, placed, solid, base_of, pages}
 use Rattle.memory_layout.specs.Order.{starts, of_those, reordered}
 use Rattle.memory_layout.proofs.Order.{in_order, address_reaches}
@@ -49,7 +49,7 @@ part_long p part s =
     min_is : (a b : ℕ) → a ≤ b → min a b ≡ a
     min_is a b h = omega (arith, h)
 
-module _ (p : Program) (exports : List Entry) (sound : Sound p) (m : Measured p exports) where
+module _ (p : Program) (exports : List InputSymbol) (sound : Sound p) (m : Measured p exports) where
   abbrev addr : Part → ℕ
   addr part = segment_address (layout Plain p (live p exports) exports) part.chunk
 

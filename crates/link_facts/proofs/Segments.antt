@@ -8,7 +8,7 @@ use Rattle.list_places.specs.Has.{Has, Apart}
 use Rattle.list_places.proofs.Lists.{at_has, apart_map, apart_filter}
 use Rattle.wl_base.specs.Choice.{first_some, given}
 use Rattle.made_symbols.specs.declared.mode.Mode.TheVariants.{Plain}
-use Rattle.name_rules.specs.Entries.{Entry}
+use Rattle.name_rules.specs.Entries.{InputSymbol}
 use Rattle.mark_bits.specs.declared.chunk.Chunk.{Chunk}
 use Rattle.memory_layout.specs.declared.rules.MemoryRules.{MemoryRules}
 use Rattle.memory_layout.specs.declared.rules.SegmentShape.{SegmentShape}
@@ -48,7 +48,7 @@ second_none (Some x) b c h = absurd (grind arith)
 second_none None None c h = refl
 second_none None (Some x) c h = absurd (grind arith)
 
-module _ (p : Program) (exports : List Entry) (sound : Sound p) where
+module _ (p : Program) (exports : List InputSymbol) (sound : Sound p) where
   abbrev pub parts : List Part
   parts = live p exports
 

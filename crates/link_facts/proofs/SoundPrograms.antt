@@ -18,7 +18,7 @@ use Rattle.round_rules.specs.Rounds.{Candidate}
 use Rattle.link_plan.specs.declared.plan.Plan.{Plan}
 use Rattle.made_symbols.specs.declared.mode.Mode.TheVariants.{Plain}
 use Rattle.mark_bits.specs.declared.chunk.Chunk.{Chunk}
-use Rattle.name_rules.specs.Entries.{Entry, ImportKey, is_kind, is_entry, name_of, named, symbols_of, entries, type_in, import_in, key_of, is_named, same_import}
+use Rattle.name_rules.specs.Entries.{InputSymbol, ImportKey, is_kind, is_entry, name_of, named, symbols_of, entries, type_in, import_in, key_of, is_named, same_import}
 use Rattle.name_rules.specs.Meanings.{Meaning, here, imported, null, nothing, Resolved, resolved_in, resolve, meaning, no_uses, may_be_null, winner}
 use Rattle.name_rules.specs.Cases.{clash}
 use Rattle.link_rules.specs.Program.{Program, program_of, Part, Ref, refs, a_symbol, function_part, segment_part, parts_of, operand_named, window_named, init_calls, init_calls_in, chunk_of, winners_of, is_winner, is_that}
@@ -42,7 +42,7 @@ module _ (plan : Plan) (files : List (List ℕ)) (all : List Candidate) (objects
   abbrev p : Program
   p = program_of Plain plan files all objects
 
-  abbrev es : List Entry
+  abbrev es : List InputSymbol
   es = entries Plain objects
 
   abbrev res : Object → Resolved
@@ -68,17 +68,17 @@ module _ (plan : Plan) (files : List (List ℕ)) (all : List Candidate) (objects
 
   -- ---- definitions
 
-  known_made : (e : Entry) → Known objects e → e.input ≡ 0 → e.index ≡ e.place
-  known_made e (inl x) z = ap (λ (w : Entry). w.index) x.is ∙ sym (ap (λ (w : Entry). w.place) x.is)
-  known_made e (inr x) z = absurd (positive objects loaded.rise x.object x.there (sym (ap (λ (w : Entry). w.input) x.symbol.is) ∙ z))
+  known_made : (e : InputSymbol) → Known objects e → e.input ≡ 0 → e.index ≡ e.place
+  known_made e (inl x) z = ap (λ (w : InputSymbol). w.index) x.is ∙ sym (ap (λ (w : InputSymbol). w.place) x.is)
+  known_made e (inr x) z = absurd (positive objects loaded.rise x.object x.there (sym (ap (λ (w : InputSymbol). w.input) x.symbol.is) ∙ z))
 
-  kept : (e : Entry) → Known objects e → e.defines ≡ true → (c : Chunk) → chunk_of e ≡ Some c → PartOf p.parts c
+  kept : (e : InputSymbol) → Known objects e → e.defines ≡ true → (c : Chunk) → chunk_of e ≡ Some c → PartOf p.parts c
   unfolding parts_of
   kept e k d c h = subst (λ xs. PartOf xs c) (sym parts_are) (known_kept all objects res (λ o. refl) (init_calls rs) loaded.rise loaded.each e k d c h)
 
   -- ---- references
 
-  meaning_listed : (o : Object) → Has objects o → (e : Entry) (k : ImportKey) → Has (symbols_of objects o) e → meaning Plain no_uses plan.allow_undefined es e ≡ imported k → Has (imports_in_order p) k
+  meaning_listed : (o : Object) → Has objects o → (e : InputSymbol) (k : ImportKey) → Has (symbols_of objects o) e → meaning Plain no_uses plan.allow_undefined es e ≡ imported k → Has (imports_in_order p) k
   unfolding imports_in_order
   meaning_listed o ho e k he m =
       let listed : Has (flat_map (λ (r : Resolved). r.meanings) p.resolved) (imported k)
@@ -91,19 +91,19 @@ module _ (plan : Plan) (files : List (List ℕ)) (all : List Candidate) (objects
   type_kind : (o : Object) (s : Symbol) (kind : SymbolKind) → s.kind ≡ kind → type_in o s s.kind ≡ type_in o s kind
   type_kind o s kind h = ap (type_in o s) h
 
-  import_type : (r : Entry) → Known objects r → (k : ImportKey) → r.import ≡ Some k → (kind : SymbolKind) → r.symbol.kind ≡ kind → (kind ≡ Function → is_function_type k.type ≡ true) × (kind ≡ GlobalVar → is_global_type k.type ≡ true)
-  import_type r (inl x) k h kind e = absurd (let q : None ≡ Some k = sym (ap (λ (w : Entry). w.import) x.is) ∙ h in grind arith)
+  import_type : (r : InputSymbol) → Known objects r → (k : ImportKey) → r.import ≡ Some k → (kind : SymbolKind) → r.symbol.kind ≡ kind → (kind ≡ Function → is_function_type k.type ≡ true) × (kind ≡ GlobalVar → is_global_type k.type ≡ true)
+  import_type r (inl x) k h kind e = absurd (let q : None ≡ Some k = sym (ap (λ (w : InputSymbol). w.import) x.is) ∙ h in grind arith)
   import_type r (inr x) k h kind e =
       let o = x.object in
       let s = x.symbol.symbol in
-      let q = import_some (key_of (type_in o s s.kind)) (import_in o s s.kind) k (sym (ap (λ (w : Entry). w.import) x.symbol.is) ∙ h) in
+      let q = import_some (key_of (type_in o s s.kind)) (import_in o s s.kind) k (sym (ap (λ (w : InputSymbol). w.import) x.symbol.is) ∙ h) in
       let t : k.type ≡ type_in o s s.kind = sym (ap (λ (w : ImportKey). w.type) q.1) in
-      let sk : s.kind ≡ kind = sym (ap (λ (w : Entry). w.symbol.kind) x.symbol.is) ∙ e in
+      let sk : s.kind ≡ kind = sym (ap (λ (w : InputSymbol). w.symbol.kind) x.symbol.is) ∙ e in
       (λ f. ap is_function_type (t ∙ type_kind o s Function (sk ∙ f)), λ g. ap is_global_type (t ∙ type_kind o s GlobalVar (sk ∙ g)))
 
   module _ (o : Object) (ho : Has objects o) (ref : Ref) (n : Names plan.allow_undefined objects o ref) where
     e_kind : ref.entry.symbol.kind ≡ n.is.symbol.kind
-    e_kind = ap (λ (w : Entry). w.symbol.kind) n.is.entry
+    e_kind = ap (λ (w : InputSymbol). w.symbol.kind) n.is.entry
 
     is_call : ref.kind ≡ 0 → ref.entry.symbol.kind ≡ Function
     is_call z = e_kind ∙ n.function (sym n.is.kind_is ∙ z)
@@ -117,10 +117,10 @@ module _ (plan : Plan) (files : List (List ℕ)) (all : List Candidate) (objects
     listed : is_entry ref.entry ≡ true → Has es ref.entry
     listed t = symbol_listed objects o ref.entry ho n.is.listed t
 
-    in_all : (d : Entry) → Has (named es (name_of ref.entry)) d → Has es d
+    in_all : (d : InputSymbol) → Has (named es (name_of ref.entry)) d → Has es d
     in_all d h = (has_filter (is_named (name_of ref.entry)) es d h).0
 
-    definition : (d : Entry) → Known objects d → d.defines ≡ true → d.symbol.kind ≡ ref.entry.symbol.kind → SoundHere p ref d
+    definition : (d : InputSymbol) → Known objects d → d.defines ≡ true → d.symbol.kind ≡ ref.entry.symbol.kind → SoundHere p ref d
     definition d k t s = record { made = known_made d k; function = λ z. s ∙ is_call z; global = λ z g. s ∙ is_global g; kept = kept d k t }
 
     null_no_global : may_be_null ref.entry ≡ true → is_kind GlobalVar ref.entry ≡ true → ⊥
@@ -131,9 +131,9 @@ module _ (plan : Plan) (files : List (List ℕ)) (all : List Candidate) (objects
 
     pub meant : (m : Meaning) → meaning Plain no_uses plan.allow_undefined es ref.entry ≡ m → Means es ref.entry m → SoundMeaning p ref m
     meant (here d) q (inl x) = let h = in_all d x.1.0 in definition d (entry_known objects d h) x.1.1 (one_kind es d ref.entry clear (listed x.0) x.1.0)
-    meant (here d) q (inr (inl x)) = let z : d ≡ ref.entry = here_is d ref.entry x.0 in definition d (subst (Known objects) (sym z) entry_is_known) (ap (λ (w : Entry). w.defines) z ∙ x.1) (ap (λ (w : Entry). w.symbol.kind) z)
+    meant (here d) q (inr (inl x)) = let z : d ≡ ref.entry = here_is d ref.entry x.0 in definition d (subst (Known objects) (sym z) entry_is_known) (ap (λ (w : InputSymbol). w.defines) z ∙ x.1) (ap (λ (w : InputSymbol). w.symbol.kind) z)
       where
-        here_is : (a b : Entry) → here a ≡ here b → a ≡ b
+        here_is : (a b : InputSymbol) → here a ≡ here b → a ≡ b
         here_is a b h = grind arith
     meant (here d) q (inr (inr x)) = absurd (grind arith)
     meant (imported k) q (inl x) =
@@ -162,7 +162,7 @@ module _ (plan : Plan) (files : List (List ℕ)) (all : List Candidate) (objects
     }
 
     -- what it means, where it is a definition, is known
-    pub means_known : (m : Meaning) (e : Entry) → Means es ref.entry m → meant_entry m ≡ Some e → Known objects e × (e.defines ≡ true)
+    pub means_known : (m : Meaning) (e : InputSymbol) → Means es ref.entry m → meant_entry m ≡ Some e → Known objects e × (e.defines ≡ true)
     means_known (here d) e (inl x) h = subst (λ w. Known objects w × (w.defines ≡ true)) (some_is d e h) (entry_known objects d (in_all d x.1.0), x.1.1)
     means_known (here d) e (inr (inl x)) h = let z : ref.entry ≡ d = let w = x.0 in grind arith in subst (λ w. Known objects w × (w.defines ≡ true)) (z ∙ some_is d e h) (entry_is_known, x.1)
     means_known (here d) e (inr (inr x)) h = absurd (grind arith)
@@ -224,7 +224,7 @@ module _ (plan : Plan) (files : List (List ℕ)) (all : List Candidate) (objects
       ⊎_elim (λ m. in_made part ref m r) (λ b. in_object b.0 b.1 part ref (stood all objects (res b.0) part b.2) r)
       (made_or_object all objects res (λ o. refl) (init_calls rs) part (subst (λ xs. Has xs part) parts_are h))
 
-  pub meant_known : (e : Entry) → Has (meant_entries p) e → Known objects e × (e.defines ≡ true)
+  pub meant_known : (e : InputSymbol) → Has (meant_entries p) e → Known objects e × (e.defines ≡ true)
   meant_known e h =
       let q = has_pick (λ (ref : Ref). meant_entry ref.meaning) (refs_of p.parts) e h in
       let f = has_flat refs p.parts q.0 q.1 in
@@ -241,22 +241,22 @@ module _ (plan : Plan) (files : List (List ℕ)) (all : List Candidate) (objects
 
   -- ---- exports
 
-  winner_is : (e : Entry) → Has (winners_of es) e → Has es e × (e.defines ≡ true)
+  winner_is : (e : InputSymbol) → Has (winners_of es) e → Has es e × (e.defines ≡ true)
   unfolding winners_of
   winner_is e h = let f = has_filter (is_winner es) es e h in (f.0, by_winner (winner es (name_of e)) refl f.0 f.1)
     where
-      by_winner : (o : Option Entry) → winner es (name_of e) ≡ o → Has es e → is_that e o ≡ true → e.defines ≡ true
+      by_winner : (o : Option InputSymbol) → winner es (name_of e) ≡ o → Has es e → is_that e o ≡ true → e.defines ≡ true
       by_winner None q he t = absurd (grind arith)
       by_winner (Some w) q he t =
           let z = winner_has es (name_of e) w q in
           let same = one_entry objects loaded.rise e w (entry_known objects e he) (entry_known objects w z.0) t in
-          ap (λ (x : Entry). x.defines) same ∙ z.1
+          ap (λ (x : InputSymbol). x.defines) same ∙ z.1
 
   winners_are : p.winners ≡ winners_of es
   unfolding program_of
   winners_are = refl
 
-  pub export_is : (e : Entry) → Has (exported Plain p) e → Has es e × (e.defines ≡ true)
+  pub export_is : (e : InputSymbol) → Has (exported Plain p) e → Has es e × (e.defines ≡ true)
   unfolding exported
   export_is e h = winner_is e (subst (λ ws. Has ws e) winners_are (has_filter (is_exported_by p.plan) p.winners e h).0)
 

@@ -9,7 +9,7 @@ use Rattle.linking_section.specs.declared.symbol.SymbolKind.{SymbolKind}
 use Rattle.linking_section.specs.declared.symbol.SymbolKind.TheVariants.{Function, Datum, GlobalVar, Section, Table}
 use Rattle.linking_section.specs.Flags.{kind_code}
 use Rattle.made_symbols.specs.declared.mode.Mode.TheVariants.{Plain}
-use Rattle.name_rules.specs.Entries.{Entry, is_kind}
+use Rattle.name_rules.specs.Entries.{InputSymbol, is_kind}
 use Rattle.name_rules.specs.Meanings.{Meaning, here, imported, null, nothing}
 use Rattle.mark_bits.specs.declared.chunk.Chunk.{Chunk}
 use Rattle.live_mark.specs.Live.{ReachedLaw}
@@ -40,7 +40,7 @@ number_low : (test : FunctionKey → Bool) (xs : List FunctionKey) (o : Option �
 number_low test xs None e = omega arith
 number_low test xs (Some k) e = let s = stands test xs k e in let l : k < length xs = below xs k s.item s.there in omega (arith, l)
 
-module _ (law : ReachedLaw) (p : Program) (exports : List Entry) (sound : Sound p) (named : SoundExports p exports) (m : Measured p exports) (n : NoFault p exports (layout_of p exports)) where
+module _ (law : ReachedLaw) (p : Program) (exports : List InputSymbol) (sound : Sound p) (named : SoundExports p exports) (m : Measured p exports) (n : NoFault p exports (layout_of p exports)) where
   abbrev parts : List Part
   parts = live p exports
 
@@ -121,7 +121,7 @@ module _ (law : ReachedLaw) (p : Program) (exports : List Entry) (sound : Sound 
   data_small x h = small_in x h heap_low (heap_high p exports sound) (base_low p exports sound) (stack_low p exports sound)
 
   -- the address of a datum in a live segment
-  address_small : (e : Entry) → Has (meant_entries p) e ⊎ Has exports e → is_kind Datum e ≡ true → ((e.input ≡ 0 → ⊥) → PartOf parts (chunk_at e.input 1 e.index)) → address_of Plain lay e < 2 ^ 32
+  address_small : (e : InputSymbol) → Has (meant_entries p) e ⊎ Has exports e → is_kind Datum e ≡ true → ((e.input ≡ 0 → ⊥) → PartOf parts (chunk_at e.input 1 e.index)) → address_of Plain lay e < 2 ^ 32
   address_small e w d o =
       by_test (e.input == 0)
       (λ t. subst (λ k. k < 2 ^ 32) (sym (cond-true (e.input == 0) (slice_index_or (made_data lay.places) e.place 0) (segment_address lay (chunk_at e.input 1 e.index) + e.symbol.offset) t))
@@ -143,7 +143,7 @@ module _ (law : ReachedLaw) (p : Program) (exports : List Entry) (sound : Sound 
           let b = heap_high p exports sound in
           omega (arith, s.1, i, at, a, b)
 
-  datum_chunk : (e : Entry) → is_kind Datum e ≡ true → (e.input ≡ 0 → ⊥) → chunk_of e ≡ Some (chunk_at e.input 1 e.index)
+  datum_chunk : (e : InputSymbol) → is_kind Datum e ≡ true → (e.input ≡ 0 → ⊥) → chunk_of e ≡ Some (chunk_at e.input 1 e.index)
   datum_chunk e d z = by_kind e.symbol.kind d
     where
       by_kind : (k : SymbolKind) → (kind_code k == kind_code Datum) ≡ true → chunk_by e k ≡ Some (chunk_at e.input 1 e.index)
@@ -165,12 +165,12 @@ module _ (law : ReachedLaw) (p : Program) (exports : List Entry) (sound : Sound 
       (g.0, r.0, c.0, g.2, r.2))
       (distinct_only _ [] (map ref_got (filter (needs_got Plain) (refs_of code))) k h)
 
-  entry_of : GotKey → Option Entry
+  entry_of : GotKey → Option InputSymbol
   entry_of (got_entry e) = Some e
   entry_of (got_import k) = None
   entry_of (got_null k) = None
 
-  meant_by : (kind : ℕ) (mean : Meaning) (e : Entry) → got_of kind mean ≡ got_entry e → mean ≡ here e
+  meant_by : (kind : ℕ) (mean : Meaning) (e : InputSymbol) → got_of kind mean ≡ got_entry e → mean ≡ here e
   unfolding entry_of
   meant_by kind (here f) e h = let q : Some f ≡ Some e = ap entry_of h in let z : f ≡ e = grind arith in ap here z
   meant_by kind (imported k) e h = absurd (let q = ap entry_of h in grind arith)
@@ -201,7 +201,7 @@ module _ (law : ReachedLaw) (p : Program) (exports : List Entry) (sound : Sound 
           as_here : {part : Part} (ref : Ref) → ref.meaning ≡ here e → SoundRef p part ref → SoundHere p ref e
           as_here ref q r = subst (Rattle.link_worlds.specs.Sound.SoundMeaning p ref) q r.meant
 
-  exported_small : (e : Entry) → Has exports e → is_kind Datum e ≡ true → address_of Plain lay e < 2 ^ 32
+  exported_small : (e : InputSymbol) → Has exports e → is_kind Datum e ≡ true → address_of Plain lay e < 2 ^ 32
   exported_small e h t =
       address_small e (inr h) t
       (λ z. let c = datum_chunk e t z in

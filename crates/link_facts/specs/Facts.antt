@@ -7,7 +7,7 @@ use Rattle.object_file.specs.ObjectOf.{IsObject}
 use Rattle.made_symbols.specs.declared.mode.Mode.TheVariants.{Plain}
 use Rattle.round_rules.specs.Rounds.{Candidate}
 use Rattle.link_plan.specs.declared.plan.Plan.{Plan}
-use Rattle.name_rules.specs.Entries.{Entry}
+use Rattle.name_rules.specs.Entries.{InputSymbol}
 use Rattle.name_rules.specs.Cases.{clash}
 use Rattle.link_rules.specs.Program.{Program, program_of, Part, Ref, refs}
 use Rattle.link_rules.specs.Marks.{exported}
@@ -34,7 +34,7 @@ pub record AreRead (files : List (List ℕ)) (all : List Candidate) (objects : L
   -- globals begin with constants
   pub constants : (o : Object) → Has objects o → (g : GlobalDef) → Has o.globals g → IsConstant g.value
 
-pub record Facts (p : Program) (exports : List Entry) : Type 0 where
+pub record Facts (p : Program) (exports : List InputSymbol) : Type 0 where
   pub sound : Sound p
   pub exported : SoundExports p exports
   pub measured : Measured p exports

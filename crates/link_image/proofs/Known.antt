@@ -7,7 +7,7 @@ use Rattle.std.proofs.lemmas.List.Elements.{All-head, All-tail, All-cons, All-ap
 use Rattle.link_program.specs.wl_base.Choice.{distinct, distinct_onto}
 use Rattle.link_program.specs.linking_section.declared.symbol.SymbolKind.TheVariants.{GlobalVar, Datum}
 use Rattle.link_program.specs.made_symbols.declared.mode.Mode.TheVariants.{Plain}
-use Rattle.link_program.specs.name_rules.Entries.{Entry, ImportKey, same_import, is_kind}
+use Rattle.link_program.specs.name_rules.Entries.{InputSymbol, ImportKey, same_import, is_kind}
 use Rattle.link_program.specs.link_rules.Program as rules
 use Rattle.link_program.specs.link_rules.Program.{Ref, refs}
 use Rattle.link_program.specs.link_rules.Marks.{refs_of, reads_cell}
@@ -57,7 +57,7 @@ cell_known : (imports : List ImportKey) (ref : Ref) (r : Bool) → r ≡ false �
 cell_known imports ref true is known = absurd cc
 cell_known imports ref false is known = known
 
-module _ (d : Data) (p : rules.Program) (live : List ℕ) (parts : List rules.Part) (es : List Entry) (is : IsProgram Plain d p) (stand : PartsStand p) (are : AreLive p live parts) (meant : AllMeant parts) where
+module _ (d : Data) (p : rules.Program) (live : List ℕ) (parts : List rules.Part) (es : List InputSymbol) (is : IsProgram Plain d p) (stand : PartsStand p) (are : AreLive p live parts) (meant : AllMeant parts) where
   pub tells : TellsNumbers d.names.now.names d.resolution.now.imports (numbers Plain p parts es)
   tells = whole.tells_numbers (given_of d p live parts is stand are meant) es
 
@@ -99,7 +99,7 @@ module _ (d : Data) (p : rules.Program) (live : List ℕ) (parts : List rules.Pa
       let e = given_is (not (part.chunk.input == 0) && (part.chunk.kind == 2)) (own_global part.chunk.input part.chunk.index) g gives in
       subst G e.1 (not_true (part.chunk.input == 0) (and_parts (not (part.chunk.input == 0)) (part.chunk.kind == 2) e.0).0, tt)
 
-  datum_known : (k : ℕ) (e : Entry) (g : keys.GlobalKey) → slice_get es k ≡ Some e → keys.datum_key e ≡ Some g → G g
+  datum_known : (k : ℕ) (e : InputSymbol) (g : keys.GlobalKey) → slice_get es k ≡ Some e → keys.datum_key e ≡ Some g → G g
   datum_known k e g at gives = let x = given_is (is_kind Datum e) (exported_datum e) g gives in subst G x.1 (tt, tt)
 
   pub globals_known : All G (keys.globals Plain p parts es)

@@ -16,7 +16,7 @@ use Rattle.link_program.specs.memory_layout.declared.rules.Places.{Places}
 use Rattle.ctor_call.specs.Body.{ctor_body}
 use Rattle.link_program.specs.image_emit.declared.tree.Source.{Source}
 use Rattle.link_program.specs.image_emit.declared.tree.Source.TheVariants.{File, Own}
-use Rattle.link_program.specs.name_rules.Entries.{Entry, ImportKey, is_kind}
+use Rattle.link_program.specs.name_rules.Entries.{InputSymbol, ImportKey, is_kind}
 use Rattle.link_program.specs.name_rules.Meanings.{is_nothing}
 use Rattle.dylink_out.specs.Shared.{apply_body}
 use Rattle.link_program.specs.link_rules.Loader.{words}
@@ -139,7 +139,7 @@ chunk_itself c kind e =
 
 -- ---- a layout
 
-module _ (p : rules.Program) (parts : List rules.Part) (es : List Entry) (d : Layout) (is : IsLayout p parts es d) where
+module _ (p : rules.Program) (parts : List rules.Part) (es : List InputSymbol) (d : Layout) (is : IsLayout p parts es d) where
   pub tells_all : TellsNumbers d.program.names.now.names d.program.resolution.now.imports (keys.numbers Plain p parts es)
   tells_all = tells d.program p is.live.0 parts es is.program is.stand is.live.1 is.meant
 
@@ -268,7 +268,7 @@ module _ (p : rules.Program) (parts : List rules.Part) (es : List Entry) (d : La
       (λ i. is.numbering.first_slot i + number_by same_function_key (is.numbering.slots i) (told_function d.program.names.now.names d.program.resolution.now.imports f))
       ∙ ap (λ n. (layout Plain p parts es).numbers.first_slot + n) (tells_all.slots f known)
 
-  cell_entry : (e : Entry) (r : Bool) → (if r then values.address_of Plain (layout Plain p parts es) e else d.numbering.now.first_slot + number_by same_function_key d.numbering.now.slots (told_function d.program.names.now.names d.program.resolution.now.imports (keys.function_of e)))
+  cell_entry : (e : InputSymbol) (r : Bool) → (if r then values.address_of Plain (layout Plain p parts es) e else d.numbering.now.first_slot + number_by same_function_key d.numbering.now.slots (told_function d.program.names.now.names d.program.resolution.now.imports (keys.function_of e)))
       ≡ (if r then values.address_of Plain (layout Plain p parts es) e else keys.slot_of (layout Plain p parts es).numbers (keys.function_of e))
   cell_entry e true = refl
   cell_entry e false = slot_told (keys.function_of e) (function_known d.program.names.now.names d.program.resolution.now.imports e)
@@ -312,7 +312,7 @@ module _ (p : rules.Program) (parts : List rules.Part) (es : List Entry) (d : La
       let e = given_is ((part.chunk.input == 0) && (part.chunk.kind == 2)) (linker_global part.chunk.index) g gives in
       subst Made e.1 (linker_made_global part.chunk.index)
 
-  datum_made : (k : ℕ) (e : Entry) (g : keys.GlobalKey) → slice_get es k ≡ Some e → keys.datum_key e ≡ Some g → Made g
+  datum_made : (k : ℕ) (e : InputSymbol) (g : keys.GlobalKey) → slice_get es k ≡ Some e → keys.datum_key e ≡ Some g → Made g
   datum_made k e g live gives =
       let x = given_is (is_kind Datum e) (exported_datum e) g gives in
       subst Made x.1 (λ known. refl)

@@ -13,7 +13,7 @@ use Rattle.link_program.specs.wasm_types.declared.import.ImportKind.TheVariants 
 use Rattle.link_program.specs.index_layout.Numbers.{number_by}
 use Rattle.link_program.specs.made_symbols.declared.mode.Mode.TheVariants.{Plain}
 use Rattle.link_program.specs.mark_bits.declared.chunk.Chunk.{Chunk}
-use Rattle.link_program.specs.name_rules.Entries.{Entry, ImportKey, SymbolType, of_function, of_global, untyped, same_import}
+use Rattle.link_program.specs.name_rules.Entries.{InputSymbol, ImportKey, SymbolType, of_function, of_global, untyped, same_import}
 use Rattle.link_program.specs.link_rules.Program as rules
 use Rattle.link_program.specs.link_rules.Program.{chunk_at}
 use Rattle.link_program.specs.link_rules.Keys as keys
@@ -36,7 +36,7 @@ TypedGlobal (own_global input index) = Unit {0}
 TypedGlobal (got key) = Unit {0}
 TypedGlobal (exported_datum e) = Unit {0}
 
-module _ (names : List (List ℕ)) (imports : List ImportKey) (p : rules.Program) (parts : List rules.Part) (es : List Entry) (l : values.Layout) where
+module _ (names : List (List ℕ)) (imports : List ImportKey) (p : rules.Program) (parts : List rules.Part) (es : List InputSymbol) (l : values.Layout) where
   abbrev type_number : keys.FunctionKey → ℕ
   type_number f = type_place l.numbers (type_of p parts f)
 
@@ -54,8 +54,8 @@ module _ (names : List (List ℕ)) (imports : List ImportKey) (p : rules.Program
 
   import_is : (k : ImportKey) → list_any (same_import k) imports ≡ true → import_seen imports (number_by same_import imports k) (type_place l.numbers (function_type_of k.type)) ≡ Some (output.import_for Plain p parts es l k)
   import_is k held =
-      ap (option_map (λ (k' : ImportKey). record { «module» = k'.place; field = k'.field; kind = kind_seen k'.type (type_place l.numbers (function_type_of k.type)) })) (import_there imports k held)
-      ∙ ap (λ kind. Some (record { «module» = k.place; field = k.field; kind = kind })) (kind_told k.type)
+      ap (option_map (λ (k' : ImportKey). record { «module» = k'.module_name; field = k'.field; kind = kind_seen k'.type (type_place l.numbers (function_type_of k.type)) })) (import_there imports k held)
+      ∙ ap (λ kind. Some (record { «module» = k.module_name; field = k.field; kind = kind })) (kind_told k.type)
 
   function_is : (f : keys.FunctionKey) → KnowsFunction names imports f → function_seen imports (told_function names imports f) (type_number f) ≡ output.function_import Plain p parts es l f
   function_is (outside k) known = import_is k known
@@ -73,8 +73,8 @@ module _ (names : List (List ℕ)) (imports : List ImportKey) (p : rules.Program
 
   pub global_is : (g : keys.GlobalKey) → KnowsGlobal imports g → TypedGlobal g → global_seen imports (told_global imports g) ≡ output.global_import Plain p parts es l g
   global_is (outside_global k) known typed =
-      ap (option_map (λ (k' : ImportKey). record { «module» = k'.place; field = k'.field; kind = kind_seen k'.type 0 })) (import_there imports k known)
-      ∙ ap (λ kind. Some (record { «module» = k.place; field = k.field; kind = kind })) (kind_of_global k.type typed)
+      ap (option_map (λ (k' : ImportKey). record { «module» = k'.module_name; field = k'.field; kind = kind_seen k'.type 0 })) (import_there imports k known)
+      ∙ ap (λ kind. Some (record { «module» = k.module_name; field = k.field; kind = kind })) (kind_of_global k.type typed)
   global_is (linker_global n) known typed = refl
   global_is (own_global input index) known typed = refl
   global_is (got key) known typed = refl

@@ -16,7 +16,7 @@ use Rattle.link_program.specs.reloc_apply.Windows.{signed32}
 use Rattle.link_program.specs.image_emit.declared.tree.Image.{Image}
 use Rattle.link_program.specs.memory_layout.declared.rules.Places.{Places}
 use Rattle.link_program.specs.link_plan.declared.plan.Plan.{Plan}
-use Rattle.link_program.specs.name_rules.Entries.{Entry}
+use Rattle.link_program.specs.name_rules.Entries.{InputSymbol}
 use Rattle.link_program.specs.link_rules.Program as rules
 use Rattle.link_program.specs.link_rules.Marks.{export_name}
 use Rattle.link_program.specs.link_rules.Keys as keys
@@ -40,7 +40,7 @@ use Rattle.link_image.proofs.Told.{function_imports, global_is, types_are, Typed
 use Rattle.link_image.proofs.Known.{functions_known, slots_known, globals_known}
 use Rattle.link_image.proofs.Pieces.{tells_all, bodies_are, globals_are, blocks_are, first_is}
 
-module _ (p : rules.Program) (parts : List rules.Part) (es : List Entry) (d : Layout) (is : IsLayout p parts es d) where
+module _ (p : rules.Program) (parts : List rules.Part) (es : List InputSymbol) (d : Layout) (is : IsLayout p parts es d) where
   abbrev N : List (List ℕ)
   N = d.program.names.now.names
 
@@ -96,11 +96,11 @@ module _ (p : rules.Program) (parts : List rules.Part) (es : List Entry) (d : La
 
   -- ---- exports
 
-  own_key : (e : Entry) (r : Bool) → (e.input == 0) ≡ r → globals.Own e.input (if r then e.place else e.index) ≡ told_global d.program.resolution.now.imports (if r then keys.linker_global e.place else keys.own_global e.input e.index)
+  own_key : (e : InputSymbol) (r : Bool) → (e.input == 0) ≡ r → globals.Own e.input (if r then e.place else e.index) ≡ told_global d.program.resolution.now.imports (if r then keys.linker_global e.place else keys.own_global e.input e.index)
   own_key e true same = ap (λ i. globals.Own i e.place) (eqb-true e.input 0 same)
   own_key e false same = refl
 
-  own_key_known : (e : Entry) (r : Bool) → (e.input == 0) ≡ r → KnowsGlobal d.program.resolution.now.imports (if r then keys.linker_global e.place else keys.own_global e.input e.index)
+  own_key_known : (e : InputSymbol) (r : Bool) → (e.input == 0) ≡ r → KnowsGlobal d.program.resolution.now.imports (if r then keys.linker_global e.place else keys.own_global e.input e.index)
   own_key_known e true same = tt
   own_key_known e false same = same
 
@@ -108,13 +108,13 @@ module _ (p : rules.Program) (parts : List rules.Part) (es : List Entry) (d : La
   unfolding layout
   number_told g known = ap (λ gs. number_by same_global_key gs (told_global d.program.resolution.now.imports g)) is.numbering.globals ∙ (tells_all p parts es d is).globals g known
 
-  function_number_told : (e : Entry) → index_by d.numbering.now (told_definition e) Function ≡ keys.function_number (layout Plain p parts es).numbers (keys.function_of e)
+  function_number_told : (e : InputSymbol) → index_by d.numbering.now (told_definition e) Function ≡ keys.function_number (layout Plain p parts es).numbers (keys.function_of e)
   unfolding layout
   function_number_told e =
       (λ i. number_by same_function_key (is.numbering.functions i) (function_told N d.program.resolution.now.imports e i))
       ∙ (tells_all p parts es d is).functions (keys.function_of e) (function_known N d.program.resolution.now.imports e)
 
-  export_is : (e : Entry) (kind : SymbolKind) → record { name = export_name p e; kind = space_of kind; index = index_by d.numbering.now (told_definition e) kind } ≡ output.export_of Plain p parts es (layout Plain p parts es) e kind
+  export_is : (e : InputSymbol) (kind : SymbolKind) → record { name = export_name p e; kind = space_of kind; index = index_by d.numbering.now (told_definition e) kind } ≡ output.export_of Plain p parts es (layout Plain p parts es) e kind
   export_is e Function = ap (λ n. record { name = export_name p e; kind = 0; index = n }) (function_number_told e)
   export_is e Datum = ap (λ n. record { name = export_name p e; kind = 3; index = n }) (number_told (keys.exported_datum e) tt)
   export_is e GlobalVar = ap (λ n. record { name = export_name p e; kind = 3; index = n })
@@ -122,7 +122,7 @@ module _ (p : rules.Program) (parts : List rules.Part) (es : List Entry) (d : La
   export_is e Section = refl
   export_is e Table = refl
 
-  winners_are : (xs : List Entry) → map (λ e. export_seen d.numbering.now (export_name p e) (told_definition e)) xs ≡ map (λ e. output.export_of Plain p parts es (layout Plain p parts es) e e.symbol.kind) xs
+  winners_are : (xs : List InputSymbol) → map (λ e. export_seen d.numbering.now (export_name p e) (told_definition e)) xs ≡ map (λ e. output.export_of Plain p parts es (layout Plain p parts es) e e.symbol.kind) xs
   winners_are [] = refl
   winners_are (x ∷ xs) = let first = export_is x x.symbol.kind in let rest = winners_are xs in λ i. first i ∷ rest i
 

@@ -18,7 +18,7 @@ kind_seen untyped number = kinds.Function 0
 
 -- the import of a number, under its module and field
 abbrev pub import_seen : List ImportKey → ℕ → ℕ → Option Import
-import_seen imports at number = option_map (λ k. record { «module» = k.place; field = k.field; kind = kind_seen k.type number }) (slice_get imports at)
+import_seen imports at number = option_map (λ k. record { «module» = k.module_name; field = k.field; kind = kind_seen k.type number }) (slice_get imports at)
 
 abbrev pub function_seen : List ImportKey → FunctionKey → ℕ → Option Import
 function_seen imports (functions.Import at) number = import_seen imports at number

@@ -14,7 +14,7 @@ use Rattle.link_program.specs.linking_section.declared.symbol.SymbolKind.{Symbol
 use Rattle.link_program.specs.linking_section.declared.symbol.SymbolKind.TheVariants.{Function, Datum, GlobalVar, Section, Table}
 use Rattle.link_program.specs.linking_section.Flags.{kind_code}
 use Rattle.link_program.specs.made_symbols.declared.mode.Mode.TheVariants.{Plain}
-use Rattle.link_program.specs.name_rules.Entries.{Entry, untyped}
+use Rattle.link_program.specs.name_rules.Entries.{InputSymbol, untyped}
 use Rattle.link_program.specs.mark_bits.declared.chunk.Chunk.{Chunk}
 use Rattle.link_program.specs.reloc_apply.Windows.{signed32}
 use Rattle.ctor_call.specs.Body.{ctor_body}
@@ -104,7 +104,7 @@ abbrev pub constant : Bool → ℕ → ModuleGlobal
 constant var n = record { kind = record { kind = I32; var = var }; value = constants.I32 (signed32 n) }
 
 -- An entry of which a definition tells.
-abbrev pub entry_of : Definition → Entry
+abbrev pub entry_of : Definition → InputSymbol
 entry_of d = record {
   input = d.input;
   place = d.place;
@@ -201,7 +201,7 @@ imports_seen d =
     ++ functions_seen d.program.resolution.now.imports d.numbering.now.function_types d.numbering.now.functions
     ++ filter_map (global_seen d.program.resolution.now.imports) d.numbering.now.globals
 
-abbrev pub exports_seen : Layout → Program → List Entry → List Export
+abbrev pub exports_seen : Layout → Program → List InputSymbol → List Export
 exports_seen d p es =
     (if d.program.plan.now.import_memory then [] else memory_export ∷ [])
     ++ map (λ e. export_seen d.numbering.now (export_name p e) (told_definition e)) es

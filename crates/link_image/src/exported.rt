@@ -1,7 +1,7 @@
 //! The export section (Core 5.5.10).
 ghost use Rattle.std.specs.Prelude.{◌≡◌, ◌++◌, map, drop, List, All, Contains, IfOk, OnOk};
 ghost use Rattle.link_program.specs.made_symbols.declared.mode.Mode.TheVariants.{Plain};
-ghost use Rattle.link_program.specs.name_rules.Entries.{Entry};
+ghost use Rattle.link_program.specs.name_rules.Entries.{InputSymbol};
 ghost use Rattle.link_program.specs.link_rules.Marks as marks;
 ghost use Rattle.link_program.specs.link_rules.Program as rules;
 ghost use Rattle.link_program.specs.Told.{told_definition, told_winner};
@@ -72,7 +72,7 @@ fn export(
     ghost p: { rules.Program }
     requires program { IsProgram Plain program p }
     requires winner { IsWinner program.names.now.names p.winners winner.now }
-    ensures { (e : Entry) → Contains p.winners e → winner.now ≡ told_winner program.entry.names.now.names e
+    ensures { (e : InputSymbol) → Contains p.winners e → winner.now ≡ told_winner program.entry.names.now.names e
         → IfOk result (λ x. x ≡ export_seen numbering.now (marks.export_name p e) (told_definition e)) }
 {
     let name = export_name(program, winner);

@@ -5,7 +5,7 @@ use Rattle.link_program.specs.wl_base.Names.{number_of}
 use Rattle.link_program.specs.linking_section.Flags.{kind_code}
 use Rattle.link_program.specs.linking_section.declared.symbol.SymbolKind.TheVariants.{GlobalVar}
 use Rattle.link_program.specs.made_symbols.declared.mode.Mode.TheVariants.{Plain}
-use Rattle.link_program.specs.name_rules.Entries.{Entry, ImportKey, name_of, is_entry, is_kind}
+use Rattle.link_program.specs.name_rules.Entries.{InputSymbol, ImportKey, name_of, is_entry, is_kind}
 use Rattle.link_program.specs.name_rules.Meanings.{Meaning, here, imported, null, nothing, is_nothing}
 use Rattle.link_program.specs.name_entries.View.{entry_number}
 use Rattle.link_program.specs.link_rules.Program.{Ref}
@@ -22,23 +22,23 @@ use Rattle.link_program.specs.Meant.{index_of, function_of, function_meant, cell
 use Rattle.link_layout.specs.Seen.{global_meant, global_named}
 
 module _ (names : List (List ℕ)) (imports : List ImportKey) where
-  own_told : (d : Entry) (r : Bool) → (d.input == 0) ≡ r → functions.Own d.input (if r then d.place else d.index) ≡ told_function names imports (if r then linker_function d.place else own d.input d.index)
+  own_told : (d : InputSymbol) (r : Bool) → (d.input == 0) ≡ r → functions.Own d.input (if r then d.place else d.index) ≡ told_function names imports (if r then linker_function d.place else own d.input d.index)
   own_told d true is = ap (λ i. functions.Own i d.place) (eqb-true d.input 0 is)
   own_told d false is = refl
 
   -- the function of a definition
-  pub function_told : (d : Entry) → function_of (told_definition d) ≡ told_function names imports (keys.function_of d)
+  pub function_told : (d : InputSymbol) → function_of (told_definition d) ≡ told_function names imports (keys.function_of d)
   function_told d = own_told d (d.input == 0) refl
 
-  own_known : (d : Entry) (r : Bool) → (d.input == 0) ≡ r → KnowsFunction names imports (if r then linker_function d.place else own d.input d.index)
+  own_known : (d : InputSymbol) (r : Bool) → (d.input == 0) ≡ r → KnowsFunction names imports (if r then linker_function d.place else own d.input d.index)
   own_known d true is = tt
   own_known d false is = is
 
-  pub function_known : (d : Entry) → KnowsFunction names imports (keys.function_of d)
+  pub function_known : (d : InputSymbol) → KnowsFunction names imports (keys.function_of d)
   function_known d = own_known d (d.input == 0) refl
 
   -- the function that a symbol means
-  pub meant_told : (e : Entry) (m : Meaning) → (is_null m ≡ true → is_entry e ≡ true) → is_nothing m ≡ false → function_meant (entry_number names e) (told_lead imports m) ≡ told_function names imports (meant_function (name_of e) m)
+  pub meant_told : (e : InputSymbol) (m : Meaning) → (is_null m ≡ true → is_entry e ≡ true) → is_nothing m ≡ false → function_meant (entry_number names e) (told_lead imports m) ≡ told_function names imports (meant_function (name_of e) m)
   meant_told e (here d) named meant = function_told d
   meant_told e (imported k) named meant = refl
   meant_told e null named meant = ap (λ r. functions.Stub (unwrap_or (if r then number_of names (name_of e) else None) 0)) (named refl)
@@ -50,7 +50,7 @@ module _ (names : List (List ℕ)) (imports : List ImportKey) where
   cell_told kind null = refl
   cell_told kind nothing = refl
 
-  own_global_told : (d : Entry) (r : Bool) → (d.input == 0) ≡ r → globals.Own d.input (if r then d.place else d.index) ≡ told_global imports (if r then linker_global d.place else own_global d.input d.index)
+  own_global_told : (d : InputSymbol) (r : Bool) → (d.input == 0) ≡ r → globals.Own d.input (if r then d.place else d.index) ≡ told_global imports (if r then linker_global d.place else own_global d.input d.index)
   own_global_told d true is = ap (λ i. globals.Own i d.place) (eqb-true d.input 0 is)
   own_global_told d false is = refl
 

@@ -10,7 +10,7 @@ use Rattle.link_program.specs.wl_base.Choice.{given}
 use Rattle.link_program.specs.made_symbols.declared.mode.Mode.TheVariants.{Plain}
 use Rattle.link_program.specs.mark_bits.declared.chunk.Chunk.{Chunk}
 use Rattle.link_program.specs.reloc_apply.declared.window.Window.{Window}
-use Rattle.link_program.specs.name_rules.Entries.{Entry, ImportKey}
+use Rattle.link_program.specs.name_rules.Entries.{InputSymbol, ImportKey}
 use Rattle.link_program.specs.link_rules.Program as rules
 use Rattle.link_program.specs.link_rules.Program.{same_chunk, chunk_at}
 use Rattle.link_program.specs.link_rules.Keys as keys
@@ -116,7 +116,7 @@ kept_among {A} p (y ∷ xs) k x at = by_first (p y) k at (kept_among p xs)
 
 -- ---- functions behind the imports
 
-module _ (names : List (List ℕ)) (imports : List ImportKey) (p : rules.Program) (parts : List rules.Part) (es : List Entry) (l : values.Layout) where
+module _ (names : List (List ℕ)) (imports : List ImportKey) (p : rules.Program) (parts : List rules.Part) (es : List InputSymbol) (l : values.Layout) where
   import_told : (f : keys.FunctionKey) → is_import (told_function names imports f) ≡ output.is_import Plain p parts es l f
   import_told (outside k) = refl
   import_told (linker_function n) = refl
@@ -179,7 +179,7 @@ module _ (names : List (List ℕ)) (imports : List ImportKey) (p : rules.Program
 
 -- ---- a layout
 
-module _ (p : rules.Program) (parts : List rules.Part) (es : List Entry) (d : Layout) (is : IsTold p parts es d) where
+module _ (p : rules.Program) (parts : List rules.Part) (es : List InputSymbol) (d : Layout) (is : IsTold p parts es d) where
   pub are_there : AreThere d
   are_there = record {
     rows = is.program.tables.named_there;

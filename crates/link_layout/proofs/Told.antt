@@ -2,7 +2,7 @@
 use Rattle.std.proofs.Common.{◌≡◌, ℕ, List}
 use Rattle.std.specs.List.{All}
 use Rattle.link_program.specs.made_symbols.declared.mode.Mode.TheVariants.{Plain}
-use Rattle.link_program.specs.name_rules.Entries.{Entry}
+use Rattle.link_program.specs.name_rules.Entries.{InputSymbol}
 use Rattle.link_program.specs.link_rules.Program as rules
 use Rattle.link_program.specs.link_rules.Marks.{refs_of}
 use Rattle.link_program.specs.link_rules.Keys.{numbers}
@@ -16,7 +16,7 @@ use Rattle.link_layout.specs.declared.values.Layout.{Layout}
 use Rattle.link_layout.specs.Placed.{IsPlaced}
 use Rattle.link_layout.specs.Layout.{IsLayout}
 
-pub record IsTold (p : rules.Program) (parts : List rules.Part) (es : List Entry) (d : Layout) : Type 0 where
+pub record IsTold (p : rules.Program) (parts : List rules.Part) (es : List InputSymbol) (d : Layout) : Type 0 where
   pub program : IsProgram Plain d.program p
   pub stand : PartsStand p
   pub live : (live : List ℕ) × AreLive p live parts
@@ -27,14 +27,14 @@ pub record IsTold (p : rules.Program) (parts : List rules.Part) (es : List Entry
   pub knows : All (KnowsRef d.program.names.now.names d.program.resolution.now.imports) (refs_of parts)
 
 abbrev pub NumbersTold : Type 0
-NumbersTold = (d : Data) (p : rules.Program) (live : List ℕ) (parts : List rules.Part) (es : List Entry) → IsProgram Plain d p → PartsStand p → AreLive p live parts → AllMeant parts
+NumbersTold = (d : Data) (p : rules.Program) (live : List ℕ) (parts : List rules.Part) (es : List InputSymbol) → IsProgram Plain d p → PartsStand p → AreLive p live parts → AllMeant parts
     → TellsNumbers d.names.now.names d.resolution.now.imports (numbers Plain p parts es)
 
 abbrev pub RefsKnown : Type 0
 RefsKnown = (d : Data) (p : rules.Program) (live : List ℕ) (parts : List rules.Part) → IsProgram Plain d p → PartsStand p → AreLive p live parts → AllMeant parts
     → All (KnowsRef d.names.now.names d.resolution.now.imports) (refs_of parts)
 
-pub told_by : NumbersTold → RefsKnown → (p : rules.Program) (parts : List rules.Part) (es : List Entry) (d : Layout) → IsLayout p parts es d → IsTold p parts es d
+pub told_by : NumbersTold → RefsKnown → (p : rules.Program) (parts : List rules.Part) (es : List InputSymbol) (d : Layout) → IsLayout p parts es d → IsTold p parts es d
 told_by numbers refs p parts es d is = record {
   program = is.program;
   stand = is.stand;

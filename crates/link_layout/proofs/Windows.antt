@@ -14,7 +14,7 @@ use Rattle.link_program.specs.mark_bits.declared.chunk.Chunk.{Chunk}
 use Rattle.link_program.specs.index_layout.Numbers.{number_by}
 use Rattle.link_program.specs.reloc_apply.declared.window.Window.{Window}
 use Rattle.link_program.specs.reloc_apply.declared.window.Form.TheVariants.{Unsigned5}
-use Rattle.link_program.specs.name_rules.Entries.{Entry, ImportKey, is_kind, name_of}
+use Rattle.link_program.specs.name_rules.Entries.{InputSymbol, ImportKey, is_kind, name_of}
 use Rattle.link_program.specs.name_rules.Meanings.{Meaning, here, imported, null, nothing, is_nothing}
 use Rattle.link_program.specs.name_entries.View.{entry_number}
 use Rattle.link_program.specs.object_file.Spaces.{no_type}
@@ -131,7 +131,7 @@ place_of_chunk ps c n is =
 
 -- ---- a layout
 
-module _ (p : rules.Program) (parts : List rules.Part) (es : List Entry) (d : Layout) (is : IsTold p parts es d) where
+module _ (p : rules.Program) (parts : List rules.Part) (es : List InputSymbol) (d : Layout) (is : IsTold p parts es d) where
   no_segment : (c : Chunk) → position (same_chunk c) (chunks_of p.parts) ≡ None → position (same_chunk c) (chunks_of (segments parts)) ≡ None
   no_segment c none = by_place (position (same_chunk c) (chunks_of (segments parts))) refl
     where
@@ -166,13 +166,13 @@ module _ (p : rules.Program) (parts : List rules.Part) (es : List Entry) (d : La
       column_told c (chunk_number d.program.tables.now.chunks c) refl
       ∙ ap (λ (x : Places). address_among (chunks_of (segments parts)) x.addresses c) is.placed.places
 
-  address_by : (e : Entry) (r : Bool) → (if r then slice_index_or (made_data d.placed.now.places) e.place 0 else column_at d.placed.now (chunk_number d.program.tables.now.chunks (chunk_at e.input 1 e.index)) + e.symbol.offset)
+  address_by : (e : InputSymbol) (r : Bool) → (if r then slice_index_or (made_data d.placed.now.places) e.place 0 else column_at d.placed.now (chunk_number d.program.tables.now.chunks (chunk_at e.input 1 e.index)) + e.symbol.offset)
       ≡ (if r then slice_index_or (made_data (layout Plain p parts es).places) e.place 0 else segment_address (layout Plain p parts es) (chunk_at e.input 1 e.index) + e.symbol.offset)
   unfolding layout
   address_by e true = ap (λ (x : Places). slice_index_or (made_data x) e.place 0) is.placed.places
   address_by e false = ap (λ x. x + e.symbol.offset) (segment_told (chunk_at e.input 1 e.index))
 
-  pub address_told : (e : Entry) → address_of (looked d) (told_definition e) ≡ values.address_of Plain (layout Plain p parts es) e
+  pub address_told : (e : InputSymbol) → address_of (looked d) (told_definition e) ≡ values.address_of Plain (layout Plain p parts es) e
   address_told e = address_by e (e.input == 0)
 
   -- ---- numbers
@@ -199,7 +199,7 @@ module _ (p : rules.Program) (parts : List rules.Part) (es : List Entry) (d : La
 
   -- ---- references
 
-  slot_by : (e : Entry) (m : Meaning) → is_nothing m ≡ false → KnowsFunction d.program.names.now.names d.program.resolution.now.imports (keys.meant_function (name_of e) m)
+  slot_by : (e : InputSymbol) (m : Meaning) → is_nothing m ≡ false → KnowsFunction d.program.names.now.names d.program.resolution.now.imports (keys.meant_function (name_of e) m)
       → slot_meant (looked d) (entry_number d.program.names.now.names e) (told_lead d.program.resolution.now.imports m)
       ≡ (if is_null m then 0 else keys.slot_of (layout Plain p parts es).numbers (keys.meant_function (name_of e) m))
   slot_by e (here x) meant known = ap (slot_of (looked d)) (function_told d.program.names.now.names d.program.resolution.now.imports x) ∙ slot_told (keys.function_of x) known

@@ -1,7 +1,7 @@
 //! What windows hold.
 ghost use Rattle.std.specs.Prelude.{◌≡◌, ◌<◌, ◌^◌, length, slice_index_or, IfOk, IsTrue};
 ghost use Rattle.link_program.specs.made_symbols.declared.mode.Mode.TheVariants.{Plain};
-ghost use Rattle.link_program.specs.name_rules.Entries.{Entry};
+ghost use Rattle.link_program.specs.name_rules.Entries.{InputSymbol};
 ghost use Rattle.link_program.specs.wl_base.Answers.{Answers};
 ghost use Rattle.link_program.specs.reloc_apply.Windows.{IsSum, patches_of};
 ghost use Rattle.link_program.specs.link_rules.Values as values;
@@ -307,7 +307,7 @@ impl<'a> Layout<'a> {
     pub fn address(self, definition: Definition) -> u64
         ghost s: { Stage }
         requires { IsLayout s.program s.parts s.exports self }
-        ensures { (e : Entry) → definition ≡ told_definition e → result ≡ values.address_of Plain (layout Plain s.program s.parts s.exports) e }
+        ensures { (e : InputSymbol) → definition ≡ told_definition e → result ≡ values.address_of Plain (layout Plain s.program s.parts s.exports) e }
     {
         keys_are_told();
         self.address_seen(definition)

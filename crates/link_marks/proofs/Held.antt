@@ -8,7 +8,7 @@ use Rattle.link_program.specs.object_file.declared.object.Object.{Object}
 use Rattle.link_program.specs.made_symbols.declared.mode.Mode.{Mode}
 use Rattle.link_program.specs.made_symbols.Made.{MadeSymbol, made}
 use Rattle.link_program.specs.link_names.Numbered.{Numbered, AreNumbers, Held, entry_names, is_entry_symbol, symbol_name}
-use Rattle.link_program.specs.name_rules.Entries.{Entry, name_of, is_entry, entries, entries_from, entry_in, symbols_of, made_from}
+use Rattle.link_program.specs.name_rules.Entries.{InputSymbol, name_of, is_entry, entries, entries_from, entry_in, symbols_of, made_from}
 use Rattle.link_program.specs.link_rules.Program.{winners_of, is_winner}
 
 none : IsSome {T = ℕ} None → ⊥
@@ -22,10 +22,10 @@ numbered names name held = by (number_of names name) refl held
     by (Some n) is some = (n, is)
 
 module _ (names : List (List ℕ)) where
-  abbrev pub HeldOf : Entry → Type 0
+  abbrev pub HeldOf : InputSymbol → Type 0
   HeldOf e = Held names (name_of e)
 
-  both : (xs ys : List Entry) → AllByRecursion HeldOf xs → AllByRecursion HeldOf ys → AllByRecursion HeldOf (xs ++ ys)
+  both : (xs ys : List InputSymbol) → AllByRecursion HeldOf xs → AllByRecursion HeldOf ys → AllByRecursion HeldOf (xs ++ ys)
   both [] ys hs ks = ks
   both (x ∷ xs) ys hs ks = (hs.0, both xs ys hs.1 ks)
 
@@ -61,6 +61,6 @@ entries_held mode objects n numbers =
     All-from_recursion (HeldOf n.names) _
     (both n.names _ _ (held_made n.names 0 (made mode) numbers.made_held) (held_objects n.names objects objects numbers.symbols_held))
 
-pub winners_held : (names : List (List ℕ)) (all : List Entry) → All (HeldOf names) all → All (HeldOf names) (winners_of all)
+pub winners_held : (names : List (List ℕ)) (all : List InputSymbol) → All (HeldOf names) all → All (HeldOf names) (winners_of all)
 unfolding winners_of
 winners_held names all held = All-filter (is_winner all) (HeldOf names) all held

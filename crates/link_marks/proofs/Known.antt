@@ -10,7 +10,7 @@ use Rattle.link_program.specs.linking_section.declared.symbol.Symbol.{Symbol}
 use Rattle.link_program.specs.object_file.declared.object.Object.{Object}
 use Rattle.link_program.specs.made_symbols.declared.mode.Mode.TheVariants.{Plain}
 use Rattle.link_program.specs.made_symbols.Made.{made}
-use Rattle.link_program.specs.name_rules.Entries.{Entry, ImportKey, name_of, is_named, is_entry, named, entries, entries_from, entry_in, symbols_of, made_from}
+use Rattle.link_program.specs.name_rules.Entries.{InputSymbol, ImportKey, name_of, is_named, is_entry, named, entries, entries_from, entry_in, symbols_of, made_from}
 use Rattle.link_program.specs.name_rules.Meanings.{Meaning, here, imported, null, nothing, is_nothing, meaning, own_meaning, by_rules, least, lesser, entry_rank, least_import, references, where_given, may_import, may_be_null, Uses}
 use Rattle.link_program.specs.name_rules.declared.meaning.Meaning.{Meaning as Told}
 use Rattle.link_program.specs.name_rules.declared.meaning.Meaning.TheVariants as told
@@ -25,14 +25,14 @@ use Rattle.link_marks.proofs.Leasts.{Before, Rising, rising_both}
 
 -- ---- the symbols of an object rise
 
-input_first : (a b : Entry) → a.input < b.input → Before a b
+input_first : (a b : InputSymbol) → a.input < b.input → Before a b
 input_first a b h = grind (arith, nat_tests)
 
-place_next : (a b : Entry) → a.input ≡ b.input → a.place < b.place → Before a b
+place_next : (a b : InputSymbol) → a.input ≡ b.input → a.place < b.place → Before a b
 place_next a b e h = grind (arith, nat_tests)
 
 module _ (objects : List Object) where
-  later_places : (o : Object) (e : Entry) (p : ℕ) (ss : List Symbol) → e.input ≡ o.input → e.place < p → AllByRecursion (Before e) (entries_from objects o p ss)
+  later_places : (o : Object) (e : InputSymbol) (p : ℕ) (ss : List Symbol) → e.input ≡ o.input → e.place < p → AllByRecursion (Before e) (entries_from objects o p ss)
   later_places o e p [] same lt = tt
   later_places o e p (s ∷ ss) same lt = (place_next e (entry_in objects o p s) same lt, later_places o e (p + 1) ss same (omega (arith, lt)))
 
@@ -40,24 +40,24 @@ module _ (objects : List Object) where
   one_rises o p [] = tt
   one_rises o p (s ∷ ss) = (later_places o (entry_in objects o p s) (p + 1) ss refl (omega arith), one_rises o (p + 1) ss)
 
-  inputs_are : (o : Object) (p : ℕ) (ss : List Symbol) → AllByRecursion (λ (e : Entry). e.input ≡ o.input) (entries_from objects o p ss)
+  inputs_are : (o : Object) (p : ℕ) (ss : List Symbol) → AllByRecursion (λ (e : InputSymbol). e.input ≡ o.input) (entries_from objects o p ss)
   inputs_are o p [] = tt
   inputs_are o p (s ∷ ss) = (refl, inputs_are o (p + 1) ss)
 
-  later_inputs : (last : ℕ) (os : List Object) → InputsRise last os → AllByRecursion (λ (e : Entry). last < e.input) (flat_map (symbols_of objects) os)
+  later_inputs : (last : ℕ) (os : List Object) → InputsRise last os → AllByRecursion (λ (e : InputSymbol). last < e.input) (flat_map (symbols_of objects) os)
   later_inputs last [] h = tt
   later_inputs last (o ∷ os) h =
-      all_both (λ (e : Entry). last < e.input) (symbols_of objects o) (flat_map (symbols_of objects) os)
-      (all_from (λ (e : Entry). last < e.input) (symbols_of objects o) (λ e k. let is = all_in (λ (e : Entry). e.input ≡ o.input) e (symbols_of objects o) (inputs_are o 0 o.symbols) k in let b = h.0 in omega (arith, is, b)))
-      (all_from (λ (e : Entry). last < e.input) (flat_map (symbols_of objects) os) (λ e k. let is = all_in (λ (e : Entry). o.input < e.input) e (flat_map (symbols_of objects) os) (later_inputs o.input os h.2) k in let b = h.0 in omega (arith, is, b)))
+      all_both (λ (e : InputSymbol). last < e.input) (symbols_of objects o) (flat_map (symbols_of objects) os)
+      (all_from (λ (e : InputSymbol). last < e.input) (symbols_of objects o) (λ e k. let is = all_in (λ (e : InputSymbol). e.input ≡ o.input) e (symbols_of objects o) (inputs_are o 0 o.symbols) k in let b = h.0 in omega (arith, is, b)))
+      (all_from (λ (e : InputSymbol). last < e.input) (flat_map (symbols_of objects) os) (λ e k. let is = all_in (λ (e : InputSymbol). o.input < e.input) e (flat_map (symbols_of objects) os) (later_inputs o.input os h.2) k in let b = h.0 in omega (arith, is, b)))
 
   pub all_rise : (last : ℕ) (os : List Object) → InputsRise last os → Rising (flat_map (symbols_of objects) os)
   all_rise last [] h = tt
   all_rise last (o ∷ os) h =
       rising_both (symbols_of objects o) (flat_map (symbols_of objects) os) (one_rises o 0 o.symbols) (all_rise o.input os h.2)
       (all_from _ (symbols_of objects o) (λ e k. all_from (Before e) (flat_map (symbols_of objects) os) (λ f j.
-      let is = all_in (λ (x : Entry). x.input ≡ o.input) e (symbols_of objects o) (inputs_are o 0 o.symbols) k in
-      let above = all_in (λ (x : Entry). o.input < x.input) f (flat_map (symbols_of objects) os) (later_inputs o.input os h.2) j in
+      let is = all_in (λ (x : InputSymbol). x.input ≡ o.input) e (symbols_of objects o) (inputs_are o 0 o.symbols) k in
+      let above = all_in (λ (x : InputSymbol). o.input < x.input) f (flat_map (symbols_of objects) os) (later_inputs o.input os h.2) j in
       input_first e f (omega (arith, is, above)))))
 
   -- ---- a symbol of an object stands where it says
@@ -68,7 +68,7 @@ module _ (objects : List Object) where
   pub are_objects : InputsRise 0 objects → All IsObject objects
   are_objects h k d below = (found_itself objects k d h below, from_one objects h k d below)
 
-  abbrev pub Stands : Entry → Type 0
+  abbrev pub Stands : InputSymbol → Type 0
   Stands e = symbol_name_at objects e.input e.place ≡ name_of e
 
   name_stands : (o : Object) (p : ℕ) (s : Symbol) → find (λ (x : Object). x.input == o.input) objects ≡ Some o → slice_get o.symbols p ≡ Some s → symbol_name_at objects o.input p ≡ unwrap_or s.name []
@@ -147,36 +147,36 @@ same_nothing imports told.Nothing nothing h = refl
 
 -- ---- what defines its name means something
 
-lesser_some : (e : Entry) (o : Option Entry) → (w : Entry) × (lesser e o ≡ Some w)
+lesser_some : (e : InputSymbol) (o : Option InputSymbol) → (w : InputSymbol) × (lesser e o ≡ Some w)
 lesser_some e None = (e, refl)
 lesser_some e (Some f) = by (nat_lt (entry_rank f) (entry_rank e))
   where
-    by : (b : Bool) → (w : Entry) × (cond b (Some f) (Some e) ≡ Some w)
+    by : (b : Bool) → (w : InputSymbol) × (cond b (Some f) (Some e) ≡ Some w)
     by true = (f, refl)
     by false = (e, refl)
 
-least_some : (e : Entry) (es : List Entry) → In e es → (w : Entry) × (least es ≡ Some w)
+least_some : (e : InputSymbol) (es : List InputSymbol) → In e es → (w : InputSymbol) × (least es ≡ Some w)
 least_some e [] h = absurd h
 least_some e (x ∷ es) h = lesser_some x (least es)
 
-abbrev rules_rest : Uses → Bool → List Entry → Entry → List (Option Meaning)
+abbrev rules_rest : Uses → Bool → List InputSymbol → InputSymbol → List (Option Meaning)
 rules_rest uses allow es e =
     option_map imported (least_import (filter (λ r. is_explicit r.symbol) (references es)))
     ∷ option_map imported (where_given (allow && may_import es e) (least_import (references es)))
     ∷ given (may_be_null e) null
     ∷ []
 
-winner_means : (uses : Uses) (allow : Bool) (es : List Entry) (e w : Entry) → least (filter (λ d. d.defines) es) ≡ Some w → is_nothing (by_rules Plain uses allow es e) ≡ false
+winner_means : (uses : Uses) (allow : Bool) (es : List InputSymbol) (e w : InputSymbol) → least (filter (λ d. d.defines) es) ≡ Some w → is_nothing (by_rules Plain uses allow es e) ≡ false
 winner_means uses allow es e w is = ap (λ o. is_nothing (unwrap_or (first_some (option_map here o ∷ rules_rest uses allow es e)) nothing)) is
 
-entry_means : (uses : Uses) (allow : Bool) (all : List Entry) (e : Entry) → In e all → e.defines ≡ true → is_nothing (by_rules Plain uses allow (named all (name_of e)) e) ≡ false
+entry_means : (uses : Uses) (allow : Bool) (all : List InputSymbol) (e : InputSymbol) → In e all → e.defines ≡ true → is_nothing (by_rules Plain uses allow (named all (name_of e)) e) ≡ false
 entry_means uses allow all e h defines =
-    let among = in_filter (λ (d : Entry). d.defines) e (named all (name_of e)) (in_filter (is_named (name_of e)) e all h (name_itself (name_of e))) defines in
-    let w = least_some e (filter (λ (d : Entry). d.defines) (named all (name_of e))) among in
+    let among = in_filter (λ (d : InputSymbol). d.defines) e (named all (name_of e)) (in_filter (is_named (name_of e)) e all h (name_itself (name_of e))) defines in
+    let w = least_some e (filter (λ (d : InputSymbol). d.defines) (named all (name_of e))) among in
     winner_means uses allow (named all (name_of e)) e w.0 w.1
 
 -- A symbol that is defined in a kept part means something.
-pub defined_means : (uses : Uses) (allow : Bool) (objects : List Object) (e : Entry) → In e (flat_map (symbols_of objects) objects) → e.defines ≡ true
+pub defined_means : (uses : Uses) (allow : Bool) (objects : List Object) (e : InputSymbol) → In e (flat_map (symbols_of objects) objects) → e.defines ≡ true
     → is_nothing (meaning Plain uses allow (entries Plain objects) e) ≡ false
 unfolding entries
 defined_means uses allow objects e h defines = by (is_entry e) refl

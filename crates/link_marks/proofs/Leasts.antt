@@ -2,7 +2,7 @@
 use Rattle.std.proofs.Common.{◌≡◌, ◌==◌, ◌&&◌, ◌||◌, nat_le, Bool, true, false, cond, List, [], ◌∷◌, ◌++◌, map, filter, filter_map, flat_map, find, Option, Some, None, option_map, option_and_then, refl, sym, ap, ◌∙◌, arith, eq-eqb, eqb-true, inl, inr, ◌⊎◌}
 use Rattle.std.specs.List.{AllByRecursion}
 use Rattle.std.proofs.lemmas.Bool.{and_parts, and_from}
-use Rattle.link_program.specs.name_rules.Entries.{Entry, same_entry}
+use Rattle.link_program.specs.name_rules.Entries.{InputSymbol, same_entry}
 use Rattle.link_program.specs.name_rules.Meanings.{is_nothing}
 use Rattle.link_program.specs.link_rules.Program.{Ref, InitCall, insert_call, by_priority}
 use Rattle.link_program.specs.link_rules.Marks.{is_open}
@@ -148,65 +148,65 @@ module _ (P : InitCall → Type 0) where
 
 -- ---- symbols that rise
 
-abbrev pub at : Entry → SymbolAt
+abbrev pub at : InputSymbol → SymbolAt
 at e = (e.input, e.place)
 
-abbrev pub Before : Entry → Entry → Type 0
+abbrev pub Before : InputSymbol → InputSymbol → Type 0
 Before a b = is_before (at a) (at b) ≡ true
 
-abbrev pub Rising : List Entry → Type 0
+abbrev pub Rising : List InputSymbol → Type 0
 Rising [] = Unit {0}
 Rising (e ∷ es) = AllByRecursion (Before e) es × Rising es
 
-pub rising_both : (xs ys : List Entry) → Rising xs → Rising ys → AllByRecursion (λ x. AllByRecursion (Before x) ys) xs → Rising (xs ++ ys)
+pub rising_both : (xs ys : List InputSymbol) → Rising xs → Rising ys → AllByRecursion (λ x. AllByRecursion (Before x) ys) xs → Rising (xs ++ ys)
 rising_both [] ys h k all = k
 rising_both (x ∷ xs) ys h k all = (behind xs h.0, rising_both xs ys h.1 k all.1)
   where
-    behind : (zs : List Entry) → AllByRecursion (Before x) zs → AllByRecursion (Before x) (zs ++ ys)
+    behind : (zs : List InputSymbol) → AllByRecursion (Before x) zs → AllByRecursion (Before x) (zs ++ ys)
     behind [] hs = all.0
     behind (z ∷ zs) hs = (hs.0, behind zs hs.1)
 
-same_at : (x e : Entry) → same_entry x e ≡ true → at e ≡ at x
+same_at : (x e : InputSymbol) → same_entry x e ≡ true → at e ≡ at x
 same_at x e h =
     let both = and_parts (x.input == e.input) (x.place == e.place) h in
     let p : e.input ≡ x.input = sym (eqb-true x.input e.input both.0) in
     let q : e.place ≡ x.place = sym (eqb-true x.place e.place both.1) in
     λ i. (p i, q i)
 
-pub entry_itself : (e : Entry) → same_entry e e ≡ true
+pub entry_itself : (e : InputSymbol) → same_entry e e ≡ true
 entry_itself e = and_from (e.input == e.input) (e.place == e.place) (eq-eqb e.input e.input refl) (eq-eqb e.place e.place refl)
 
 true_false : true ≡ false → ⊥
 true_false h = cc
 
 -- a symbol is found by its input and place
-found_by : (e x : Entry) (es : List Entry) → (In x es → option_map at (find (same_entry x) es) ≡ Some (at x)) → (b : Bool) → same_entry x e ≡ b → (e ≡ x) ⊎ In x es
+found_by : (e x : InputSymbol) (es : List InputSymbol) → (In x es → option_map at (find (same_entry x) es) ≡ Some (at x)) → (b : Bool) → same_entry x e ≡ b → (e ≡ x) ⊎ In x es
     → option_map at (cond b (Some e) (find (same_entry x) es)) ≡ Some (at x)
 found_by e x es again true is k = ap Some (same_at x e is)
 found_by e x es again false is (inl same) = absurd (true_false (sym (entry_itself x) ∙ ap (same_entry x) (sym same) ∙ is))
 found_by e x es again false is (inr k) = again k
 
-found_at : (es : List Entry) (x : Entry) → In x es → option_map at (find (same_entry x) es) ≡ Some (at x)
+found_at : (es : List InputSymbol) (x : InputSymbol) → In x es → option_map at (find (same_entry x) es) ≡ Some (at x)
 found_at [] x h = absurd h
 found_at (e ∷ es) x h = found_by e x es (found_at es x) (same_entry x e) refl h
 
 -- the first that passes one of two tests, where they rise
-earlier : (a : Entry) (o : Option Entry) → ((e : Entry) → o ≡ Some e → Before a e) → lesser (Some (at a)) (option_map at o) ≡ Some (at a)
+earlier : (a : InputSymbol) (o : Option InputSymbol) → ((e : InputSymbol) → o ≡ Some e → Before a e) → lesser (Some (at a)) (option_map at o) ≡ Some (at a)
 earlier a None f = refl
 earlier a (Some e) f = ap (λ b. cond b (Some (at e)) (Some (at a))) (before_back (at a) (at e) (f e refl))
 
-later : (a : Entry) (o : Option Entry) → ((e : Entry) → o ≡ Some e → Before a e) → lesser (option_map at o) (Some (at a)) ≡ Some (at a)
+later : (a : InputSymbol) (o : Option InputSymbol) → ((e : InputSymbol) → o ≡ Some e → Before a e) → lesser (option_map at o) (Some (at a)) ≡ Some (at a)
 later a None f = refl
 later a (Some e) f = ap (λ b. cond b (Some (at a)) (Some (at e))) (f e refl)
 
-itself : (a : Entry) → lesser (Some (at a)) (Some (at a)) ≡ Some (at a)
+itself : (a : InputSymbol) → lesser (Some (at a)) (Some (at a)) ≡ Some (at a)
 itself a = by (is_before (at a) (at a))
   where
     by : (b : Bool) → cond b (Some (at a)) (Some (at a)) ≡ Some (at a)
     by true = refl
     by false = refl
 
-either_by : (P Q : Entry → Bool) (e : Entry) (es : List Entry) → AllByRecursion (Before e) es
+either_by : (P Q : InputSymbol → Bool) (e : InputSymbol) (es : List InputSymbol) → AllByRecursion (Before e) es
     → option_map at (find (λ e. P e || Q e) es) ≡ lesser (option_map at (find P es)) (option_map at (find Q es)) → (b c : Bool)
     → option_map at (cond (b || c) (Some e) (find (λ e. P e || Q e) es)) ≡ lesser (option_map at (cond b (Some e) (find P es))) (option_map at (cond c (Some e) (find Q es)))
 either_by P Q e es rise again true true = sym (itself e)
@@ -214,11 +214,11 @@ either_by P Q e es rise again true false = sym (earlier e (find Q es) (λ x is. 
 either_by P Q e es rise again false true = sym (later e (find P es) (λ x is. (found_has (Before e) P es x rise is).0))
 either_by P Q e es rise again false false = again
 
-either : (P Q : Entry → Bool) (es : List Entry) → Rising es → option_map at (find (λ e. P e || Q e) es) ≡ lesser (option_map at (find P es)) (option_map at (find Q es))
+either : (P Q : InputSymbol → Bool) (es : List InputSymbol) → Rising es → option_map at (find (λ e. P e || Q e) es) ≡ lesser (option_map at (find P es)) (option_map at (find Q es))
 either P Q [] rise = refl
 either P Q (e ∷ es) rise = either_by P Q e es rise.0 (either P Q es rise.1) (P e) (Q e)
 
-none_found : (es : List Entry) → find (λ e. false) es ≡ None
+none_found : (es : List InputSymbol) → find (λ e. false) es ≡ None
 none_found [] = refl
 none_found (e ∷ es) = none_found es
 
@@ -228,7 +228,7 @@ abbrev pub open_at : Ref → Option SymbolAt
 open_at r = cond (is_nothing r.meaning) (Some (at r.entry)) None
 
 -- The first symbol that a reference leaves open is the least that one does.
-pub first_open : (es : List Entry) (refs : List Ref) → Rising es → AllByRecursion (λ r. In r.entry es) refs → option_map at (find (is_open refs) es) ≡ least_by open_at refs
+pub first_open : (es : List InputSymbol) (refs : List Ref) → Rising es → AllByRecursion (λ r. In r.entry es) refs → option_map at (find (is_open refs) es) ≡ least_by open_at refs
 first_open es [] rise known = ap (option_map at) (none_found es)
 first_open es (r ∷ refs) rise known =
     either (λ e. is_nothing r.meaning && same_entry r.entry e) (is_open refs) es rise

@@ -7,7 +7,7 @@ use Rattle.std.proofs.lemmas.List.Kept.{AllPairs-cons, AllPairs-filter}
 use Rattle.link_program.specs.mark_bits.Words.{times, bit_of}
 use Rattle.link_program.specs.mark_bits.Reach.{Reached}
 use Rattle.live_mark.specs.Live.{reached, is_among, ReachedLaw}
-use Rattle.link_program.specs.name_rules.Entries.{Entry}
+use Rattle.link_program.specs.name_rules.Entries.{InputSymbol}
 use Rattle.link_program.specs.link_rules.Program.{Program, Part}
 use Rattle.link_program.specs.link_rules.Marks.{picked, live, targets, root_places}
 use Rattle.link_marks.specs.Alive.{numbers_set, IsLive}
@@ -60,7 +60,7 @@ module _ (targets : List (List ℕ)) (roots words : List ℕ) (law : ReachedLaw)
       false_is f t = cc
 
 -- the live parts are those of the marked set
-pub marked_live : (p : Program) (es : List Entry) (l : Live) → ReachedLaw → l.set.chunks ≡ length (targets p)
+pub marked_live : (p : Program) (es : List InputSymbol) (l : Live) → ReachedLaw → l.set.chunks ≡ length (targets p)
     → ((c : ℕ) → bit_of l.set.words c ≡ 1 → Reached (targets p) (root_places p es) c) → ((c : ℕ) → Reached (targets p) (root_places p es) c → bit_of l.set.words c ≡ 1)
     → length (targets p) ≡ length p.parts → l.numbers ≡ numbers_set l.set.words l.set.chunks → IsLive p l (live p es)
 unfolding live

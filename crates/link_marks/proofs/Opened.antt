@@ -16,7 +16,7 @@ use Rattle.link_program.specs.made_symbols.declared.mode.Mode.TheVariants.{Plain
 use Rattle.link_program.specs.made_symbols.Made.{MadeSymbol, made}
 use Rattle.link_program.specs.round_rules.Rounds.{Candidate}
 use Rattle.link_program.specs.mark_bits.declared.chunk.Chunk.{Chunk}
-use Rattle.link_program.specs.name_rules.Entries.{Entry, ImportKey, name_of, entries, entry_in, symbols_of}
+use Rattle.link_program.specs.name_rules.Entries.{InputSymbol, ImportKey, name_of, entries, entry_in, symbols_of}
 use Rattle.link_program.specs.name_rules.Meanings.{Meaning, Resolved, is_nothing, meaning, resolved_in, uses_of}
 use Rattle.link_program.specs.name_rules.declared.meaning.Meaning.{Meaning as Told}
 use Rattle.link_program.specs.name_meanings.Means.{Means, row_of}
@@ -49,13 +49,13 @@ ref_open None = refl
 ref_open (Some r) = refl
 
 module _ (allow : Bool) (objects : List Object) (rows : List (List Told)) (imports : List ImportKey) where
-  abbrev means : Entry → Meaning
+  abbrev means : InputSymbol → Meaning
   means e = meaning Plain (uses_of Plain objects) allow (entries Plain objects) e
 
   abbrev resolved : Object → Resolved
   resolved o = resolved_in Plain (uses_of Plain objects) allow (entries Plain objects) objects o
 
-  abbrev symbols : List Entry
+  abbrev symbols : List InputSymbol
   symbols = flat_map (symbols_of objects) objects
 
   -- the answers for an object's symbols are there
@@ -94,7 +94,7 @@ module _ (allow : Bool) (objects : List Object) (rows : List (List Told)) (impor
           let none = no_entry_at objects o 0 o.symbols s is in
           inl (is, none, zip_past (Means imports) (row_of rows o.input) (map means (symbols_of objects o)) s fine.answered (map_get means (symbols_of objects o) s ∙ ap (option_map means) none))
       by (Some x) is =
-          let e : Entry = entry_in objects o s x in
+          let e : InputSymbol = entry_in objects o s x in
           let here : slice_get (symbols_of objects o) s ≡ Some e = entry_at objects o 0 o.symbols s x is ∙ ap (λ q. Some (entry_in objects o q x)) (let z : 0 + s ≡ s = omega arith in z) in
           let meant : slice_get (map means (symbols_of objects o)) s ≡ Some (means e) = map_get means (symbols_of objects o) s ∙ ap (option_map means) here in
           let t = zip_at (Means imports) (row_of rows o.input) (map means (symbols_of objects o)) s (means e) fine.answered meant in
@@ -114,7 +114,7 @@ module _ (allow : Bool) (objects : List Object) (rows : List (List Told)) (impor
         ap (λ x. cond (open_answer x) (Some (o.input, s)) None) n.2
         ∙ sym (ap (λ x. open_ref (ref_to place kind addend x (slice_get (map means (symbols_of objects o)) s))) n.1)
     | inr y ↦
-        let e : Entry = entry_in objects o s y.symbol in
+        let e : InputSymbol = entry_in objects o s y.symbol in
         ap (λ b. cond b (Some (o.input, s)) None) y.same
         ∙ sym ((λ i. open_ref (ref_to place kind addend (y.entry_there i) (y.meant_there i))))
   ]
@@ -122,7 +122,7 @@ module _ (allow : Bool) (objects : List Object) (rows : List (List Told)) (impor
   ref_known : (o : Object) → Fine o → (place kind s : ℕ) (addend : ℤ) → OfOption (λ (r : Ref). In r.entry symbols) (ref_in (resolved o) place kind s addend)
   ref_known o fine place kind s addend = elim (symbol_of o fine s) as (λ _. OfOption (λ (r : Ref). In r.entry symbols) (ref_in (resolved o) place kind s addend)) [
     | inl n ↦ subst (λ x. OfOption (λ (r : Ref). In r.entry symbols) (ref_to place kind addend x (slice_get (map means (symbols_of objects o)) s))) (sym n.1) tt
-    | inr y ↦ subst (λ (p : Option Entry × Option Meaning). OfOption (λ (r : Ref). In r.entry symbols) (ref_to place kind addend p.0 p.1)) (sym (λ i. (y.entry_there i, y.meant_there i))) y.known
+    | inr y ↦ subst (λ (p : Option InputSymbol × Option Meaning). OfOption (λ (r : Ref). In r.entry symbols) (ref_to place kind addend p.0 p.1)) (sym (λ i. (y.entry_there i, y.meant_there i))) y.known
   ]
 
   -- ---- parts
@@ -236,7 +236,7 @@ module _ (allow : Bool) (objects : List Object) (rows : List (List Told)) (impor
           ap (λ x. cond (is_undefined_one x) (opened rows (o.input, i.symbol)) None) n.0
           ∙ sym (ap (λ x. call_of (ref_to 0 0 (pos 0) x (slice_get (map means (symbols_of objects o)) i.symbol))) n.1)
       | inr y ↦
-          let e : Entry = entry_in objects o i.symbol y.symbol in
+          let e : InputSymbol = entry_in objects o i.symbol y.symbol in
           ap (λ x. cond (is_undefined_one x) (opened rows (o.input, i.symbol)) None) y.there
           ∙ ap (λ b. cond (is_undefined y.symbol) (cond b (Some (o.input, i.symbol)) None) None) y.same
           ∙ cases e (is_undefined y.symbol) e.defines (is_nothing (means e)) (λ d. defined_means (uses_of Plain objects) allow objects e y.known d)
@@ -246,7 +246,7 @@ module _ (allow : Bool) (objects : List Object) (rows : List (List Told)) (impor
         call_of : Option Ref → Option SymbolAt
         call_of r = option_and_then kept_open (option_map (λ (ref : Ref). record { priority = i.priority; ref = ref }) r)
 
-        cases : (e : Entry) (u d n : Bool) → (d ≡ true → n ≡ false)
+        cases : (e : InputSymbol) (u d n : Bool) → (d ≡ true → n ≡ false)
             → cond u (cond n (Some (at e)) None) None ≡ cond (not (not u && not d)) (cond n (Some (at e)) None) None
         cases e true true n h = refl
         cases e true false n h = refl
@@ -353,15 +353,15 @@ module _ (allow : Bool) (objects : List Object) (rows : List (List Told)) (impor
   known_is parts agree = all_flat RefKnown refs parts (all_from _ parts (λ part h. (all_in Agrees part parts agree h).known))
 
   -- the fault of the first symbol that is open
-  fault_is : InputsRise 0 objects → (test : Entry → Bool) → open_fault objects (option_map at (find test symbols)) ≡ option_map (λ (e : Entry). Unresolved (name_of e) e.input) (find test symbols)
+  fault_is : InputsRise 0 objects → (test : InputSymbol → Bool) → open_fault objects (option_map at (find test symbols)) ≡ option_map (λ (e : InputSymbol). Unresolved (name_of e) e.input) (find test symbols)
   fault_is rise test = by (find test symbols) refl
     where
-      by : (x : Option Entry) → find test symbols ≡ x → open_fault objects (option_map at x) ≡ option_map (λ (e : Entry). Unresolved (name_of e) e.input) x
+      by : (x : Option InputSymbol) → find test symbols ≡ x → open_fault objects (option_map at x) ≡ option_map (λ (e : InputSymbol). Unresolved (name_of e) e.input) x
       by None is = refl
       by (Some e) is = ap (λ n. Some (Unresolved n e.input)) (found_has (Stands objects) test symbols e (all_stand objects rise) is).0
 
   pub open_is : InputsRise 0 objects → (parts : List Part) → AllByRecursion Agrees parts
-      → open_fault objects (least_by (opened rows) (flat_map (by_object.refers objects) (map (λ (part : Part). part.chunk) parts))) ≡ option_map (λ (e : Entry). Unresolved (name_of e) e.input) (find (marks.is_open (refs_of parts)) symbols)
+      → open_fault objects (least_by (opened rows) (flat_map (by_object.refers objects) (map (λ (part : Part). part.chunk) parts))) ≡ option_map (λ (e : InputSymbol). Unresolved (name_of e) e.input) (find (marks.is_open (refs_of parts)) symbols)
   open_is rise parts agree =
       ap (open_fault objects) (least_is parts agree ∙ sym (first_open symbols (refs_of parts) (all_rise objects 0 objects rise) (known_is parts agree)))
       ∙ fault_is rise (marks.is_open (refs_of parts))

@@ -11,7 +11,7 @@ use Rattle.link_program.specs.wasm_types.declared.function.FuncType.{FuncType}
 use Rattle.link_program.specs.mark_bits.declared.chunk.Chunk.{Chunk}
 use Rattle.link_program.specs.mark_bits.Words.{times, Among}
 use Rattle.live_mark.specs.Asks.{Below, AllBelow}
-use Rattle.link_program.specs.name_rules.Entries.{Entry, ImportKey}
+use Rattle.link_program.specs.name_rules.Entries.{InputSymbol, ImportKey}
 use Rattle.link_program.specs.name_rules.Meanings.{Meaning, here, imported, null, nothing}
 use Rattle.link_program.specs.link_rules.Program as rules
 use Rattle.link_program.specs.link_rules.Program.{a_symbol, a_type, named_ref, refs, meant_chunk, chunk_of, chunk_by, same_chunk, function, segment, global, linker_made}
@@ -34,7 +34,7 @@ use Rattle.link_program.proofs.Chunks.{stands_at}
 
 -- ---- chunks of definitions
 
-by_kind : (e : Entry) (kind : SymbolKind) → seen.chunk_by (told_definition e) kind ≡ chunk_by e kind
+by_kind : (e : InputSymbol) (kind : SymbolKind) → seen.chunk_by (told_definition e) kind ≡ chunk_by e kind
 by_kind e Function = refl
 by_kind e Datum = refl
 by_kind e GlobalVar = refl
@@ -45,7 +45,7 @@ module _ (table : List Chunk) where
   abbrev place : Chunk → Option ℕ
   place c = position (same_chunk c) table
 
-  defined : (e : Entry) → number_in table (defined_chunk (told_definition e)) ≡ option_and_then place (chunk_of e)
+  defined : (e : InputSymbol) → number_in table (defined_chunk (told_definition e)) ≡ option_and_then place (chunk_of e)
   defined e = ap (λ o. option_and_then place o) (by_kind e e.symbol.kind)
 
   led : (imports : List ImportKey) (m : Meaning) → led_number table (told_lead imports m) ≡ option_and_then place (meant_chunk m)
@@ -95,10 +95,10 @@ module _ (table : List Chunk) where
 
   -- ---- winners
 
-  winners_are : (ns : List (List ℕ)) (es : List Entry) → winner_numbers table (map (told_winner ns) es) ≡ places_in table (filter_map chunk_of es)
+  winners_are : (ns : List (List ℕ)) (es : List InputSymbol) → winner_numbers table (map (told_winner ns) es) ≡ places_in table (filter_map chunk_of es)
   winners_are ns es =
       filter_map-map (λ (w : Winner). number_in table (defined_chunk w.definition)) (told_winner ns) es
-      ∙ filter_map_agree (λ (e : Entry). number_in table (defined_chunk (told_definition e))) (λ e. option_and_then place (chunk_of e)) defined es
+      ∙ filter_map_agree (λ (e : InputSymbol). number_in table (defined_chunk (told_definition e))) (λ e. option_and_then place (chunk_of e)) defined es
       ∙ sym (filter_map-twice place chunk_of es)
 
   filtered : {A : Type 0} (q : A → Bool) (f : A → Option ℕ) (xs : List A) → filter_map (λ x. cond (q x) (f x) None) xs ≡ filter_map f (filter q xs)
@@ -110,7 +110,7 @@ module _ (table : List Chunk) where
       by true h = ap (cons_option (f x)) h
       by false h = h
 
-  not_stripped_are : (ns : List (List ℕ)) (es : List Entry) → filter_map (seen.number_not_stripped table) (map (told_winner ns) es) ≡ places_in table (filter_map chunk_of (filter is_no_strip_winner es))
+  not_stripped_are : (ns : List (List ℕ)) (es : List InputSymbol) → filter_map (seen.number_not_stripped table) (map (told_winner ns) es) ≡ places_in table (filter_map chunk_of (filter is_no_strip_winner es))
   not_stripped_are ns es =
       filtered is_not_stripped (λ (w : Winner). number_in table (defined_chunk w.definition)) (map (told_winner ns) es)
       ∙ ap (winner_numbers table) (filter-map is_not_stripped (told_winner ns) es) ∙ winners_are ns (filter is_no_strip_winner es)
@@ -196,7 +196,7 @@ module _ (ns : List (List ℕ)) (imports : List ImportKey) (t : Tables) (p : rul
   pub targets_are : targets_seen (led_numbers t.chunks t.symbols) t.named ≡ targets p
   targets_are = rows_are t.chunks ns imports t.symbols t.types t.named p.parts is.named ∙ ap (λ (table : List Chunk). map (λ (part : rules.Part). places_in table (refers part)) p.parts) is.chunks
 
-  pub roots_are : (gc : Bool) (exports : List Winner) (es : List Entry) → gc ≡ p.plan.gc → exports ≡ map (told_winner ns) es → roots_seen t.chunks gc exports t.winners t.parts ≡ root_places p es
+  pub roots_are : (gc : Bool) (exports : List Winner) (es : List InputSymbol) → gc ≡ p.plan.gc → exports ≡ map (told_winner ns) es → roots_seen t.chunks gc exports t.winners t.parts ≡ root_places p es
   roots_are gc exports es gc_is told =
       let table = t.chunks in
       let exported : List Chunk = filter_map chunk_of es in
@@ -245,5 +245,5 @@ targets_count p = map_count (λ (part : rules.Part). places_in (table_of p) (ref
 pub targets_below : (p : rules.Program) → AllBelow (targets p)
 targets_below p k = subst (λ n. Below n (get_or (targets p) k [])) (count_is p ∙ sym (targets_count p)) (row_below (table_of p) p.parts k)
 
-pub roots_below : (p : rules.Program) (es : List Entry) → Below (length (targets p)) (root_places p es)
+pub roots_below : (p : rules.Program) (es : List InputSymbol) → Below (length (targets p)) (root_places p es)
 roots_below p es = subst (λ n. Below n (root_places p es)) (count_is p ∙ sym (targets_count p)) (below_places (table_of p) (roots p es))

@@ -11,7 +11,7 @@ use Rattle.link_program.specs.wl_base.declared.fault.Fault.TheVariants.{Unresolv
 use Rattle.link_program.specs.object_file.declared.object.Object.{Object}
 use Rattle.link_program.specs.made_symbols.declared.mode.Mode.TheVariants.{Plain}
 use Rattle.link_program.specs.mark_bits.Words.{bit_of}
-use Rattle.link_program.specs.name_rules.Entries.{Entry, name_of, is_named, named, entries, symbols_of}
+use Rattle.link_program.specs.name_rules.Entries.{InputSymbol, name_of, is_named, named, entries, symbols_of}
 use Rattle.link_program.specs.name_rules.Meanings.{Resolved, winner, least, lesser, definitions, entry_rank, resolve, resolved_in, uses_of}
 use Rattle.link_program.specs.name_meanings.Means.{Means, row_of}
 use Rattle.link_program.specs.name_entries.View.{WinnersAre}
@@ -40,23 +40,23 @@ use Rattle.link_marks.proofs.Marked.{picked_by, numbers_pick}
 
 -- ---- names without a winner
 
-lesser_in : (e f w : Entry) (es : List Entry) → In f es → (b : Bool) → cond b (Some f) (Some e) ≡ Some w → In w (e ∷ es)
+lesser_in : (e f w : InputSymbol) (es : List InputSymbol) → In f es → (b : Bool) → cond b (Some f) (Some e) ≡ Some w → In w (e ∷ es)
 lesser_in e f w es h true k = inr (subst (λ x. In x es) (same_Some f w k) h)
 lesser_in e f w es h false k = inl (same_Some e w k)
 
-least_by_cases : (e w : Entry) (es : List Entry) → ((f : Entry) → least es ≡ Some f → In f es) → (o : Option Entry) → least es ≡ o → lesser e o ≡ Some w → In w (e ∷ es)
+least_by_cases : (e w : InputSymbol) (es : List InputSymbol) → ((f : InputSymbol) → least es ≡ Some f → In f es) → (o : Option InputSymbol) → least es ≡ o → lesser e o ≡ Some w → In w (e ∷ es)
 least_by_cases e w es again None is k = inl (same_Some e w k)
 least_by_cases e w es again (Some f) is k = lesser_in e f w es (again f is) (nat_lt (entry_rank f) (entry_rank e)) k
 
-least_in : (es : List Entry) (w : Entry) → least es ≡ Some w → In w es
+least_in : (es : List InputSymbol) (w : InputSymbol) → least es ≡ Some w → In w es
 least_in [] w h = absurd (none-some w h)
 least_in (e ∷ es) w h = least_by_cases e w es (least_in es) (least es) refl h
 
-has_winner : (all : List Entry) (name : List ℕ) → is_some (winner all name) ≡ list_any (is_named name) (winners_of all)
+has_winner : (all : List InputSymbol) (name : List ℕ) → is_some (winner all name) ≡ list_any (is_named name) (winners_of all)
 unfolding winners_of
 has_winner all name = by (winner all name) refl
   where
-    by : (o : Option Entry) → winner all name ≡ o → is_some o ≡ list_any (is_named name) (filter (is_winner all) all)
+    by : (o : Option InputSymbol) → winner all name ≡ o → is_some o ≡ list_any (is_named name) (filter (is_winner all) all)
     by None is = sym (false_from_ne_true (list_any (is_named name) (filter (is_winner all) all)) (λ h.
         let found = any_in (is_named name) (filter (is_winner all) all) h in
         let e = found.0 in
@@ -67,7 +67,7 @@ has_winner all name = by (winner all name) refl
         no : true ≡ false → ⊥
         no e = cc
     by (Some w) is =
-        let among = from_filter (λ (d : Entry). d.defines) w (named all name) (least_in (definitions all name) w is) in
+        let among = from_filter (λ (d : InputSymbol). d.defines) w (named all name) (least_in (definitions all name) w is) in
         let here = from_filter (is_named name) w all among.0 in
         let same : name_of w ≡ name = same_name (name_of w) name here.1 in
         sym (in_any (is_named name) w (filter (is_winner all) all)
@@ -77,7 +77,7 @@ some_map : {A B : Type 0} (f : A → B) (o : Option A) → is_some (option_map f
 some_map f None = refl
 some_map f (Some x) = refl
 
-rank_is : (names : List (List ℕ)) (all : List Entry) (ranks : List (Option ℕ)) (name : List ℕ) → WinnersAre names all ranks → All (HeldOf names) all
+rank_is : (names : List (List ℕ)) (all : List InputSymbol) (ranks : List (Option ℕ)) (name : List ℕ) → WinnersAre names all ranks → All (HeldOf names) all
     → is_some (rank_seen names ranks name) ≡ list_any (is_named name) (winners_of all)
 rank_is names all ranks name are held = by (number_of names name) refl
   where
@@ -85,10 +85,10 @@ rank_is names all ranks name are held = by (number_of names name) refl
     by (Some n) is = ap is_some (are n name (name_at names name n is)) ∙ some_map entry_rank (winner all name) ∙ has_winner all name
     by None is = nobody (winner all name) refl ∙ has_winner all name
       where
-        nobody : (o : Option Entry) → winner all name ≡ o → false ≡ is_some o
+        nobody : (o : Option InputSymbol) → winner all name ≡ o → false ≡ is_some o
         nobody None h = refl
         nobody (Some w) h =
-            let among = from_filter (λ (d : Entry). d.defines) w (named all name) (least_in (definitions all name) w h) in
+            let among = from_filter (λ (d : InputSymbol). d.defines) w (named all name) (least_in (definitions all name) w h) in
             let here = from_filter (is_named name) w all among.0 in
             let same : name_of w ≡ name = same_name (name_of w) name here.1 in
             let n = numbered names (name_of w) (all_in (HeldOf names) w all (recursion_from_All (HeldOf names) all held) here.0) in
@@ -134,7 +134,7 @@ live_are p l parts is =
 
 -- ---- open symbols
 
-flat_resolved : (allow : Bool) (all : List Entry) (objects os : List Object)
+flat_resolved : (allow : Bool) (all : List InputSymbol) (objects os : List Object)
     → flat_map (λ (r : Resolved). r.symbols) (map (resolved_in Plain (uses_of Plain objects) allow all objects) os) ≡ flat_map (symbols_of objects) os
 flat_resolved allow all objects [] = refl
 flat_resolved allow all objects (o ∷ os) = ap (λ l. symbols_of objects o ++ l) (flat_resolved allow all objects os)
@@ -152,7 +152,7 @@ fine_from allow objects rows imports (o ∷ os) among are answered =
 
 pub open_are : (d : Data) (p : Program) (l : Live) (parts : List Part) → IsProgram Plain d p → IsLive p l parts
     → open_fault d.objects.now (first_unresolved_of d.objects.now d.resolution.now.rows l.set.words d.tables.now.chunks)
-    ≡ option_map (λ (e : Entry). Unresolved (name_of e) e.input) (find (marks.is_open (refs_of parts)) (all_symbols p))
+    ≡ option_map (λ (e : InputSymbol). Unresolved (name_of e) e.input) (find (marks.is_open (refs_of parts)) (all_symbols p))
 unfolding first_unresolved_of
 open_are d p l parts is live =
     let allow = p.plan.allow_undefined in
@@ -173,7 +173,7 @@ open_are d p l parts is live =
     ∙ ap (λ cs. open_fault objects (least_by Some (filter (is_open rows) (flat_map (by_object.refers objects) cs)))) chunks
     ∙ ap (open_fault objects) (filter_is Some (is_open rows) (flat_map (by_object.refers objects) (map (λ (part : Part). part.chunk) parts)))
     ∙ open_is allow objects rows imports is.rise parts some_agree
-    ∙ ap (λ es. option_map (λ (e : Entry). Unresolved (name_of e) e.input) (find (marks.is_open (refs_of parts)) es))
+    ∙ ap (λ es. option_map (λ (e : InputSymbol). Unresolved (name_of e) e.input) (find (marks.is_open (refs_of parts)) es))
     (sym (ap (flat_map (λ (r : Resolved). r.symbols)) resolved ∙ flat_resolved allow (entries Plain objects) objects objects))
 
 -- ---- both
@@ -186,7 +186,7 @@ two (Some f) = refl
 pub missing_first : (d : Data) (p : Program) (parts : List Part) (fault : Fault) → IsProgram Plain d p → Some fault ≡ first_missing d.names.now.names d.ranks.now (demanded d.plan.now) → Some fault ≡ unresolved p parts
 unfolding unresolved
 missing_first d p parts fault is told =
-    ap (λ o. first_some (o ∷ option_map (λ (e : Entry). Unresolved (name_of e) e.input) (find (marks.is_open (refs_of parts)) (all_symbols p)) ∷ [])) (told ∙ missing_are d p is)
+    ap (λ o. first_some (o ∷ option_map (λ (e : InputSymbol). Unresolved (name_of e) e.input) (find (marks.is_open (refs_of parts)) (all_symbols p)) ∷ [])) (told ∙ missing_are d p is)
 
 -- an error that stops at it
 pub missing_stops : (d : Data) (p : Program) (parts : List Part) (o : Option Fault) (e x : LinkError) → x ≡ e → IsProgram Plain d p → Stops e o
@@ -203,5 +203,5 @@ pub open_next : (d : Data) (p : Program) (l : Live) (parts : List Part) (fault :
     → fault ≡ open_fault d.objects.now (first_unresolved_of d.objects.now d.resolution.now.rows l.set.words d.tables.now.chunks) → fault ≡ unresolved p parts
 unfolding unresolved
 open_next d p l parts fault is live none told =
-    told ∙ open_are d p l parts is live ∙ sym (two (option_map (λ (e : Entry). Unresolved (name_of e) e.input) (find (marks.is_open (refs_of parts)) (all_symbols p))))
-    ∙ ap (λ o. first_some (o ∷ option_map (λ (e : Entry). Unresolved (name_of e) e.input) (find (marks.is_open (refs_of parts)) (all_symbols p)) ∷ [])) (none ∙ missing_are d p is)
+    told ∙ open_are d p l parts is live ∙ sym (two (option_map (λ (e : InputSymbol). Unresolved (name_of e) e.input) (find (marks.is_open (refs_of parts)) (all_symbols p))))
+    ∙ ap (λ o. first_some (o ∷ option_map (λ (e : InputSymbol). Unresolved (name_of e) e.input) (find (marks.is_open (refs_of parts)) (all_symbols p)) ∷ [])) (none ∙ missing_are d p is)

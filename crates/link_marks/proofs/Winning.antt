@@ -9,7 +9,7 @@ use Rattle.link_program.specs.linking_section.declared.symbol.SymbolKind.TheVari
 use Rattle.link_program.specs.object_file.declared.object.Object.{Object}
 use Rattle.link_program.specs.made_symbols.declared.mode.Mode.{Mode}
 use Rattle.link_program.specs.made_symbols.declared.mode.Mode.TheVariants.{Plain}
-use Rattle.link_program.specs.name_rules.Entries.{Entry, name_of, is_kind}
+use Rattle.link_program.specs.name_rules.Entries.{InputSymbol, name_of, is_kind}
 use Rattle.link_program.specs.name_rules.Meanings.{Resolved, resolve, resolved_in, uses_of}
 use Rattle.link_program.specs.link_rules.Program.{Program, winners_of}
 use Rattle.link_program.specs.link_rules.Marks.{is_exported_by, exported, demanded, export_name, written_name, resolved_at, repeated_export, first_repeat}
@@ -26,22 +26,22 @@ use Rattle.link_marks.proofs.Held.{HeldOf, numbered, entries_held, winners_held}
 
 -- ---- numbers of names
 
-number_is : (names : List (List ℕ)) (e : Entry) (n : ℕ) → number_of names (name_of e) ≡ Some n → name_number names e ≡ n
+number_is : (names : List (List ℕ)) (e : InputSymbol) (n : ℕ) → number_of names (name_of e) ≡ Some n → name_number names e ≡ n
 number_is names e n is = ap (λ o. unwrap_or o 0) is
 
 pub winner_names_held : (d : Data) (p : Program) → IsProgram Plain d p → All (HeldOf d.names.now.names) p.winners
 winner_names_held d p is = subst (All (HeldOf d.names.now.names)) (sym (is.winners_are ∙ ap winners_of is.entries)) (winners_held d.names.now.names _ (entries_held Plain p.objects d.names.now is.numbers))
 
 -- the number of a winner's name is below the count
-pub number_held : (names : List (List ℕ)) (e : Entry) → HeldOf names e → name_number names e < length names
+pub number_held : (names : List (List ℕ)) (e : InputSymbol) → HeldOf names e → name_number names e < length names
 number_held names e held = let n = numbered names (name_of e) held in subst (λ k. k < length names) (sym (number_is names e n.0 n.1)) (number_within names (name_of e) n.0 n.1)
 
-pub winner_number : (names : List (List ℕ)) (winners : List Entry) (w : Winner) → All (HeldOf names) winners → IsWinner names winners w → w.name < length names
+pub winner_number : (names : List (List ℕ)) (winners : List InputSymbol) (w : Winner) → All (HeldOf names) winners → IsWinner names winners w → w.name < length names
 winner_number names winners w all is =
     let e = is.0 in
     subst (λ (v : Winner). v.name < length names) (sym is.2) (number_held names e (All-contains (HeldOf names) winners e all is.1))
 
-pub numbers_held : (names : List (List ℕ)) (winners es : List Entry) (ws : List Winner) → All (HeldOf names) winners → All (Contains winners) es → ws ≡ map (told_winner names) es
+pub numbers_held : (names : List (List ℕ)) (winners es : List InputSymbol) (ws : List Winner) → All (HeldOf names) winners → All (Contains winners) es → ws ≡ map (told_winner names) es
     → All (λ (w : Winner). w.name < length names) ws
 numbers_held names winners es ws held among told =
     subst (All (λ (w : Winner). w.name < length names)) (sym told)
@@ -49,7 +49,7 @@ numbers_held names winners es ws held among told =
 
 -- ---- exports
 
-one_export : (names : List (List ℕ)) (asked : List Bool) (plan : _) (e : Entry) → IsAsked names (demanded plan ++ plan.exports_if) asked → HeldOf names e
+one_export : (names : List (List ℕ)) (asked : List Bool) (plan : _) (e : InputSymbol) → IsAsked names (demanded plan ++ plan.exports_if) asked → HeldOf names e
     → is_export asked plan.export_dynamic (told_winner names e) ≡ is_exported_by plan e
 one_export names asked plan e is held =
     let n = numbered names (name_of e) held in
@@ -71,17 +71,17 @@ exports_are d p asked is are =
 
 -- ---- names of exports
 
-module _ (mode : Mode) (allow : Bool) (all : List Entry) (objects : List Object) where
+module _ (mode : Mode) (allow : Bool) (all : List InputSymbol) (objects : List Object) where
   pub resolved_is : (input : ℕ) → resolved_at (resolve mode allow all objects) input ≡ option_map (resolved_in mode (uses_of mode objects) allow all objects) (find (λ (o : Object). o.input == input) objects)
   unfolding resolve
   resolved_is input = find-map (λ (r : Resolved). r.object.input == input) (resolved_in mode (uses_of mode objects) allow all objects) objects
 
-  own_is : (e : Entry) (o : Option Object)
+  own_is : (e : InputSymbol) (o : Option Object)
       → option_and_then (exported_as e.index) o ≡ option_and_then (λ r. written_name r e) (option_map (resolved_in mode (uses_of mode objects) allow all objects) o)
   own_is e None = refl
   own_is e (Some o) = refl
 
-pub name_is : (d : Data) (p : Program) → IsProgram Plain d p → (e : Entry) → HeldOf d.names.now.names e → name_seen d.objects.now d.names.now.names (told_winner d.names.now.names e) ≡ export_name p e
+pub name_is : (d : Data) (p : Program) → IsProgram Plain d p → (e : InputSymbol) → HeldOf d.names.now.names e → name_seen d.objects.now d.names.now.names (told_winner d.names.now.names e) ≡ export_name p e
 name_is d p is e held =
     let names = d.names.now.names in
     let n = numbered names (name_of e) held in
@@ -100,7 +100,7 @@ name_is d p is e held =
 
 -- ---- a name that is given twice
 
-given_is : (d : Data) (p : Program) → IsProgram Plain d p → (es : List Entry) → All (Contains p.winners) es
+given_is : (d : Data) (p : Program) → IsProgram Plain d p → (es : List InputSymbol) → All (Contains p.winners) es
     → map (given_seen d.objects.now d.names.now.names) (map (told_winner d.names.now.names) es) ≡ map (λ e. record { name = export_name p e; input = e.input }) es
 given_is d p is es among =
     let names = d.names.now.names in
@@ -108,7 +108,7 @@ given_is d p is es among =
     ∙ map_same (λ e. given_seen d.objects.now names (told_winner names e)) (λ e. record { name = export_name p e; input = e.input }) es
     (λ k e below. let x = get_or es k e in let h = name_is d p is x (All-contains (HeldOf names) p.winners x (winner_names_held d p is) (among k e below)) in λ i. record { name = h i; input = x.input })
 
-pub repeats_are : (d : Data) (p : Program) (es : List Entry) (ws : List Winner) → IsProgram Plain d p → All (Contains p.winners) es → ws ≡ map (told_winner d.names.now.names) es
+pub repeats_are : (d : Data) (p : Program) (es : List InputSymbol) (ws : List Winner) → IsProgram Plain d p → All (Contains p.winners) es → ws ≡ map (told_winner d.names.now.names) es
     → first_repeat [] (memory_given d.plan.now.import_memory ++ map (given_seen d.objects.now d.names.now.names) ws) ≡ repeated_export Plain p es
 unfolding repeated_export
 repeats_are d p es ws is among told =

@@ -4,7 +4,7 @@ use Rattle.link_program.specs.linking_section.declared.symbol.SymbolKind.TheVari
 use Rattle.link_program.specs.linking_section.Flags.{kind_code}
 use Rattle.link_program.specs.object_columns.declared.functions.FunctionDef.{FunctionDef}
 use Rattle.link_program.specs.object_file.declared.object.Object.{Object}
-use Rattle.link_program.specs.name_rules.Entries.{Entry}
+use Rattle.link_program.specs.name_rules.Entries.{InputSymbol}
 use Rattle.link_program.specs.link_rules.Marks.{Given, memory_name}
 use Rattle.link_program.specs.declared.symbol.Definition.{Definition}
 use Rattle.link_program.specs.declared.symbol.Winner.{Winner}
@@ -22,8 +22,8 @@ abbrev pub name_seen : List Object → List (List ℕ) → Winner → List ℕ
 name_seen objects names w = unwrap_or (own_name objects w.definition) (slice_index_or names w.name [])
 
 -- A winner as the data tell it.
-abbrev pub IsWinner : List (List ℕ) → List Entry → Winner → Type 0
-IsWinner names winners w = (e : Entry) × Contains winners e × (w ≡ told_winner names e)
+abbrev pub IsWinner : List (List ℕ) → List InputSymbol → Winner → Type 0
+IsWinner names winners w = (e : InputSymbol) × Contains winners e × (w ≡ told_winner names e)
 
 -- ---- names that are given
 

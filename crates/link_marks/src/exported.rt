@@ -3,7 +3,7 @@ ghost use Rattle.std.specs.Prelude.{◌≡◌, ◌<◌, filter, map, length, opt
 ghost use Rattle.link_program.specs.made_symbols.declared.mode.Mode.TheVariants.{Plain};
 ghost use Rattle.link_program.specs.link_rules.Program as rules;
 ghost use Rattle.link_program.specs.link_rules.Marks as marks;
-ghost use Rattle.link_program.specs.name_rules.Entries.{Entry};
+ghost use Rattle.link_program.specs.name_rules.Entries.{InputSymbol};
 ghost use Rattle.link_program.specs.name_entries.View.{InputsRise};
 ghost use Rattle.link_program.specs.Told.{told_winner};
 ghost use Rattle.link_program.specs.Program.{IsProgram};
@@ -96,7 +96,7 @@ pub fn export_name<'a>(program: Program<'a>, winner: &Winner) -> &'a [u8]
     ghost p: { rules.Program }
     requires program { IsProgram Plain program p }
     requires winner { IsWinner program.names.now.names p.winners winner.now }
-    ensures { (e : Entry) → Contains p.winners e → winner.now ≡ told_winner program.entry.names.now.names e → result.now ≡ marks.export_name p e }
+    ensures { (e : InputSymbol) → Contains p.winners e → winner.now ≡ told_winner program.entry.names.now.names e → result.now ≡ marks.export_name p e }
 {
     name_seen(program.objects, program.names, winner)
 }

@@ -4,7 +4,7 @@ use Rattle.std.proofs.lemmas.List.{length-map}
 use Rattle.link_program.specs.object_file.declared.object.Object.{Object}
 use Rattle.link_program.specs.wl_base.declared.layout_error.LayoutError.{LayoutError}
 use Rattle.link_program.specs.made_symbols.declared.mode.Mode.TheVariants.{Plain}
-use Rattle.link_program.specs.name_rules.Entries.{Entry}
+use Rattle.link_program.specs.name_rules.Entries.{InputSymbol}
 use Rattle.link_program.specs.link_names.Numbered.{Numbered as Names, symbol_number}
 use Rattle.link_program.specs.name_entries.declared.lookups.Entries.{Entries}
 use Rattle.link_program.specs.name_entries.Fits.{FitsObjects}
@@ -44,25 +44,25 @@ module _ (d : Program) (p : rules.Program) (live : List ℕ) (parts : List rules
   }
 
   -- The numbers that the data give, for these objects and exports.
-  pub numbered_is : (objects : List Object) (exports : List Winner) (es : List Entry) → objects ≡ d.objects.now → exports ≡ map (told_winner d.names.now.names) es
+  pub numbered_is : (objects : List Object) (exports : List Winner) (es : List InputSymbol) → objects ≡ d.objects.now → exports ≡ map (told_winner d.names.now.names) es
       → IsNumbering d.names.now.names d.resolution.now.imports d.tables.now.types p parts (numbered d.resolution.now.imports (length d.names.now.names) d.tables.now objects d.names.now.symbols exports live) (numbers Plain p parts es)
   numbered_is objects exports es same told =
       subst (λ os. IsNumbering d.names.now.names d.resolution.now.imports d.tables.now.types p parts (numbered d.resolution.now.imports (length d.names.now.names) d.tables.now os d.names.now.symbols exports live) (numbers Plain p parts es))
       (sym (same ∙ is.objects)) (numbering_is given_of exports es told)
 
-  pub overflow_is : (objects : List Object) (exports : List Winner) (es : List Entry) → objects ≡ d.objects.now → exports ≡ map (told_winner d.names.now.names) es
+  pub overflow_is : (objects : List Object) (exports : List Winner) (es : List InputSymbol) → objects ≡ d.objects.now → exports ≡ map (told_winner d.names.now.names) es
       → table_overflow 1 (length (numbered d.resolution.now.imports (length d.names.now.names) d.tables.now objects d.names.now.symbols exports live).slots) ≡ table_overflow (numbers Plain p parts es).first_slot (length (numbers Plain p parts es).slots)
   overflow_is objects exports es same told =
       let n = numbered_is objects exports es same told in
       ap (table_overflow 1) (ap length n.slots ∙ length-map (numbers Plain p parts es).slots (told_function d.names.now.names d.resolution.now.imports))
 
-  pub told_numbers : (objects : List Object) (exports : List Winner) (es : List Entry) → objects ≡ d.objects.now → exports ≡ map (told_winner d.names.now.names) es
+  pub told_numbers : (objects : List Object) (exports : List Winner) (es : List InputSymbol) → objects ≡ d.objects.now → exports ≡ map (told_winner d.names.now.names) es
       → (n : Numbered) → n ≡ numbered d.resolution.now.imports (length d.names.now.names) d.tables.now objects d.names.now.symbols exports live
       → IsNumbering d.names.now.names d.resolution.now.imports d.tables.now.types p parts n (numbers Plain p parts es)
   told_numbers objects exports es same told n given =
       subst (λ (n : Numbered). IsNumbering d.names.now.names d.resolution.now.imports d.tables.now.types p parts n (numbers Plain p parts es)) (sym given) (numbered_is objects exports es same told)
 
-  pub told_overflow : (objects : List Object) (exports : List Winner) (es : List Entry) → objects ≡ d.objects.now → exports ≡ map (told_winner d.names.now.names) es
+  pub told_overflow : (objects : List Object) (exports : List Winner) (es : List InputSymbol) → objects ≡ d.objects.now → exports ≡ map (told_winner d.names.now.names) es
       → {A : Type 0} (r : Result A LayoutError) → TellsOverflow r (table_overflow 1 (length (numbered d.resolution.now.imports (length d.names.now.names) d.tables.now objects d.names.now.symbols exports live).slots))
       → TellsOverflow r (table_overflow (numbers Plain p parts es).first_slot (length (numbers Plain p parts es).slots))
   told_overflow objects exports es same told r tells = subst (λ (end : Option ℕ). TellsOverflow r end) (overflow_is objects exports es same told) tells

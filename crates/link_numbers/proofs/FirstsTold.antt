@@ -12,7 +12,7 @@ use Rattle.std.proofs.lemmas.Option.{slice_get-map, get_or_from_slice_get, slice
 use Rattle.link_program.specs.wl_base.Names.{number_of}
 use Rattle.link_program.specs.linking_section.declared.symbol.Symbol.{Symbol}
 use Rattle.link_program.specs.object_file.declared.object.Object.{Object}
-use Rattle.link_program.specs.name_rules.Entries.{Entry, is_entry, is_named, name_of, symbols_of, entries_from, entry_in}
+use Rattle.link_program.specs.name_rules.Entries.{InputSymbol, is_entry, is_named, name_of, symbols_of, entries_from, entry_in}
 use Rattle.link_program.specs.name_entries.View.{rows_of, entry_at, entry_number}
 use Rattle.link_program.specs.link_names.Numbered.{is_entry_symbol, symbol_number}
 use Rattle.link_numbers.specs.declared.firsts.At.{At}
@@ -24,19 +24,19 @@ abbrev names_one : List (List ℕ) → Type 0
 names_one names = OnePlace bytes_eq name_equal name_itself names
 
 -- the least entry of a name among symbols
-abbrev pub least_of : List Entry → List ℕ → Option Entry
+abbrev pub least_of : List InputSymbol → List ℕ → Option InputSymbol
 least_of es name = find (is_named name) (filter is_entry es)
 
 -- The column of these symbols.
-pub record AreFirsts (names : List (List ℕ)) (objects : List Object) (es : List Entry) (column : List (Option At)) : Type 0 where
+pub record AreFirsts (names : List (List ℕ)) (objects : List Object) (es : List InputSymbol) (column : List (Option At)) : Type 0 where
   pub count : length column ≡ length names
   pub each : (i : ℕ) (name : List ℕ) → slice_get names i ≡ Some name → option_map (λ at. entry_at objects at.object at.place) (get_or column i None) ≡ option_map Some (least_of es name)
 
-least_more : (es : List Entry) (e : Entry) (name : List ℕ) → least_of (es ++ e ∷ []) name ≡ option_or (least_of es name) (find (is_named name) (cond (is_entry e) (e ∷ []) []))
+least_more : (es : List InputSymbol) (e : InputSymbol) (name : List ℕ) → least_of (es ++ e ∷ []) name ≡ option_or (least_of es name) (find (is_named name) (cond (is_entry e) (e ∷ []) []))
 least_more es e name = ap (find (is_named name)) (filter-append is_entry es (e ∷ [])) ∙ find-append (is_named name) (filter is_entry es) (cond (is_entry e) (e ∷ []) [])
 
 -- what one symbol more is for a name
-one_least : (e : Entry) (name : List ℕ) (r s : Bool) → is_entry e ≡ r → is_named name e ≡ s → find (is_named name) (cond (is_entry e) (e ∷ []) []) ≡ (if r && s then Some e else None)
+one_least : (e : InputSymbol) (name : List ℕ) (r s : Bool) → is_entry e ≡ r → is_named name e ≡ s → find (is_named name) (cond (is_entry e) (e ∷ []) []) ≡ (if r && s then Some e else None)
 one_least e name true true a b = rw (a, b) refl
 one_least e name true false a b = rw (a, b) refl
 one_least e name false s a b = rw a refl
@@ -58,7 +58,7 @@ blank_at zero i = refl
 blank_at (suc n) zero = refl
 blank_at (suc n) (suc i) = blank_at n i
 
-number_inside : (names : List (List ℕ)) (e : Entry) (n : ℕ) → entry_number names e ≡ Some n → n < length names
+number_inside : (names : List (List ℕ)) (e : InputSymbol) (n : ℕ) → entry_number names e ≡ Some n → n < length names
 number_inside names e n number = by_entry (is_entry e) refl
   where
     by_entry : (r : Bool) → is_entry e ≡ r → n < length names
@@ -68,11 +68,11 @@ number_inside names e n number = by_entry (is_entry e) refl
         (position-Some (bytes_eq (name_of e)) names n [] found).0
 
 module _ (names : List (List ℕ)) (one : names_one names) (objects : List Object) where
-  abbrev seen : Option At → Option (Option Entry)
+  abbrev seen : Option At → Option (Option InputSymbol)
   seen o = option_map (λ at. entry_at objects at.object at.place) o
 
   -- a name that the symbol isn't an entry of
-  others : (es : List Entry) (e : Entry) (name : List ℕ) → (if is_entry e then is_named name e else false) ≡ false → least_of (es ++ e ∷ []) name ≡ least_of es name
+  others : (es : List InputSymbol) (e : InputSymbol) (name : List ℕ) → (if is_entry e then is_named name e else false) ≡ false → least_of (es ++ e ∷ []) name ≡ least_of es name
   others es e name no_entry = least_more es e name ∙ by_entry (is_entry e) (is_named name e) refl refl
     where
       by_entry : (r s : Bool) → is_entry e ≡ r → is_named name e ≡ s → option_or (least_of es name) (find (is_named name) (cond (is_entry e) (e ∷ []) [])) ≡ least_of es name
@@ -83,7 +83,7 @@ module _ (names : List (List ℕ)) (one : names_one names) (objects : List Objec
   -- ---- one symbol more
 
   -- a symbol without a number is no entry of a name that has one
-  unnumbered : (e : Entry) (i : ℕ) (name : List ℕ) → slice_get names i ≡ Some name → entry_number names e ≡ None → (if is_entry e then is_named name e else false) ≡ false
+  unnumbered : (e : InputSymbol) (i : ℕ) (name : List ℕ) → slice_get names i ≡ Some name → entry_number names e ≡ None → (if is_entry e then is_named name e else false) ≡ false
   unnumbered e i name at none = by_entry (is_entry e) (is_named name e) refl refl
     where
       by_entry : (r s : Bool) → is_entry e ≡ r → is_named name e ≡ s → (if r then s else false) ≡ false
@@ -96,7 +96,7 @@ module _ (names : List (List ℕ)) (one : names_one names) (objects : List Objec
       by_entry false s a b = refl
 
   -- a symbol with a number is an entry of the name that has it, and of no other
-  numbered : (e : Entry) (n : ℕ) → entry_number names e ≡ Some n → (i : ℕ) (name : List ℕ) → slice_get names i ≡ Some name → (is_entry e ≡ true) × (is_named name e ≡ (n == i))
+  numbered : (e : InputSymbol) (n : ℕ) → entry_number names e ≡ Some n → (i : ℕ) (name : List ℕ) → slice_get names i ≡ Some name → (is_entry e ≡ true) × (is_named name e ≡ (n == i))
   numbered e n number i name at = by_entry (is_entry e) refl
     where
       by_number : number_of names (name_of e) ≡ Some n → is_named name e ≡ (n == i)
@@ -108,7 +108,7 @@ module _ (names : List (List ℕ)) (one : names_one names) (objects : List Objec
       by_entry false a = absurd (let f : None ≡ Some n = sym (ap (λ b. if b then number_of names (name_of e) else None) a) ∙ number in cc)
       by_entry true a = (refl, by_number (sym (ap (λ b. if b then number_of names (name_of e) else None) a) ∙ number))
 
-  module _ (es : List Entry) (e : Entry) (at : At) (there : entry_at objects at.object at.place ≡ Some e) (column : List (Option At)) (are : AreFirsts names objects es column) where
+  module _ (es : List InputSymbol) (e : InputSymbol) (at : At) (there : entry_at objects at.object at.place ≡ Some e) (column : List (Option At)) (are : AreFirsts names objects es column) where
     more_none : entry_number names e ≡ None → AreFirsts names objects (es ++ e ∷ []) column
     more_none none = record {
       count = are.count;
@@ -173,14 +173,14 @@ module _ (names : List (List ℕ)) (one : names_one names) (objects : List Objec
 
   -- ---- the symbols of an object
 
-  abbrev Placed : ℕ → ℕ → List Entry → Type 0
-  Placed object place es = (k : ℕ) (e : Entry) → slice_get es k ≡ Some e → entry_at objects object (place + k) ≡ Some e
+  abbrev Placed : ℕ → ℕ → List InputSymbol → Type 0
+  Placed object place es = (k : ℕ) (e : InputSymbol) → slice_get es k ≡ Some e → entry_at objects object (place + k) ≡ Some e
 
-  row_noted : (o : Object) (object place : ℕ) (ss : List Symbol) (es : List Entry) (column : List (Option At)) → Placed object place (entries_from objects o place ss) → AreFirsts names objects es column
+  row_noted : (o : Object) (object place : ℕ) (ss : List Symbol) (es : List InputSymbol) (column : List (Option At)) → Placed object place (entries_from objects o place ss) → AreFirsts names objects es column
       → AreFirsts names objects (es ++ entries_from objects o place ss) (firsts_row object place column (map (symbol_number names) ss))
   row_noted o object place [] es column placed are = subst (λ xs. AreFirsts names objects xs column) (sym (append-nil es)) are
   row_noted o object place (s ∷ ss) es column placed are =
-      let e : Entry = entry_in objects o place s in
+      let e : InputSymbol = entry_in objects o place s in
       let at : At = record { object = object; place = place } in
       let zero_place : place + 0 ≡ place = omega arith in
       let there : entry_at objects object place ≡ Some e = ap (entry_at objects object) (sym zero_place) ∙ placed 0 e refl in
@@ -191,7 +191,7 @@ module _ (names : List (List ℕ)) (one : names_one names) (objects : List Objec
 
   -- ---- all objects
 
-  rows_noted : (os : List Object) (object : ℕ) (es : List Entry) (column : List (Option At)) → ((k : ℕ) (o : Object) → slice_get os k ≡ Some o → slice_get objects (object + k) ≡ Some o) → AreFirsts names objects es column
+  rows_noted : (os : List Object) (object : ℕ) (es : List InputSymbol) (column : List (Option At)) → ((k : ℕ) (o : Object) → slice_get os k ≡ Some o → slice_get objects (object + k) ≡ Some o) → AreFirsts names objects es column
       → AreFirsts names objects (es ++ flat_map (symbols_of objects) os) (firsts_rows object column (map (λ (o : Object). map (symbol_number names) o.symbols) os))
   rows_noted [] object es column placed are = subst (λ xs. AreFirsts names objects xs column) (sym (append-nil es)) are
   rows_noted (o ∷ os) object es column placed are =

@@ -28,18 +28,18 @@ symbol_type_same (of_global a) = (same_global_type_is a a).1 refl
 symbol_type_same untyped = refl
 
 abbrev key_made : List ℕ → List ℕ → SymbolType → ImportKey
-key_made place field type = record { place = place; field = field; type = type }
+key_made place field type = record { module_name = place; field = field; type = type }
 
 pub import_equal : (a b : ImportKey) → same_import a b ≡ true → a ≡ b
 import_equal a b e =
-    let all = both (bytes_eq a.place b.place && bytes_eq a.field b.field) (same_symbol_type a.type b.type) e in
-    let names = both (bytes_eq a.place b.place) (bytes_eq a.field b.field) all.0 in
-    ap (λ place. key_made place a.field a.type) ((bytes_eq-Decides a.place b.place).0 names.0)
-    ∙ ap (λ field. key_made b.place field a.type) ((bytes_eq-Decides a.field b.field).0 names.1)
-    ∙ ap (λ type. key_made b.place b.field type) (symbol_type_equal a.type b.type all.1)
+    let all = both (bytes_eq a.module_name b.module_name && bytes_eq a.field b.field) (same_symbol_type a.type b.type) e in
+    let names = both (bytes_eq a.module_name b.module_name) (bytes_eq a.field b.field) all.0 in
+    ap (λ place. key_made place a.field a.type) ((bytes_eq-Decides a.module_name b.module_name).0 names.0)
+    ∙ ap (λ field. key_made b.module_name field a.type) ((bytes_eq-Decides a.field b.field).0 names.1)
+    ∙ ap (λ type. key_made b.module_name b.field type) (symbol_type_equal a.type b.type all.1)
 
 pub import_itself : (a : ImportKey) → same_import a a ≡ true
-import_itself a = rw ((bytes_eq-Decides a.place a.place).1 refl, (bytes_eq-Decides a.field a.field).1 refl) (symbol_type_same a.type)
+import_itself a = rw ((bytes_eq-Decides a.module_name a.module_name).1 refl, (bytes_eq-Decides a.field a.field).1 refl) (symbol_type_same a.type)
 
 pub name_equal : (a b : List ℕ) → bytes_eq a b ≡ true → a ≡ b
 name_equal a b e = (bytes_eq-Decides a b).0 e

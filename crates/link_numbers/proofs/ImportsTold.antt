@@ -5,7 +5,7 @@ use Rattle.std.specs.List.{list_any, All}
 use Rattle.std.proofs.lemmas.Option.{slice_get_within, slice_get_past}
 use Rattle.link_program.specs.index_layout.Numbers.{number_by}
 use Rattle.link_program.specs.made_symbols.declared.mode.Mode.TheVariants.{Plain}
-use Rattle.link_program.specs.name_rules.Entries.{Entry, ImportKey, same_import}
+use Rattle.link_program.specs.name_rules.Entries.{InputSymbol, ImportKey, same_import}
 use Rattle.link_program.specs.name_rules.Meanings.{Meaning, here, imported, null, nothing}
 use Rattle.link_program.specs.link_rules.Program as rules
 use Rattle.link_program.specs.link_rules.Program.{Ref}
@@ -39,9 +39,9 @@ and_swap true false = refl
 and_swap false true = refl
 and_swap false false = refl
 
-module _ (names : List (List ℕ)) (imports : List ImportKey) (one : OnePlace same_import import_equal import_itself imports) (all : List Entry) where
+module _ (names : List (List ℕ)) (imports : List ImportKey) (one : OnePlace same_import import_equal import_itself imports) (all : List InputSymbol) where
   -- whether a reference names the import of a number
-  names_import : (i : ℕ) (k : ImportKey) → slice_get imports i ≡ Some k → (e : Entry) (m : Meaning) → KnownMeaning imports all e m
+  names_import : (i : ℕ) (k : ImportKey) → slice_get imports i ≡ Some k → (e : InputSymbol) (m : Meaning) → KnownMeaning imports all e m
       → is_at i (import_named (told_lead imports m)) ≡ option_any (same_import k) (import_of m)
   names_import i k at e (here d) known = refl
   names_import i k at e (imported j) known = same_number same_import import_equal import_itself imports i k j one at known

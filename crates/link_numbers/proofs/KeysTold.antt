@@ -11,7 +11,7 @@ use Rattle.link_program.specs.linking_section.declared.symbol.SymbolKind.TheVari
 use Rattle.link_program.specs.linking_section.Flags.{kind_code}
 use Rattle.link_program.specs.mark_bits.declared.chunk.Chunk.{Chunk}
 use Rattle.link_program.specs.made_symbols.declared.mode.Mode.TheVariants.{Plain}
-use Rattle.link_program.specs.name_rules.Entries.{Entry, ImportKey, same_import, is_kind, name_of}
+use Rattle.link_program.specs.name_rules.Entries.{InputSymbol, ImportKey, same_import, is_kind, name_of}
 use Rattle.link_program.specs.name_rules.Meanings.{Meaning, here, imported, null, nothing}
 use Rattle.link_program.specs.link_rules.Program as rules
 use Rattle.link_program.specs.link_rules.Program.{Ref, refs}
@@ -54,14 +54,14 @@ code_itself x = grind (arith, nat_tests)
 -- ---- functions that are meant
 
 module _ (names : List (List ℕ)) (imports : List ImportKey) where
-  own_told : (d : Entry) (r : Bool) → (d.input == 0) ≡ r → function_of (told_definition d) ≡ told_function names imports (if r then linker_function d.place else own d.input d.index)
+  own_told : (d : InputSymbol) (r : Bool) → (d.input == 0) ≡ r → function_of (told_definition d) ≡ told_function names imports (if r then linker_function d.place else own d.input d.index)
   own_told d true is =
       let zero_input : d.input ≡ 0 = grind (arith, nat_tests) in
       ap (λ r. functions.Own d.input (if r then d.place else d.index)) is ∙ ap (λ i. functions.Own i d.place) zero_input
   own_told d false is = ap (λ r. functions.Own d.input (if r then d.place else d.index)) is
 
   -- what a reference takes, put before others
-  taken_one : (all : List Entry) (e : Entry) (m : Meaning) (a : Bool) (rest : List FunctionKey) → KnownMeaning imports all e m
+  taken_one : (all : List InputSymbol) (e : InputSymbol) (m : Meaning) (a : Bool) (rest : List FunctionKey) → KnownMeaning imports all e m
       → cons_option (where_so a (function_meant (told_lead imports m))) rest ≡ cond (not (is_null m) && a) (told_function names imports (meant_function (name_of e) m) ∷ rest) rest
   taken_one all e (here d) true rest known = ap (λ f. f ∷ rest) (own_told d (d.input == 0) refl)
   taken_one all e (here d) false rest known = refl
@@ -86,7 +86,7 @@ module _ (names : List (List ℕ)) (imports : List ImportKey) where
   abbrev slot_of_ref : Ref → Option FunctionKey
   slot_of_ref ref = where_so (asks_slot ref.kind ref.entry.symbol.kind) (function_meant (told_lead imports ref.meaning))
 
-  taken_told_refs : (all : List Entry) (rs : List Ref) → All (KnownRef imports all) rs → filter_map slot_of_ref rs ≡ map (told_function names imports) (taken_functions rs)
+  taken_told_refs : (all : List InputSymbol) (rs : List Ref) → All (KnownRef imports all) rs → filter_map slot_of_ref rs ≡ map (told_function names imports) (taken_functions rs)
   taken_told_refs all [] known = refl
   taken_told_refs all (ref ∷ rs) known =
       taken_one all ref.entry ref.meaning (asks_slot ref.kind ref.entry.symbol.kind) (filter_map slot_of_ref rs) (All-head (KnownRef imports all) ref rs known)
@@ -94,7 +94,7 @@ module _ (names : List (List ℕ)) (imports : List ImportKey) where
       ∙ function_kept (takes_slot Plain ref) ref (filter (takes_slot Plain) rs)
 
   -- The functions whose slots are taken.
-  pub taken_told : (all : List Entry) (parts : List rules.Part) → All (KnownRef imports all) (refs_of parts) → filter_map slot_asked (told_refs names imports parts) ≡ map (told_function names imports) (taken_functions (refs_of parts))
+  pub taken_told : (all : List InputSymbol) (parts : List rules.Part) → All (KnownRef imports all) (refs_of parts) → filter_map slot_asked (told_refs names imports parts) ≡ map (told_function names imports) (taken_functions (refs_of parts))
   taken_told all parts known = chosen_all names imports slot_asked slot_of_ref (λ code ref. refl) parts ∙ taken_told_refs all (refs_of parts) known
 
   -- ---- cells
@@ -179,7 +179,7 @@ module _ (names : List (List ℕ)) (imports : List ImportKey) where
       given_told (told_global imports) (is_own 2 false part.chunk) (not (part.chunk.input == 0) && (part.chunk.kind == 2)) (own_global part.chunk.input part.chunk.index) (globals.Own part.chunk.input part.chunk.index)
       (and_swap (part.chunk.kind == 2) (not (part.chunk.input == 0))) (λ is. refl)
 
-  pub datum_told : (e : Entry) → datum_listed (told_winner names e) ≡ option_map (told_global imports) (datum_key e)
+  pub datum_told : (e : InputSymbol) → datum_listed (told_winner names e) ≡ option_map (told_global imports) (datum_key e)
   datum_told e = given_told (told_global imports) (is_kind Datum e) (is_kind Datum e) (exported_datum e) (globals.Datum (told_definition e)) refl (λ is. refl)
 
   filter_map_told : {A X Y : Type 0} (h : A → Option Y) (g : A → Option X) (f : X → Y) (each : (a : A) → h a ≡ option_map f (g a)) (xs : List A) → filter_map h xs ≡ map f (filter_map g xs)
@@ -202,7 +202,7 @@ module _ (names : List (List ℕ)) (imports : List ImportKey) where
   pub own_globals_told : (parts : List rules.Part) → filter_map (λ part. own_global_in false part.chunk) parts ≡ map (told_global imports) (filter_map own_global_key parts)
   own_globals_told parts = filter_map_told (λ part. own_global_in false part.chunk) own_global_key (told_global imports) own_global_told parts
 
-  pub data_told : (es : List Entry) → filter_map datum_listed (map (told_winner names) es) ≡ map (told_global imports) (filter_map datum_key es)
+  pub data_told : (es : List InputSymbol) → filter_map datum_listed (map (told_winner names) es) ≡ map (told_global imports) (filter_map datum_key es)
   data_told [] = refl
   data_told (e ∷ es) = ap (λ o. cons_option o (filter_map datum_listed (map (told_winner names) es))) (datum_told e) ∙ ap (λ r. cons_option (option_map (told_global imports) (datum_key e)) r) (data_told es) ∙ by_option (datum_key e)
     where
@@ -232,12 +232,12 @@ module _ (names : List (List ℕ)) (imports : List ImportKey) where
 
   -- ---- what is known of keys
 
-  function_of_known : (d : Entry) (r : Bool) → (d.input == 0) ≡ r → KnowsFunction names imports (if r then linker_function d.place else own d.input d.index)
+  function_of_known : (d : InputSymbol) (r : Bool) → (d.input == 0) ≡ r → KnowsFunction names imports (if r then linker_function d.place else own d.input d.index)
   function_of_known d true is = tt
   function_of_known d false is = is
 
-  module _ (all : List Entry) (held : (name : List ℕ) → list_any (bytes_eq name) (map name_of all) ≡ true → list_any (bytes_eq name) names ≡ true) where
-    meant_known : (e : Entry) (m : Meaning) → KnownMeaning imports all e m → KnowsFunction names imports (meant_function (name_of e) m)
+  module _ (all : List InputSymbol) (held : (name : List ℕ) → list_any (bytes_eq name) (map name_of all) ≡ true → list_any (bytes_eq name) names ≡ true) where
+    meant_known : (e : InputSymbol) (m : Meaning) → KnownMeaning imports all e m → KnowsFunction names imports (meant_function (name_of e) m)
     meant_known e (here d) known = function_of_known d (d.input == 0) refl
     meant_known e (imported k) known = known
     meant_known e null known = held (name_of e) known.named
@@ -246,7 +246,7 @@ module _ (names : List (List ℕ)) (imports : List ImportKey) where
     pub ref_function_known : (ref : Ref) → KnownRef imports all ref → KnowsFunction names imports (ref_function ref)
     ref_function_known ref known = meant_known ref.entry ref.meaning known
 
-    got_known : (kind : ℕ) (e : Entry) (m : Meaning) → KnownMeaning imports all e m → KnowsGot imports (got_of kind m)
+    got_known : (kind : ℕ) (e : InputSymbol) (m : Meaning) → KnownMeaning imports all e m → KnowsGot imports (got_of kind m)
     got_known kind e (here d) known = tt
     got_known kind e (imported k) known = known
     got_known kind e null known = tt

@@ -9,7 +9,7 @@ use Rattle.link_program.specs.wl_base.Choice.{distinct, first_some}
 use Rattle.link_program.specs.object_file.declared.object.Object.{Object}
 use Rattle.link_program.specs.made_symbols.declared.mode.Mode.TheVariants.{Plain}
 use Rattle.link_program.specs.made_symbols.Made.{made, MadeSymbol}
-use Rattle.link_program.specs.name_rules.Entries.{Entry, ImportKey, same_import, is_entry, name_of, symbols_of, entries, is_named, made_entry, made_from}
+use Rattle.link_program.specs.name_rules.Entries.{InputSymbol, ImportKey, same_import, is_entry, name_of, symbols_of, entries, is_named, made_entry, made_from}
 use Rattle.link_program.specs.name_rules.Meanings.{Meaning, here, imported, null, nothing, Resolved, resolve, resolved_in, no_uses, meaning, own_meaning, by_rules, least, lesser, entry_rank, is_nothing}
 use Rattle.link_program.specs.link_rules.Program as rules
 use Rattle.link_program.specs.link_rules.Program.{Ref, refs}
@@ -22,19 +22,19 @@ use Rattle.link_numbers.proofs.Equals.{holds_distinct}
 use Rattle.link_numbers.proofs.Imports.{import_equal, import_itself, name_itself}
 
 -- The name of what is null is that of an entry, and the linker defines none of that name.
-pub record IsNull (all : List Entry) (e : Entry) : Type 0 where
+pub record IsNull (all : List InputSymbol) (e : InputSymbol) : Type 0 where
   pub entry : is_entry e ≡ true
   pub named : list_any (bytes_eq (name_of e)) (map name_of all) ≡ true
   pub unmade : list_any (is_named (name_of e)) (made_from 0 (made Plain)) ≡ false
 
 -- An import is one of the imports.
-abbrev pub KnownMeaning : List ImportKey → List Entry → Entry → Meaning → Type 0
+abbrev pub KnownMeaning : List ImportKey → List InputSymbol → InputSymbol → Meaning → Type 0
 KnownMeaning imports all e (here d) = Unit {0}
 KnownMeaning imports all e (imported k) = list_any (same_import k) imports ≡ true
 KnownMeaning imports all e null = IsNull all e
 KnownMeaning imports all e nothing = ⊥
 
-abbrev pub KnownRef : List ImportKey → List Entry → Ref → Type 0
+abbrev pub KnownRef : List ImportKey → List InputSymbol → Ref → Type 0
 KnownRef imports all ref = KnownMeaning imports all ref.entry ref.meaning
 
 -- ---- symbols
@@ -47,11 +47,11 @@ import_known resolved i s r k at there =
     ∙ any_flat_map (λ m. option_any (same_import k) (import_of m)) (λ r. r.meanings) resolved i r at
     (any_at (λ m. option_any (same_import k) (import_of m)) r.meanings s (imported k) there (import_itself k)))
 
-own_not_null : (e : Entry) (r : Bool) → (if r then here e else nothing) ≡ null → ⊥
+own_not_null : (e : InputSymbol) (r : Bool) → (if r then here e else nothing) ≡ null → ⊥
 own_not_null e true is = absurd cc
 own_not_null e false is = absurd cc
 
-null_is_entry : (allow : Bool) (all : List Entry) (e : Entry) → meaning Plain no_uses allow all e ≡ null → is_entry e ≡ true
+null_is_entry : (allow : Bool) (all : List InputSymbol) (e : InputSymbol) → meaning Plain no_uses allow all e ≡ null → is_entry e ≡ true
 null_is_entry allow all e is = by_entry (is_entry e) refl
   where
     by_entry : (r : Bool) → is_entry e ≡ r → r ≡ true
@@ -61,19 +61,19 @@ null_is_entry allow all e is = by_entry (is_entry e) refl
 
 -- ---- what is null has no definition
 
-least_none : (es : List Entry) → least es ≡ None → es ≡ []
+least_none : (es : List InputSymbol) → least es ≡ None → es ≡ []
 least_none [] e = refl
 least_none (d ∷ es) e = absurd (by_rest (least es) e)
   where
-    by_rank : (r : Bool) (f : Entry) → (if r then Some f else Some d) ≡ None → ⊥
+    by_rank : (r : Bool) (f : InputSymbol) → (if r then Some f else Some d) ≡ None → ⊥
     by_rank true f e = absurd cc
     by_rank false f e = absurd cc
 
-    by_rest : (o : Option Entry) → lesser d o ≡ None → ⊥
+    by_rest : (o : Option InputSymbol) → lesser d o ≡ None → ⊥
     by_rest None e = absurd cc
     by_rest (Some f) e = by_rank (nat_lt (entry_rank f) (entry_rank d)) f e
 
-null_undefined : (o : Option Entry) (rest : List (Option Meaning)) → unwrap_or (first_some (option_map here o ∷ rest)) nothing ≡ null → o ≡ None
+null_undefined : (o : Option InputSymbol) (rest : List (Option Meaning)) → unwrap_or (first_some (option_map here o ∷ rest)) nothing ≡ null → o ≡ None
 null_undefined None rest e = refl
 null_undefined (Some d) rest e = absurd cc
 
@@ -90,11 +90,11 @@ first_false : (a b : Bool) → (a || b) ≡ false → a ≡ false
 first_false true b e = e
 first_false false b e = refl
 
-null_unmade : (allow : Bool) (objects : List Object) (e : Entry) → is_entry e ≡ true → meaning Plain no_uses allow (entries Plain objects) e ≡ null → list_any (is_named (name_of e)) (made_from 0 (made Plain)) ≡ false
+null_unmade : (allow : Bool) (objects : List Object) (e : InputSymbol) → is_entry e ≡ true → meaning Plain no_uses allow (entries Plain objects) e ≡ null → list_any (is_named (name_of e)) (made_from 0 (made Plain)) ≡ false
 unfolding entries
 null_unmade allow objects e entry is =
-    let all : List Entry = made_from 0 (made Plain) ++ filter is_entry (flat_map (symbols_of objects) objects) in
-    let es : List Entry = filter (is_named (name_of e)) all in
+    let all : List InputSymbol = made_from 0 (made Plain) ++ filter is_entry (flat_map (symbols_of objects) objects) in
+    let es : List InputSymbol = filter (is_named (name_of e)) all in
     let ruled : by_rules Plain no_uses allow es e ≡ null = sym (ap (λ b. if b then by_rules Plain no_uses allow es e else own_meaning e) entry) ∙ is in
     let none : least (filter (λ d. d.defines) es) ≡ None = null_undefined (least (filter (λ d. d.defines) es)) _ ruled in
     let empty : list_any (λ x. true) (filter (λ d. d.defines) es) ≡ false = ap (list_any (λ x. true)) (least_none (filter (λ d. d.defines) es) none) in
@@ -104,7 +104,7 @@ null_unmade allow objects e entry is =
     ∙ first_false (list_any (λ x. is_named (name_of e) x && (x.defines && true)) (made_from 0 (made Plain))) (list_any (λ x. is_named (name_of e) x && (x.defines && true)) (filter is_entry (flat_map (symbols_of objects) objects)))
     (sym (list_any-append (λ x. is_named (name_of e) x && (x.defines && true)) (made_from 0 (made Plain)) (filter is_entry (flat_map (symbols_of objects) objects))) ∙ whole)
 
-name_known : (objects : List Object) (i s : ℕ) (o : Object) (e : Entry) → slice_get objects i ≡ Some o → slice_get (symbols_of objects o) s ≡ Some e → is_entry e ≡ true
+name_known : (objects : List Object) (i s : ℕ) (o : Object) (e : InputSymbol) → slice_get objects i ≡ Some o → slice_get (symbols_of objects o) s ≡ Some e → is_entry e ≡ true
     → list_any (bytes_eq (name_of e)) (map name_of (entries Plain objects)) ≡ true
 unfolding entries
 name_known objects i s o e at there entry =
@@ -115,12 +115,12 @@ name_known objects i s o e at there entry =
     (any_at (λ y. is_entry y && bytes_eq (name_of e) (name_of y)) (symbols_of objects o) s e there (rw entry (name_itself (name_of e)))))
 
 -- A row of symbols with their meanings is that of an object.
-record IsRowOf (allow : Bool) (all : List Entry) (objects : List Object) (i : ℕ) (r : Resolved) : Type 0 where
+record IsRowOf (allow : Bool) (all : List InputSymbol) (objects : List Object) (i : ℕ) (r : Resolved) : Type 0 where
   pub object : Object
   pub at : slice_get objects i ≡ Some object
   pub is : resolved_in Plain no_uses allow all objects object ≡ r
 
-row_of_object : (allow : Bool) (all : List Entry) (objects : List Object) (i : ℕ) (r : Resolved) → slice_get (resolve Plain allow all objects) i ≡ Some r → IsRowOf allow all objects i r
+row_of_object : (allow : Bool) (all : List InputSymbol) (objects : List Object) (i : ℕ) (r : Resolved) → slice_get (resolve Plain allow all objects) i ≡ Some r → IsRowOf allow all objects i r
 unfolding resolve
 row_of_object allow all objects i r at = by_object (slice_get objects i) refl (sym (slice_get-map (resolved_in Plain no_uses allow all objects) objects i) ∙ at)
   where
@@ -128,10 +128,10 @@ row_of_object allow all objects i r at = by_object (slice_get objects i) refl (s
     by_object None is e = absurd cc
     by_object (Some o) is e = record { object = o; at = is; is = cc }
 
-null_known : (allow : Bool) (objects : List Object) (i s : ℕ) (r : Resolved) (e : Entry) → slice_get (resolve Plain allow (entries Plain objects) objects) i ≡ Some r
+null_known : (allow : Bool) (objects : List Object) (i s : ℕ) (r : Resolved) (e : InputSymbol) → slice_get (resolve Plain allow (entries Plain objects) objects) i ≡ Some r
     → slice_get r.symbols s ≡ Some e → slice_get r.meanings s ≡ Some null → IsNull (entries Plain objects) e
 null_known allow objects i s r e at there means =
-    let all : List Entry = entries Plain objects in
+    let all : List InputSymbol = entries Plain objects in
     let row = row_of_object allow all objects i r at in
     let symbol : slice_get (symbols_of objects row.object) s ≡ Some e = ap (λ x. slice_get x.symbols s) row.is ∙ there in
     let same : Some (meaning Plain no_uses allow all e) ≡ Some null = sym (ap (option_map (meaning Plain no_uses allow all)) symbol) ∙ sym (slice_get-map (meaning Plain no_uses allow all) (symbols_of objects row.object) s) ∙ ap (λ x. slice_get x.meanings s) row.is ∙ means in
@@ -140,7 +140,7 @@ null_known allow objects i s r e at there means =
     record { entry = entry; named = name_known objects i s row.object e row.at symbol entry; unmade = null_unmade allow objects e entry is }
 
 module _ (p : rules.Program) (from : p.entries ≡ entries Plain p.objects) (means : p.resolved ≡ resolve Plain p.plan.allow_undefined p.entries p.objects) where
-  symbol_known : (e : Entry) (m : Meaning) → IsSymbolOf p.resolved e m → is_nothing m ≡ false → KnownMeaning (imports_in_order p) p.entries e m
+  symbol_known : (e : InputSymbol) (m : Meaning) → IsSymbolOf p.resolved e m → is_nothing m ≡ false → KnownMeaning (imports_in_order p) p.entries e m
   unfolding imports_in_order
   symbol_known e (here d) there meant = tt
   symbol_known e (imported k) there meant = import_known p.resolved there.0 there.1 there.2 k there.3 there.5

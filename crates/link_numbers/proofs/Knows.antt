@@ -6,7 +6,7 @@ use Rattle.std.proofs.lemmas.Bool.Decides.{nat_tests}
 use Rattle.link_program.specs.wl_base.Names.{number_of}
 use Rattle.link_program.specs.index_layout.Numbers.{number_by}
 use Rattle.link_program.specs.linking_section.Flags.{kind_code}
-use Rattle.link_program.specs.name_rules.Entries.{Entry, ImportKey, same_import, name_of}
+use Rattle.link_program.specs.name_rules.Entries.{InputSymbol, ImportKey, same_import, name_of}
 use Rattle.link_program.specs.name_rules.Meanings.{Meaning, here, imported, null, nothing}
 use Rattle.link_program.specs.made_symbols.declared.mode.Mode.TheVariants.{Plain}
 use Rattle.link_program.specs.link_rules.Program.{Ref}

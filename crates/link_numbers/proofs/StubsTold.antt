@@ -12,7 +12,7 @@ use Rattle.link_program.specs.object_file.declared.object.Object.{Object}
 use Rattle.link_program.specs.made_symbols.declared.mode.Mode.TheVariants.{Plain}
 use Rattle.link_program.specs.made_symbols.Made.{made, MadeSymbol}
 use Rattle.link_program.specs.index_layout.Numbers.{number_by}
-use Rattle.link_program.specs.name_rules.Entries.{Entry, ImportKey, is_entry, name_of, symbols_of, entries, entries_from, entry_in, is_named, made_from}
+use Rattle.link_program.specs.name_rules.Entries.{InputSymbol, ImportKey, is_entry, name_of, symbols_of, entries, entries_from, entry_in, is_named, made_from}
 use Rattle.link_program.specs.name_rules.Meanings.{Meaning, here, imported, null, nothing}
 use Rattle.link_program.specs.name_entries.View.{entry_number}
 use Rattle.link_program.specs.link_names.Numbered.{is_entry_symbol, symbol_name, entry_names, group_names, all_names, different_names}
@@ -38,7 +38,7 @@ made_names : (place : ℕ) (ms : List MadeSymbol) → map name_of (made_from pla
 made_names place [] = refl
 made_names place (m ∷ ms) = ap (λ rest. m.name ∷ rest) (made_names (place + 1) ms)
 
-kept_name : (r : Bool) (e : Entry) (s : Symbol) (es : List Entry) (ss : List Symbol) → name_of e ≡ symbol_name s → map name_of es ≡ map symbol_name ss
+kept_name : (r : Bool) (e : InputSymbol) (s : Symbol) (es : List InputSymbol) (ss : List Symbol) → name_of e ≡ symbol_name s → map name_of es ≡ map symbol_name ss
     → map name_of (cond r (e ∷ es) es) ≡ map symbol_name (cond r (s ∷ ss) ss)
 kept_name true e s es ss same again = ap (λ n. n ∷ map name_of es) same ∙ ap (λ ns. symbol_name s ∷ ns) again
 kept_name false e s es ss same again = again
@@ -86,7 +86,7 @@ any_gives {A} Q test P (x ∷ xs) all is each = by_head (test x) refl is (λ res
     by_head true same e again = each x same (All-head P x xs all)
     by_head false same e again = again e
 
-names_filtered : (called : List ℕ → Bool) (es : List Entry) → map name_of (filter (λ e. called (name_of e)) es) ≡ filter called (map name_of es)
+names_filtered : (called : List ℕ → Bool) (es : List InputSymbol) → map name_of (filter (λ e. called (name_of e)) es) ≡ filter called (map name_of es)
 names_filtered called [] = refl
 names_filtered called (e ∷ es) = by_head (called (name_of e)) (names_filtered called es)
   where
@@ -99,7 +99,7 @@ off : (a b : Bool) (o : Option ℕ) (i : ℕ) → is_at i (where_so (a && false)
 off true b o i = refl
 off false b o i = refl
 
-module _ (names : List (List ℕ)) (imports : List ImportKey) (all : List Entry) (later : List (List ℕ)) (order : names ≡ distinct bytes_eq (map name_of all ++ later)) where
+module _ (names : List (List ℕ)) (imports : List ImportKey) (all : List InputSymbol) (later : List (List ℕ)) (order : names ≡ distinct bytes_eq (map name_of all ++ later)) where
   pub one : OnePlace bytes_eq name_equal name_itself names
   one = subst (λ ns. OnePlace bytes_eq name_equal name_itself ns) (sym order) (one_place bytes_eq name_equal name_itself (map name_of all ++ later))
 
@@ -141,7 +141,7 @@ module _ (names : List (List ℕ)) (imports : List ImportKey) (all : List Entry)
 
     -- ---- by number
 
-    number_called : (i : ℕ) (name : List ℕ) → slice_get names i ≡ Some name → (e : Entry) → IsNull all e
+    number_called : (i : ℕ) (name : List ℕ) → slice_get names i ≡ Some name → (e : InputSymbol) → IsNull all e
         → is_at i (entry_number names e) ≡ bytes_eq (name_of e) name
     number_called i name at e k =
         let there = held (name_of e) k.named in
@@ -156,7 +156,7 @@ module _ (names : List (List ℕ)) (imports : List ImportKey) (all : List Entry)
     by_kind true b o i e = e
     by_kind false b o i e = refl
 
-    ref_called : (i : ℕ) (name : List ℕ) → slice_get names i ≡ Some name → (e : Entry) (m : Meaning) (a : Bool) → KnownMeaning imports all e m
+    ref_called : (i : ℕ) (name : List ℕ) → slice_get names i ≡ Some name → (e : InputSymbol) (m : Meaning) (a : Bool) → KnownMeaning imports all e m
         → is_at i (where_so (a && is_null_lead (told_lead imports m)) (entry_number names e)) ≡ ((a && is_null m) && bytes_eq (name_of e) name)
     ref_called i name at e (here d) a k = off a (bytes_eq (name_of e) name) (entry_number names e) i
     ref_called i name at e (imported j) a k = off a (bytes_eq (name_of e) name) (entry_number names e) i

@@ -14,7 +14,7 @@ use Rattle.link_program.specs.mark_bits.declared.chunk.Chunk.{Chunk}
 use Rattle.link_program.specs.made_symbols.declared.mode.Mode.TheVariants.{Plain}
 use Rattle.link_program.specs.made_symbols.Made.{made}
 use Rattle.link_program.specs.index_layout.Numbers.{number_by}
-use Rattle.link_program.specs.name_rules.Entries.{Entry, ImportKey, same_import, is_entry, is_named, name_of, symbols_of, entries, made_from}
+use Rattle.link_program.specs.name_rules.Entries.{InputSymbol, ImportKey, same_import, is_entry, is_named, name_of, symbols_of, entries, made_from}
 use Rattle.link_program.specs.name_rules.Cases.{first_entry}
 use Rattle.link_program.specs.name_entries.View.{entry_at}
 use Rattle.link_program.specs.link_rules.Program as rules
@@ -166,7 +166,7 @@ find_none {A} test (x ∷ xs) is = by_head (test x) refl (find_none test xs)
     by_head true e again = absurd cc
     by_head false e again = let rest : list_any test xs ≡ false = cc in rw e (again rest)
 
-first_is : (objects : List Object) (o : Option At) (l : Option Entry) → option_map (λ at. entry_at objects at.object at.place) o ≡ option_map Some l → first_type objects o ≡ function_type_of (entry_type l)
+first_is : (objects : List Object) (o : Option At) (l : Option InputSymbol) → option_map (λ at. entry_at objects at.object at.place) o ≡ option_map Some l → first_type objects o ≡ function_type_of (entry_type l)
 first_is objects None None e = refl
 first_is objects None (Some l) e = absurd cc
 first_is objects (Some at) None e = absurd cc

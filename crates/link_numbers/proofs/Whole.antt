@@ -13,7 +13,7 @@ use Rattle.link_program.specs.made_symbols.declared.mode.Mode.TheVariants.{Plain
 use Rattle.link_program.specs.made_symbols.Made.{made}
 use Rattle.link_program.specs.index_layout.Numbers.{number_by}
 use Rattle.link_program.specs.type_merge.Types.{merged}
-use Rattle.link_program.specs.name_rules.Entries.{Entry, ImportKey, same_import, name_of, is_named, is_entry, is_kind, made_from, entries, symbols_of}
+use Rattle.link_program.specs.name_rules.Entries.{InputSymbol, ImportKey, same_import, name_of, is_named, is_entry, is_kind, made_from, entries, symbols_of}
 use Rattle.link_program.specs.linking_section.declared.symbol.SymbolKind.TheVariants.{Datum, GlobalVar}
 use Rattle.link_program.specs.name_rules.Meanings.{Meaning, here, imported, null, nothing, resolve}
 use Rattle.link_program.specs.link_names.Numbered.{symbol_number, different_names}
@@ -294,7 +294,7 @@ module _ {names words : List (List ℕ)} {imports : List ImportKey} {t : Tables}
       ∙ twice global_keys.Got (told_got imports) (λ c. global_keys.Got (told_got imports c)) (λ c. refl) (got_entries Plain parts)
       ∙ sym (twice (told_global imports) got (λ c. global_keys.Got (told_got imports c)) (λ c. refl) (got_entries Plain parts))
 
-  pub globals_are : (exports : List Winner) (es : List Entry) → exports ≡ map (told_winner names) es
+  pub globals_are : (exports : List Winner) (es : List InputSymbol) → exports ≡ map (told_winner names) es
       → globals_listed imports t live exports noted ≡ map (told_global imports) (globals Plain p parts es)
   unfolding globals
   globals_are exports es told =
@@ -376,7 +376,7 @@ module _ {names words : List (List ℕ)} {imports : List ImportKey} {t : Tables}
 
   -- ---- all
 
-  pub numbering_is : (exports : List Winner) (es : List Entry) → exports ≡ map (told_winner names) es
+  pub numbering_is : (exports : List Winner) (es : List InputSymbol) → exports ≡ map (told_winner names) es
       → IsNumbering names imports t.types p parts (numbered imports (length names) t p.objects symbols exports live) (numbers Plain p parts es)
   unfolding noted
   numbering_is exports es told =
@@ -409,14 +409,14 @@ module _ {names words : List (List ℕ)} {imports : List ImportKey} {t : Tables}
       let some = (both (not (part.chunk.input == 0)) (part.chunk.kind == 2) e.0).0 in
       subst (λ k. G k) e.1 (not_true (part.chunk.input == 0) some)
 
-  datum_known : (e : Entry) (k : keys.GlobalKey) → datum_key e ≡ Some k → G k
+  datum_known : (e : InputSymbol) (k : keys.GlobalKey) → datum_key e ≡ Some k → G k
   datum_known e k is = let x = given_is (is_kind Datum e) (exported_datum e) k is in subst (λ k. G k) x.1 tt
 
   kept_globals_held : All (λ k. list_any (same_import k) imports ≡ true) global_keys_of
   unfolding global_keys_of
   kept_globals_held = all_filtered (λ k. list_any (same_import k) imports ≡ true) (λ k. is_global_type k.type && has_import (used_imports (filter (imports_by Plain) (refs_of parts))) k) imports (all_held imports)
 
-  globals_known : (es : List Entry) → All G (globals Plain p parts es)
+  globals_known : (es : List InputSymbol) → All G (globals Plain p parts es)
   unfolding globals
   globals_known es =
       All-append G (map outside_global (global_imports_in Plain p parts)) (made_globals Plain parts ++ filter_map own_global_key parts ++ map got (got_entries Plain parts) ++ filter_map datum_key es)
@@ -433,14 +433,14 @@ module _ {names words : List (List ℕ)} {imports : List ImportKey} {t : Tables}
   unfolding slots
   slots_known = all_filtered K (is_taken (taken_functions names imports (refs_of parts))) (functions Plain p parts) functions_known
 
-  pub tells_numbers : (es : List Entry) → TellsNumbers names imports (numbers Plain p parts es)
+  pub tells_numbers : (es : List InputSymbol) → TellsNumbers names imports (numbers Plain p parts es)
   tells_numbers es = record {
     functions = λ f kf. number_told (told_function names imports) same_function same_function_key (KnowsFunction names imports) (tells_function names imports) f (functions Plain p parts) kf functions_known;
     slots = λ f kf. number_told (told_function names imports) same_function same_function_key (KnowsFunction names imports) (tells_function names imports) f (slots Plain parts (functions Plain p parts)) kf slots_known;
     globals = λ k kk. number_told (told_global imports) same_global same_global_key (KnowsGlobal imports) (tells_global imports) k (globals Plain p parts es) kk (globals_known es);
   }
 
-  global_of_known : (e : Entry) (r : Bool) → (e.input == 0) ≡ r → G (if r then linker_global e.place else own_global e.input e.index)
+  global_of_known : (e : InputSymbol) (r : Bool) → (e.input == 0) ≡ r → G (if r then linker_global e.place else own_global e.input e.index)
   global_of_known e true is = tt
   global_of_known e false is = is
 

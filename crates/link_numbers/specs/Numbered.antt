@@ -5,7 +5,7 @@ use Rattle.link_program.specs.wl_base.declared.layout_error.LayoutError.{LayoutE
 use Rattle.link_program.specs.wl_base.declared.layout_error.LayoutError.TheVariants.{Overflow, OutOfMemory}
 use Rattle.link_program.specs.wasm_types.declared.function.FuncType.{FuncType}
 use Rattle.link_program.specs.object_file.declared.object.Object.{Object}
-use Rattle.link_program.specs.name_rules.Entries.{Entry, ImportKey}
+use Rattle.link_program.specs.name_rules.Entries.{InputSymbol, ImportKey}
 use Rattle.link_program.specs.link_rules.Program as rules
 use Rattle.link_program.specs.link_rules.Keys as keys
 use Rattle.link_program.specs.link_rules.Keys.{type_of}
@@ -84,7 +84,7 @@ is_import_global (globals.Datum d) = false
 -- What the definition has of a link: the program, the exports, and the live parts.
 pub record Linked : Type 0 where
   pub program : rules.Program
-  pub exports : List Entry
+  pub exports : List InputSymbol
   pub parts : List rules.Part
 
 -- The answer tells the end of the slots exactly where it passes; want of memory tells nothing.

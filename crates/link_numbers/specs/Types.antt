@@ -4,7 +4,7 @@ use Rattle.link_program.specs.wasm_types.declared.function.FuncType.{FuncType}
 use Rattle.link_program.specs.wasm_types.Same.{same_type}
 use Rattle.link_program.specs.object_file.declared.object.Object.{Object}
 use Rattle.link_program.specs.object_file.Spaces.{no_type}
-use Rattle.link_program.specs.name_rules.Entries.{Entry, ImportKey, SymbolType, untyped}
+use Rattle.link_program.specs.name_rules.Entries.{InputSymbol, ImportKey, SymbolType, untyped}
 use Rattle.link_program.specs.name_entries.View.{entry_at}
 use Rattle.link_program.specs.type_merge.Types.{with_type}
 use Rattle.link_program.specs.index_layout.Numbers.{number_by}
@@ -51,7 +51,7 @@ type_in linkers types part = where_so (is_own 0 linkers part.chunk) (Some (type_
 abbrev pub own_types : Bool → Tables → List ℕ → List FuncType
 own_types linkers t live = filter_map (λ n. type_in linkers t.types (part_at t n)) live
 
-abbrev pub symbol_type : Option Entry → SymbolType
+abbrev pub symbol_type : Option InputSymbol → SymbolType
 symbol_type None = untyped
 symbol_type (Some e) = e.type
 

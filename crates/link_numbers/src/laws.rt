@@ -1,7 +1,7 @@
 //! What holds of keys and numbers, as a call that does nothing: its contract is the law.
 ghost use Rattle.std.specs.Prelude.{ℕ, List, All};
 ghost use Rattle.link_program.specs.made_symbols.declared.mode.Mode.TheVariants as modes;
-ghost use Rattle.link_program.specs.name_rules.Entries.{Entry};
+ghost use Rattle.link_program.specs.name_rules.Entries.{InputSymbol};
 ghost use Rattle.link_program.specs.link_rules.Program as rules;
 ghost use Rattle.link_program.specs.link_rules.Marks.{refs_of};
 ghost use Rattle.link_program.specs.link_rules.Keys.{numbers};
@@ -13,7 +13,7 @@ ghost use Rattle.link_numbers.specs.Laws.{TellsNumbers, KnowsRef};
 
 /// Of keys that are known, the numbers as they are told are the numbers; and what references of live parts name is known.
 pub fn keys_are_told()
-    ensures numbers { (d : Data) (p : rules.Program) (live : List ℕ) (parts : List rules.Part) (es : List Entry) → IsProgram modes.Plain d p
+    ensures numbers { (d : Data) (p : rules.Program) (live : List ℕ) (parts : List rules.Part) (es : List InputSymbol) → IsProgram modes.Plain d p
         → PartsStand p → AreLive p live parts → AllMeant parts
         → TellsNumbers d.names.now.names d.resolution.now.imports (numbers modes.Plain p parts es) }
     ensures refs { (d : Data) (p : rules.Program) (live : List ℕ) (parts : List rules.Part) → IsProgram modes.Plain d p

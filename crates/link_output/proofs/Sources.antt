@@ -16,7 +16,7 @@ use Rattle.link_program.specs.image_emit.declared.tree.PlacedSource.{PlacedSourc
 use Rattle.link_program.specs.image_emit.Bytes.{tree_of, source_bytes, block_of, Block}
 use Rattle.link_program.specs.image_emit.Measures.{LieIn, Lies}
 use Rattle.link_program.specs.image_emit.Pieces.{sources}
-use Rattle.link_program.specs.name_rules.Entries.{Entry}
+use Rattle.link_program.specs.name_rules.Entries.{InputSymbol}
 use Rattle.link_program.specs.link_rules.Program.{Program, Part, Named, a_symbol, a_type}
 use Rattle.link_program.specs.link_rules.Keys.{FunctionKey, outside, linker_function, stub, own, functions, function_imports_of, stub_names, made_function_key, own_function_key, is_function_at}
 use Rattle.link_program.specs.link_rules.Marks.{refs_of}
@@ -126,7 +126,7 @@ Owned (linker_function k) = Unit {0}
 Owned (stub name) = Unit {0}
 Owned (own input index) = input ≡ 0 → ⊥
 
-module _ (p : Program) (parts : List Part) (es : List Entry) (l : Layout) (all : All (PartStands p) parts) where
+module _ (p : Program) (parts : List Part) (es : List InputSymbol) (l : Layout) (all : All (PartStands p) parts) where
   source_lies : (o : Option Part) → IfSome o (λ part. PartStands p part × Unit {0}) → Lies p.files (source_of Plain p parts es l o)
   source_lies None stands = tt
   source_lies (Some part) stands = stands.0.source
@@ -197,7 +197,7 @@ module _ (p : Program) (parts : List Part) (es : List Entry) (l : Layout) (all :
       no_segment part e one = omega (arith, e, eqb-true part.chunk.kind 1 one)
 
 -- the functions of the output that objects define are of no input 0
-module _ (p : Program) (parts : List Part) (es : List Entry) where
+module _ (p : Program) (parts : List Part) (es : List InputSymbol) where
   made_by : (part : Part) (b : Bool) → IfSome (given b (linker_function part.chunk.index)) Owned
   made_by part true = tt
   made_by part false = tt
@@ -241,11 +241,11 @@ module _ (p : Program) (parts : List Part) (es : List Entry) where
 live_stand : (p : Program) (live : List ℕ) (parts : List Part) → PartsStand p → AreLive p live parts → All (PartStands p) parts
 live_stand p live parts stand are = all_got (PartStands p) p.parts live parts are.are stand
 
-pub image_lies : (p : Program) (live : List ℕ) (parts : List Part) (es : List Entry) → PartsStand p → AreLive p live parts
+pub image_lies : (p : Program) (live : List ℕ) (parts : List Part) (es : List InputSymbol) → PartsStand p → AreLive p live parts
     → LieIn p.files (image Plain p parts es (layout Plain p parts es))
 image_lies p live parts es stand are = lies p parts es (layout Plain p parts es) (live_stand p live parts stand are)
 
-pub windows_stand : (p : Program) (live : List ℕ) (parts : List Part) (es : List Entry) → PartsStand p → AreLive p live parts
+pub windows_stand : (p : Program) (live : List ℕ) (parts : List Part) (es : List InputSymbol) → PartsStand p → AreLive p live parts
     → StandInSources (source_windows Plain p parts es (layout Plain p parts es)) (sources (tree_of p.files (image Plain p parts es (layout Plain p parts es))))
 unfolding source_windows image layout
 windows_stand p live parts es stand are =
@@ -266,7 +266,7 @@ windows_stand p live parts es stand are =
     Apart : List Window → List ℕ → Type 0
     Apart ws bytes = AreApart 0 (length bytes) (map patch_of ws)
 
-    segments_in : (p : Program) (parts : List Part) (es : List Entry) (l : Layout) (segs : List Part) → All (λ part. InSource p.files (windows Plain l part) (File part.source)) segs
+    segments_in : (p : Program) (parts : List Part) (es : List InputSymbol) (l : Layout) (segs : List Part) → All (λ part. InSource p.files (windows Plain l part) (File part.source)) segs
         → AllZip Apart (map (windows Plain l) segs) (map bytes_in_block (map (block_of p.files) (map (placed_source Plain p parts es l) segs)))
     segments_in p parts es l [] all = tt
     segments_in p parts es l (x ∷ xs) all = (All-head (λ part. InSource p.files (windows Plain l part) (File part.source)) x xs all, segments_in p parts es l xs (All-tail (λ part. InSource p.files (windows Plain l part) (File part.source)) x xs all))

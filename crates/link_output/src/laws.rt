@@ -12,7 +12,7 @@ ghost use Rattle.link_program.specs.image_emit.Bytes.{tree_of, bytes_of};
 ghost use Rattle.link_program.specs.image_emit.Measures.{LieIn, image_measure};
 ghost use Rattle.link_program.specs.image_emit.Pieces.{sources};
 ghost use Rattle.link_program.specs.made_symbols.declared.mode.Mode.TheVariants.{Plain};
-ghost use Rattle.link_program.specs.name_rules.Entries.{Entry};
+ghost use Rattle.link_program.specs.name_rules.Entries.{InputSymbol};
 ghost use Rattle.link_program.specs.link_rules.Program.{Program, Part};
 ghost use Rattle.link_program.specs.link_rules.Keys.{numbers};
 ghost use Rattle.link_program.specs.link_rules.Values.{Layout};
@@ -24,9 +24,9 @@ ghost use Rattle.link_output.specs.Written.{StandInSources, Writes};
 
 /// The sources of the image lie in their files, and the windows of each source in it.
 pub fn windows_stand_in_sources()
-    ensures lie { (p : Program) (live : List ℕ) (parts : List Part) (es : List Entry) → PartsStand p → AreLive p live parts
+    ensures lie { (p : Program) (live : List ℕ) (parts : List Part) (es : List InputSymbol) → PartsStand p → AreLive p live parts
         → LieIn p.files (image Plain p parts es (layout Plain p parts es)) }
-    ensures stand { (p : Program) (live : List ℕ) (parts : List Part) (es : List Entry) → PartsStand p → AreLive p live parts
+    ensures stand { (p : Program) (live : List ℕ) (parts : List Part) (es : List InputSymbol) → PartsStand p → AreLive p live parts
         → StandInSources (source_windows Plain p parts es (layout Plain p parts es)) (sources (tree_of p.files (image Plain p parts es (layout Plain p parts es)))) }
 {}
 

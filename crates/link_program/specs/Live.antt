@@ -1,6 +1,6 @@
 -- The live parts, by number.
 use Rattle.std.specs.Prelude.{◌≡◌, ◌<◌, ℕ, List, map, slice_get, Some, All, AllPairs, Bool, false}
-use Rattle.name_entries.specs.name_rules.Entries.{Entry}
+use Rattle.name_entries.specs.name_rules.Entries.{InputSymbol}
 use Rattle.name_entries.specs.name_rules.Meanings.{is_nothing}
 use Rattle.link_rules.specs.Program.{Program, Part}
 use Rattle.link_rules.specs.Marks.{refs_of}
@@ -17,5 +17,5 @@ AllMeant parts = All (λ ref. is_nothing ref.meaning ≡ false) (refs_of parts)
 -- A program with its exported winners and its live parts.
 pub record Stage : Type 0 where
   pub program : Program
-  pub exports : List Entry
+  pub exports : List InputSymbol
   pub parts : List Part

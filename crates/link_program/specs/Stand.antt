@@ -3,7 +3,7 @@ use Rattle.std.specs.Prelude.{◌≡◌, ℕ, ◌+◌, ◌≤◌, ◌<◌, ◌^�
 use Rattle.name_entries.specs.wl_base.declared.span.FileSpan.{FileSpan}
 use Rattle.reloc_apply.specs.declared.window.Form.TheVariants.{Unsigned5}
 use Rattle.reloc_apply.specs.Apart.{size_of}
-use Rattle.name_entries.specs.name_rules.Entries.{Entry}
+use Rattle.name_entries.specs.name_rules.Entries.{InputSymbol}
 use Rattle.name_entries.specs.name_rules.Meanings.{Meaning, Resolved}
 use Rattle.link_rules.specs.Program.{Program, Part, Ref, Named, a_symbol, a_type, refs, segment, Content, function, global, linker_made}
 use Rattle.link_rules.specs.Values.{form_of}
@@ -36,7 +36,7 @@ IsAligned (global g) = Unit {0}
 IsAligned (linker_made m) = Unit {0}
 
 -- A symbol of a loaded object, with its meaning.
-abbrev pub IsSymbolOf : List Resolved → Entry → Meaning → Type 0
+abbrev pub IsSymbolOf : List Resolved → InputSymbol → Meaning → Type 0
 IsSymbolOf resolved e m =
     (i : ℕ) × (s : ℕ) × (r : Resolved) × (slice_get resolved i ≡ Some r) × (slice_get r.symbols s ≡ Some e) × (slice_get r.meanings s ≡ Some m)
 

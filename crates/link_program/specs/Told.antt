@@ -2,7 +2,7 @@
 use Rattle.std.specs.Prelude.{ℕ, List, [], ◌∷◌, flat_map, Option, Some, None, unwrap_or}
 use Rattle.name_entries.specs.wl_base.Names.{number_of}
 use Rattle.index_layout.specs.Numbers.{number_by}
-use Rattle.name_entries.specs.name_rules.Entries.{Entry, ImportKey, name_of, same_import}
+use Rattle.name_entries.specs.name_rules.Entries.{InputSymbol, ImportKey, name_of, same_import}
 use Rattle.name_entries.specs.name_rules.Meanings.{Meaning, here, imported, null, nothing, Resolved}
 use Rattle.name_entries.specs.View.{entry_number}
 use Rattle.link_program.specs.declared.symbol.Definition.{Definition}
@@ -11,7 +11,7 @@ use Rattle.link_program.specs.declared.symbol.Lead.TheVariants.{Here, Import, Nu
 use Rattle.link_program.specs.declared.symbol.Symbol.{Symbol}
 use Rattle.link_program.specs.declared.symbol.Winner.{Winner}
 
-abbrev pub told_definition : Entry → Definition
+abbrev pub told_definition : InputSymbol → Definition
 told_definition e = record { input = e.input; place = e.place; kind = e.symbol.kind; index = e.index; offset = e.symbol.offset }
 
 -- An import is told by its number: its place among the imports.
@@ -22,10 +22,10 @@ told_lead imports null = Null
 told_lead imports nothing = Nothing
 
 -- A symbol, by the numbers of names and of imports.
-abbrev pub told_symbol : List (List ℕ) → List ImportKey → Entry → Meaning → Symbol
+abbrev pub told_symbol : List (List ℕ) → List ImportKey → InputSymbol → Meaning → Symbol
 told_symbol names imports e m = record { kind = e.symbol.kind; name = entry_number names e; lead = told_lead imports m }
 
-abbrev pub told_all : List (List ℕ) → List ImportKey → List Entry → List Meaning → List Symbol
+abbrev pub told_all : List (List ℕ) → List ImportKey → List InputSymbol → List Meaning → List Symbol
 told_all names imports [] ms = []
 told_all names imports (e ∷ es) [] = []
 told_all names imports (e ∷ es) (m ∷ ms) = told_symbol names imports e m ∷ told_all names imports es ms
@@ -35,8 +35,8 @@ abbrev pub told_symbols : List (List ℕ) → List ImportKey → List Resolved �
 told_symbols names imports resolved = flat_map (λ r. told_all names imports r.symbols r.meanings) resolved
 
 -- The number of a name that is held.
-abbrev pub name_number : List (List ℕ) → Entry → ℕ
+abbrev pub name_number : List (List ℕ) → InputSymbol → ℕ
 name_number names e = unwrap_or (number_of names (name_of e)) 0
 
-abbrev pub told_winner : List (List ℕ) → Entry → Winner
+abbrev pub told_winner : List (List ℕ) → InputSymbol → Winner
 told_winner names e = record { definition = told_definition e; name = name_number names e; flags = e.symbol.flags }

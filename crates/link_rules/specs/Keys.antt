@@ -10,7 +10,7 @@ use Rattle.object_file.specs.Spaces.{no_type}
 use Rattle.object_file.specs.reloc_section.declared.kinds.TheConstants as relocs
 use Rattle.made_symbols.specs.declared.mode.Mode.{Mode}
 use Rattle.made_symbols.specs.declared.mode.Mode.TheVariants.{Plain, Shared}
-use Rattle.name_rules.specs.Entries.{Entry, ImportKey, SymbolType, of_function, of_global, untyped, is_kind, name_of, same_entry, same_import}
+use Rattle.name_rules.specs.Entries.{InputSymbol, ImportKey, SymbolType, of_function, of_global, untyped, is_kind, name_of, same_entry, same_import}
 use Rattle.name_rules.specs.Cases.{first_entry}
 use Rattle.name_rules.specs.Meanings.{Meaning, here, imported, null, nothing, cell_of}
 use Rattle.mark_bits.specs.declared.kinds.TheConstants as chunks
@@ -37,7 +37,7 @@ same_function a b = false
 -- What a cell of an address is made for: a definition, by its symbol; an imported function; or null, once for functions and once for
 -- data.
 pub data GotKey : Type 0 where
-  got_entry : Entry → GotKey
+  got_entry : InputSymbol → GotKey
   got_import : ImportKey → GotKey
   got_null : ℕ → GotKey
 
@@ -54,7 +54,7 @@ pub data GlobalKey : Type 0 where
   linker_global : ℕ → GlobalKey
   own_global : ℕ → ℕ → GlobalKey
   got : GotKey → GlobalKey
-  exported_datum : Entry → GlobalKey
+  exported_datum : InputSymbol → GlobalKey
 
 abbrev pub same_global : GlobalKey → GlobalKey → Bool
 same_global (outside_global a) (outside_global b) = same_import a b
@@ -66,7 +66,7 @@ same_global a b = false
 
 -- ---- from references to keys
 
-abbrev pub function_of : Entry → FunctionKey
+abbrev pub function_of : InputSymbol → FunctionKey
 function_of e = if e.input == 0 then linker_function e.place else own e.input e.index
 
 -- The function that a name means; a null one is a stub of the name.
@@ -80,11 +80,11 @@ abbrev pub ref_function : Ref → FunctionKey
 ref_function ref = meant_function (name_of ref.entry) ref.meaning
 
 -- In a shared output a linker-made global is an import.
-abbrev pub linker_key : Mode → Entry → GlobalKey
+abbrev pub linker_key : Mode → InputSymbol → GlobalKey
 linker_key Plain e = linker_global e.place
-linker_key Shared e = outside_global (record { place = codes "env"; field = name_of e; type = e.type })
+linker_key Shared e = outside_global (record { module_name = codes "env"; field = name_of e; type = e.type })
 
-abbrev pub global_of : Mode → Entry → GlobalKey
+abbrev pub global_of : Mode → InputSymbol → GlobalKey
 global_of mode e = if e.input == 0 then linker_key mode e else own_global e.input e.index
 
 abbrev pub got_of : ℕ → Meaning → GotKey
@@ -209,8 +209,8 @@ abbrev pub used_globals : Mode → Program → List Ref → List ImportKey
 used_globals mode p refs = filter (λ k. is_global_type k.type && has_import (used_imports (filter (imports_by mode) refs)) k) (imports_in_order p)
 
 -- The import of a linker-made global.
-abbrev pub made_global_import : Entry → Option ImportKey
-made_global_import e = given ((e.input == 0) && is_kind GlobalVar e) (record { place = codes "env"; field = name_of e; type = e.type })
+abbrev pub made_global_import : InputSymbol → Option ImportKey
+made_global_import e = given ((e.input == 0) && is_kind GlobalVar e) (record { module_name = codes "env"; field = name_of e; type = e.type })
 
 -- The cell of a foreign address that a reference uses.
 abbrev pub foreign_cell : Ref → Option ImportKey
@@ -246,12 +246,12 @@ abbrev pub made_globals : Mode → List Part → List GlobalKey
 made_globals Plain parts = filter_map made_global_key parts
 made_globals Shared parts = []
 
-abbrev pub datum_key : Entry → Option GlobalKey
+abbrev pub datum_key : InputSymbol → Option GlobalKey
 datum_key e = given (is_kind Datum e) (exported_datum e)
 
 -- The linker's globals that are live, the live globals of objects by input and index, the cells of addresses, the exported data in the
 -- order of exports.
-abbrev pub defined_globals : Mode → List Part → List Entry → List GlobalKey
+abbrev pub defined_globals : Mode → List Part → List InputSymbol → List GlobalKey
 defined_globals mode parts exports =
     made_globals mode parts
     ++ filter_map own_global_key parts
@@ -259,7 +259,7 @@ defined_globals mode parts exports =
     ++ filter_map datum_key exports
 
 -- The globals of the output, imports first.
-unfoldable pub globals : Mode → Program → List Part → List Entry → List GlobalKey
+unfoldable pub globals : Mode → Program → List Part → List InputSymbol → List GlobalKey
 globals mode p parts exports = map outside_global (global_imports_in mode p parts) ++ defined_globals mode parts exports
 
 -- ---- types
@@ -275,7 +275,7 @@ content_type (segment info) = no_type
 content_type (global g) = no_type
 content_type (linker_made m) = no_type
 
-abbrev pub entry_type : Option Entry → SymbolType
+abbrev pub entry_type : Option InputSymbol → SymbolType
 entry_type None = untyped
 entry_type (Some e) = e.type
 
@@ -310,7 +310,7 @@ pub record Numbers : Type 0 where
   pub globals : List GlobalKey
   pub types : List FuncType
 
-abbrev pub numbers_with : Mode → Program → List Part → List Entry → List FunctionKey → Numbers
+abbrev pub numbers_with : Mode → Program → List Part → List InputSymbol → List FunctionKey → Numbers
 numbers_with mode p parts exports fs = record {
   functions = fs;
   slots = slots mode parts fs;
@@ -319,7 +319,7 @@ numbers_with mode p parts exports fs = record {
   types = types p parts fs;
 }
 
-abbrev pub numbers : Mode → Program → List Part → List Entry → Numbers
+abbrev pub numbers : Mode → Program → List Part → List InputSymbol → Numbers
 numbers mode p parts exports = numbers_with mode p parts exports (functions mode p parts)
 
 abbrev pub function_number : Numbers → FunctionKey → ℕ

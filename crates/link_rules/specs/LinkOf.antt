@@ -10,7 +10,7 @@ use Rattle.lib_index.specs.Reading.{library_of}
 use Rattle.made_symbols.specs.declared.mode.Mode.{Mode}
 use Rattle.made_symbols.specs.declared.mode.Mode.TheVariants.{Plain}
 use Rattle.round_rules.specs.Rounds.{load}
-use Rattle.name_rules.specs.Entries.{Entry, name_of}
+use Rattle.name_rules.specs.Entries.{InputSymbol, name_of}
 use Rattle.name_rules.specs.Cases.{clash, duplicate}
 use Rattle.memory_layout.specs.Memory.{Passed, memory_overflow}
 use Rattle.table_layout.specs.Slots.{table_overflow}
@@ -79,26 +79,26 @@ written mode p i wss = do
   wss ← unless (reference_fault wss) wss
   Ok (output_bytes mode p i wss)
 
-abbrev pub placed : Mode → Program → List Entry → List Part → Layout → Result (List ℕ) Fault
+abbrev pub placed : Mode → Program → List InputSymbol → List Part → Layout → Result (List ℕ) Fault
 placed mode p exports parts l = do
   l ← unless (table_fault l) l
   written mode p (image mode p parts exports l) (source_windows mode p parts exports l)
 
-unfoldable pub laid_out : Mode → Program → List Entry → List Part → Result (List ℕ) Fault
+unfoldable pub laid_out : Mode → Program → List InputSymbol → List Part → Result (List ℕ) Fault
 laid_out mode p exports parts = do
   parts ← unless (memory_fault mode p parts) parts
   placed mode p exports parts (layout mode p parts exports)
 
-abbrev pub resolved : Mode → Program → List Entry → List Part → Result (List ℕ) Fault
+abbrev pub resolved : Mode → Program → List InputSymbol → List Part → Result (List ℕ) Fault
 resolved mode p exports parts = do
   parts ← unless (pic_fault mode parts) parts
   parts ← unless (unresolved p parts) parts
   laid_out mode p exports parts
 
-unfoldable pub marked : Mode → Program → List Entry → Result (List ℕ) Fault
+unfoldable pub marked : Mode → Program → List InputSymbol → Result (List ℕ) Fault
 marked mode p exports = resolved mode p exports (live p exports)
 
-abbrev pub exporting : Mode → Program → List Entry → Result (List ℕ) Fault
+abbrev pub exporting : Mode → Program → List InputSymbol → Result (List ℕ) Fault
 exporting mode p exports = do
   exports ← unless (repeated_export mode p exports) exports
   marked mode p exports

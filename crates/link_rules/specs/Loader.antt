@@ -5,7 +5,7 @@ use Rattle.object_file.specs.linking_section.declared.symbol.SymbolKind.TheVaria
 use Rattle.object_file.specs.linking_section.Flags.{is_weak}
 use Rattle.object_file.specs.reloc_section.declared.kinds.TheConstants as relocs
 use Rattle.made_symbols.specs.declared.mode.Mode.{Mode}
-use Rattle.name_rules.specs.Entries.{Entry, ImportKey, is_kind, is_entry, named, name_of, same_import}
+use Rattle.name_rules.specs.Entries.{InputSymbol, ImportKey, is_kind, is_entry, named, name_of, same_import}
 use Rattle.name_rules.specs.Meanings.{Meaning, here, imported, null, nothing, cell_of}
 use Rattle.reloc_apply.specs.Windows.{bits32}
 use Rattle.dylink_out.specs.declared.dylink.Dylink.{Dylink}
@@ -61,17 +61,17 @@ module _ (mode : Mode) (p : Program) (parts : List Part) (l : Layout) where
 
   -- ---- imports that may be absent: those that were made for a name of which all references are WEAK
 
-  abbrev pub is_weak_name : Entry → Bool
+  abbrev pub is_weak_name : InputSymbol → Bool
   is_weak_name e = list_all (λ f. is_weak f.symbol) (named p.entries (name_of e))
 
   -- A WEAK name's imports: the one that its symbols mean, and for a function also the cell of its address, where live parts use it.
-  abbrev pub weak_meaning : Entry → Meaning → List ImportKey
+  abbrev pub weak_meaning : InputSymbol → Meaning → List ImportKey
   weak_meaning e (imported k) = if is_weak_name e then k ∷ (if is_kind Function e then filter (has_import (foreign_cells parts)) (cell_of e ∷ []) else []) else []
   weak_meaning e (here d) = []
   weak_meaning e null = []
   weak_meaning e nothing = []
 
-  abbrev pub zip_weak : List Entry → List Meaning → List ImportKey
+  abbrev pub zip_weak : List InputSymbol → List Meaning → List ImportKey
   zip_weak [] ms = []
   zip_weak (e ∷ es) [] = []
   zip_weak (e ∷ es) (m ∷ ms) = (if is_entry e then weak_meaning e m else []) ++ zip_weak es ms
@@ -93,7 +93,7 @@ module _ (mode : Mode) (p : Program) (parts : List Part) (l : Layout) where
   global_key_import (exported_datum e) = None
 
   abbrev pub import_infos : List ImportInfo
-  import_infos = map (λ k. record { «module» = k.place; field = k.field; flags = 1 })
+  import_infos = map (λ k. record { «module» = k.module_name; field = k.field; flags = 1 })
       (filter (λ k. list_any (same_import k) weak_imports)
       (filter_map function_key_import l.numbers.functions ++ filter_map global_key_import l.numbers.globals))
 

@@ -11,7 +11,7 @@ use Rattle.object_file.specs.reloc_section.declared.kinds.TheConstants as relocs
 use Rattle.made_symbols.specs.declared.mode.Mode.{Mode}
 use Rattle.made_symbols.specs.declared.mode.Mode.TheVariants.{Plain, Shared}
 use Rattle.made_symbols.specs.Made.{call_ctors, apply_data_relocs}
-use Rattle.name_rules.specs.Entries.{Entry, is_named, is_kind, name_of, same_entry}
+use Rattle.name_rules.specs.Entries.{InputSymbol, is_named, is_kind, name_of, same_entry}
 use Rattle.name_rules.specs.Meanings.{Meaning, here, imported, null, nothing, is_nothing, Resolved}
 use Rattle.mark_bits.specs.declared.chunk.Chunk.{Chunk}
 use Rattle.mark_bits.specs.declared.kinds.TheConstants as chunks
@@ -31,23 +31,23 @@ demanded plan = option_to_list plan.entry ++ plan.exports
 
 -- A winner is exported where the words name it, where an object's symbol has EXPORTED, and with `--export-dynamic` where an object's
 -- symbol isn't HIDDEN.
-abbrev pub is_exported_by : Plan → Entry → Bool
+abbrev pub is_exported_by : Plan → InputSymbol → Bool
 is_exported_by plan e =
     has_name (demanded plan ++ plan.exports_if) (name_of e)
     || (not (e.input == 0) && (is_exported e.symbol || (plan.export_dynamic && not (is_hidden e.symbol))))
 
-abbrev pub asked_exports : Program → List Entry
+abbrev pub asked_exports : Program → List InputSymbol
 asked_exports p = filter (is_exported_by p.plan) p.winners
 
 abbrev pub resolved_at : List Resolved → ℕ → Option Resolved
 resolved_at all input = find (λ r. r.object.input == input) all
 
 -- The name that a function's own object exports it under.
-abbrev pub written_name : Resolved → Entry → Option (List ℕ)
+abbrev pub written_name : Resolved → InputSymbol → Option (List ℕ)
 written_name r e = option_and_then (λ (f : FunctionDef). f.export_name) (slice_get r.object.functions e.index)
 
 -- An export has the symbol's name, but a function that its own object exports has the name it has there.
-abbrev pub export_name : Program → Entry → List ℕ
+abbrev pub export_name : Program → InputSymbol → List ℕ
 export_name p e =
     if is_kind Function e then unwrap_or (option_and_then (λ r. written_name r e) (resolved_at p.resolved e.input)) (name_of e)
     else name_of e
@@ -67,7 +67,7 @@ imports_memory mode p = by_mode mode p.plan.import_memory true
 abbrev pub given_memory : Mode → Program → List Given
 given_memory mode p = if imports_memory mode p then [] else record { name = memory_name; input = 0 } ∷ []
 
-abbrev pub given_names : Mode → Program → List Entry → List Given
+abbrev pub given_names : Mode → Program → List InputSymbol → List Given
 given_names mode p exports = given_memory mode p ++ map (λ e. record { name = export_name p e; input = e.input }) exports
 
 abbrev pub repeated_by : List Given → Given → Option Fault
@@ -78,7 +78,7 @@ first_repeat earlier [] = None
 first_repeat earlier (g ∷ gs) = first_some (repeated_by earlier g ∷ first_repeat (earlier ++ g ∷ []) gs ∷ [])
 
 -- The first export, in the output's order, whose name an earlier export has.
-unfoldable pub repeated_export : Mode → Program → List Entry → Option Fault
+unfoldable pub repeated_export : Mode → Program → List InputSymbol → Option Fault
 repeated_export mode p exports = first_repeat [] (given_names mode p exports)
 
 -- ---- live chunks
@@ -93,12 +93,12 @@ is_retained (linker_made m) = false
 abbrev pub is_object_part : Part → Bool
 is_object_part part = not (part.chunk.input == 0)
 
-abbrev pub is_no_strip_winner : Entry → Bool
+abbrev pub is_no_strip_winner : InputSymbol → Bool
 is_no_strip_winner e = not (e.input == 0) && is_no_strip e.symbol
 
 -- The roots: what is exported, the winners that have NO_STRIP, the segments that have RETAIN, and with `--no-gc-sections` all kept
 -- parts of objects. The entry is an export.
-abbrev pub roots : Program → List Entry → List Chunk
+abbrev pub roots : Program → List InputSymbol → List Chunk
 roots p exports =
     filter_map chunk_of exports
     ++ filter_map chunk_of (filter is_no_strip_winner p.winners)
@@ -119,7 +119,7 @@ places_in table chunks = filter_map (λ c. position (same_chunk c) table) chunks
 abbrev pub targets : Program → List (List ℕ)
 targets p = map (λ part. places_in (table_of p) (refers part)) p.parts
 
-abbrev pub root_places : Program → List Entry → List ℕ
+abbrev pub root_places : Program → List InputSymbol → List ℕ
 root_places p exports = places_in (table_of p) (roots p exports)
 
 abbrev pub picked : List ℕ → ℕ → List Part → List Part
@@ -127,7 +127,7 @@ picked marked at [] = []
 picked marked at (x ∷ xs) = if is_among marked at then x ∷ picked marked (at + 1) xs else picked marked (at + 1) xs
 
 -- The live parts, in the order of the chunk table: those that the roots reach.
-unfoldable pub live : Program → List Entry → List Part
+unfoldable pub live : Program → List InputSymbol → List Part
 live p exports = picked (reached (targets p) (root_places p exports)) 0 p.parts
 
 abbrev pub refs_of : List Part → List Ref
@@ -156,25 +156,25 @@ abbrev pub has_calls : Program → Bool
 has_calls p = not (length (init_calls p.resolved) == 0)
 
 -- the linker's own symbol of a number
-abbrev pub is_made : ℕ → Entry → Bool
+abbrev pub is_made : ℕ → InputSymbol → Bool
 is_made number e = (e.input == 0) && (e.place == number)
 
 -- What is exported but for the function that makes addresses right: what the words and flags ask for, and `__wasm_call_ctors` where it
 -- calls.
-abbrev pub exports_without : Program → Bool → List Entry
+abbrev pub exports_without : Program → Bool → List InputSymbol
 exports_without p calls = filter (λ e. is_exported_by p.plan e || (is_made call_ctors e && calls)) p.winners
 
 -- Whether that function has work: whether some part that lives by these exports has some.
-abbrev pub has_work : Program → List Entry → Bool
+abbrev pub has_work : Program → List InputSymbol → Bool
 has_work p exports = list_any needs_work (live p exports)
 
 -- All that is exported, where it has work and where it hasn't.
-abbrev pub exports_with : Program → Bool → Bool → List Entry
+abbrev pub exports_with : Program → Bool → Bool → List InputSymbol
 exports_with p calls work =
     filter (λ e. is_exported_by p.plan e || (is_made call_ctors e && calls) || (is_made apply_data_relocs e && work)) p.winners
 
 -- The exported winners, by input and place.
-unfoldable pub exported : Mode → Program → List Entry
+unfoldable pub exported : Mode → Program → List InputSymbol
 exported Plain p = asked_exports p
 exported Shared p = exports_with p (has_calls p) (has_work p (exports_without p (has_calls p)))
 
@@ -211,10 +211,10 @@ pic_fault Shared parts = option_map fixed_fault (find is_fixed (refs_of (filter 
 abbrev pub missing : Program → List ℕ → Option Fault
 missing p name = given (not (list_any (is_named name) p.winners)) (Unresolved name 0)
 
-abbrev pub is_open : List Ref → Entry → Bool
+abbrev pub is_open : List Ref → InputSymbol → Bool
 is_open refs e = list_any (λ ref. is_nothing ref.meaning && same_entry ref.entry e) refs
 
-abbrev pub all_symbols : Program → List Entry
+abbrev pub all_symbols : Program → List InputSymbol
 all_symbols p = flat_map (λ r. r.symbols) p.resolved
 
 -- The first demanded name without a winner; then the least symbol, by input and place, that a live part refers to (`__wasm_call_ctors`

@@ -16,7 +16,7 @@ use Rattle.made_symbols.specs.declared.mode.Mode.{Mode}
 use Rattle.made_symbols.specs.declared.mode.Mode.TheVariants.{Plain, Shared}
 use Rattle.made_symbols.specs.Made.{call_ctors, stack_pointer}
 use Rattle.mark_bits.specs.declared.kinds.TheConstants as chunks
-use Rattle.name_rules.specs.Entries.{Entry, ImportKey, SymbolType, of_function, of_global, untyped}
+use Rattle.name_rules.specs.Entries.{InputSymbol, ImportKey, SymbolType, of_function, of_global, untyped}
 use Rattle.memory_layout.specs.Memory.{places, up}
 use Rattle.reloc_apply.specs.declared.window.Window.{Window}
 use Rattle.reloc_apply.specs.declared.window.Form.{Form}
@@ -36,7 +36,7 @@ use Rattle.link_rules.specs.Loader.{words, dylink}
 use Rattle.link_rules.specs.Values.{Layout, solid_segments, slot_count, rules_of, segments, shapes, segment_address, address_of, got_value, made_global_value, windows}
 
 -- Where everything stands, and all numbers.
-unfoldable pub layout : Mode → Program → List Part → List Entry → Layout
+unfoldable pub layout : Mode → Program → List Part → List InputSymbol → Layout
 layout mode p parts exports = record {
   segments = map (λ part. part.chunk) (segments parts);
   places = places (rules_of mode p.plan) (shapes p parts);
@@ -49,7 +49,7 @@ content_global (segment info) = None
 content_global (global g) = Some (record { kind = g.kind; value = g.value })
 content_global (linker_made m) = None
 
-module _ (mode : Mode) (p : Program) (parts : List Part) (exports : List Entry) (l : Layout) where
+module _ (mode : Mode) (p : Program) (parts : List Part) (exports : List InputSymbol) (l : Layout) where
   -- ---- imports: the memory, if it is imported, then functions, then globals; a shared output imports its table behind the memory
 
   abbrev pub imported_kind : SymbolType → ImportKind
@@ -58,7 +58,7 @@ module _ (mode : Mode) (p : Program) (parts : List Part) (exports : List Entry) 
   imported_kind untyped = kinds.Function 0
 
   abbrev pub import_for : ImportKey → Import
-  import_for k = record { «module» = k.place; field = k.field; kind = imported_kind k.type }
+  import_for k = record { «module» = k.module_name; field = k.field; kind = imported_kind k.type }
 
   abbrev pub function_import : FunctionKey → Option Import
   function_import (outside k) = Some (import_for k)
@@ -173,7 +173,7 @@ module _ (mode : Mode) (p : Program) (parts : List Part) (exports : List Entry) 
   global_for (exported_datum e) = Some (i32_const false (address_of mode l e))
 
   -- An export by its kind (Core 5.5.10): 0 a function, 1 a table, 3 a global.
-  abbrev pub export_of : Entry → SymbolKind → Export
+  abbrev pub export_of : InputSymbol → SymbolKind → Export
   export_of e Function = record { name = export_name p e; kind = 0; index = function_number l.numbers (function_of e) }
   export_of e Datum = record { name = export_name p e; kind = 3; index = global_number l.numbers (exported_datum e) }
   export_of e GlobalVar = record { name = export_name p e; kind = 3; index = global_number l.numbers (global_of mode e) }

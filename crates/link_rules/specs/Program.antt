@@ -21,7 +21,7 @@ use Rattle.object_file.specs.Spaces.{defined_type, written_type, function_import
 use Rattle.made_symbols.specs.declared.mode.Mode.{Mode}
 use Rattle.made_symbols.specs.Made.{made, MadeSymbol, call_ctors}
 use Rattle.round_rules.specs.Rounds.{Candidate}
-use Rattle.name_rules.specs.Entries.{Entry, entries, is_kept, same_entry, name_of, made_entry}
+use Rattle.name_rules.specs.Entries.{InputSymbol, entries, is_kept, same_entry, name_of, made_entry}
 use Rattle.name_rules.specs.Meanings.{Meaning, here, imported, null, nothing, Resolved, resolve, winner}
 use Rattle.mark_bits.specs.declared.chunk.Chunk.{Chunk}
 use Rattle.mark_bits.specs.declared.kinds.TheConstants as chunks
@@ -33,7 +33,7 @@ pub record Ref : Type 0 where
   pub place : ℕ
   pub kind : ℕ
   pub addend : ℤ
-  pub entry : Entry
+  pub entry : InputSymbol
   pub meaning : Meaning
 
 -- A window that names a type.
@@ -67,14 +67,14 @@ pub record Program : Type 0 where
   pub plan : Plan
   pub files : List (List ℕ)
   pub objects : List Object
-  pub entries : List Entry
-  pub winners : List Entry
+  pub entries : List InputSymbol
+  pub winners : List InputSymbol
   pub resolved : List Resolved
   pub parts : List Part
 
 -- ---- references
 
-abbrev pub ref_to : ℕ → ℕ → ℤ → Option Entry → Option Meaning → Option Ref
+abbrev pub ref_to : ℕ → ℕ → ℤ → Option InputSymbol → Option Meaning → Option Ref
 ref_to place kind addend (Some e) (Some m) = Some (record { place = place; kind = kind; addend = addend; entry = e; meaning = m })
 ref_to place kind addend (Some e) None = None
 ref_to place kind addend None m = None
@@ -215,7 +215,7 @@ made_kind Section = None
 made_kind Table = None
 
 -- `__wasm_call_ctors` refers to the init functions; the linker's other chunks refer to nothing.
-abbrev pub made_part : List Ref → Entry → MadeSymbol → Option Part
+abbrev pub made_part : List Ref → InputSymbol → MadeSymbol → Option Part
 made_part calls e m = option_map (λ kind. record {
   chunk = record { input = 0; kind = kind; index = e.place };
   content = linker_made m;
@@ -234,18 +234,18 @@ parts_of mode all objects resolved =
 
 -- ---- the program
 
-abbrev pub is_that : Entry → Option Entry → Bool
+abbrev pub is_that : InputSymbol → Option InputSymbol → Bool
 is_that e None = false
 is_that e (Some w) = same_entry e w
 
-abbrev pub is_winner : List Entry → Entry → Bool
+abbrev pub is_winner : List InputSymbol → InputSymbol → Bool
 is_winner all e = is_that e (winner all (name_of e))
 
 -- The winners of all names, by input and place.
-unfoldable pub winners_of : List Entry → List Entry
+unfoldable pub winners_of : List InputSymbol → List InputSymbol
 winners_of all = filter (is_winner all) all
 
-abbrev pub with_resolved : Mode → Plan → List (List ℕ) → List Candidate → List Object → List Entry → List Resolved → Program
+abbrev pub with_resolved : Mode → Plan → List (List ℕ) → List Candidate → List Object → List InputSymbol → List Resolved → Program
 with_resolved mode plan files all objects es resolved = record {
   plan = plan;
   files = files;
@@ -256,7 +256,7 @@ with_resolved mode plan files all objects es resolved = record {
   parts = parts_of mode all objects resolved;
 }
 
-abbrev pub with_entries : Mode → Plan → List (List ℕ) → List Candidate → List Object → List Entry → Program
+abbrev pub with_entries : Mode → Plan → List (List ℕ) → List Candidate → List Object → List InputSymbol → Program
 with_entries mode plan files all objects es = with_resolved mode plan files all objects es (resolve mode plan.allow_undefined es objects)
 
 -- The program of the loaded objects. It is built in steps, each over what the step before gave.
@@ -268,7 +268,7 @@ program_of mode plan files all objects = with_entries mode plan files all object
 abbrev pub chunk_at : ℕ → ℕ → ℕ → Chunk
 chunk_at input kind index = record { input = input; kind = kind; index = index }
 
-abbrev pub chunk_by : Entry → SymbolKind → Option Chunk
+abbrev pub chunk_by : InputSymbol → SymbolKind → Option Chunk
 chunk_by e Function = Some (chunk_at e.input chunks.FUNCTION e.index)
 chunk_by e Datum = if e.input == 0 then None else Some (chunk_at e.input chunks.SEGMENT e.index)
 chunk_by e GlobalVar = Some (chunk_at e.input chunks.GLOBAL e.index)
@@ -276,7 +276,7 @@ chunk_by e Section = None
 chunk_by e Table = None
 
 -- The chunk in which a symbol is defined.
-abbrev pub chunk_of : Entry → Option Chunk
+abbrev pub chunk_of : InputSymbol → Option Chunk
 chunk_of e = chunk_by e e.symbol.kind
 
 -- The chunk that a meaning leads to.

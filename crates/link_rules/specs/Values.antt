@@ -8,7 +8,7 @@ use Rattle.made_symbols.specs.declared.mode.Mode.TheVariants.{Plain, Shared}
 use Rattle.made_symbols.specs.declared.roles.Role.{Role}
 use Rattle.made_symbols.specs.declared.roles.Role.TheVariants.{CallCtors, ApplyDataRelocs, StackPointer, MemoryBase, TableBase, IndirectFunctionTable, HeapBase, DataEnd, GlobalBase, DsoHandle, StackLow, StackHigh, HeapEnd}
 use Rattle.made_symbols.specs.Made.{made, stack_pointer}
-use Rattle.name_rules.specs.Entries.{Entry, is_kind}
+use Rattle.name_rules.specs.Entries.{InputSymbol, is_kind}
 use Rattle.name_rules.specs.Meanings.{Meaning, here, imported, null, nothing}
 use Rattle.mark_bits.specs.declared.chunk.Chunk.{Chunk}
 use Rattle.mark_bits.specs.declared.kinds.TheConstants as chunks
@@ -94,7 +94,7 @@ made_data at = map (λ m. made_address at m.role) (made Plain)
 
 -- The address of a datum: its segment's address and its offset there. In a shared output both count from `__memory_base`, where
 -- `__dso_handle` is.
-abbrev pub address_of : Mode → Layout → Entry → ℕ
+abbrev pub address_of : Mode → Layout → InputSymbol → ℕ
 address_of mode l e =
     if e.input == 0 then slice_index_or (by_mode mode (made_data l.places) []) e.place 0
     else segment_address l (chunk_at e.input chunks.SEGMENT e.index) + e.symbol.offset

@@ -2,7 +2,7 @@
 use Rattle.std.proofs.Common.{◌≡◌, ℕ, ◌+◌, ◌-◌, ◌<◌, ◌≤◌, List, [], ◌∷◌, ◌++◌, length, map, None, Bool, true, false, refl, sym, ◌∙◌, arith, length-append}
 use Rattle.std.specs.Prelude.{◌^◌, ◌==◌, nat_lt, pos, negsuc, neg_ℤ, ◌≤ℤ◌, ◌<ℤ◌, not, filter, filter_map, cond, All, position}
 use Rattle.made_symbols.specs.declared.mode.Mode.TheVariants.{Plain}
-use Rattle.name_rules.specs.Entries.{Entry}
+use Rattle.name_rules.specs.Entries.{InputSymbol}
 use Rattle.image_emit.specs.Bytes.{Tree, bytes_of}
 use Rattle.image_emit.specs.Spelled.{IsSpellable, IsU32, IsConstant, IsElement, entries}
 use Rattle.image_emit.specs.Filled.{each_filled}
@@ -35,7 +35,7 @@ length_map f (x ∷ xs) = let l : length (map f xs) ≡ length xs = length_map f
 some_entries : (t : Tree) → length t.imports + length t.functions ≤ entries t
 some_entries t = omega arith
 
-module _ (p : Program) (parts : List Part) (exports : List Entry) (l : Layout) where
+module _ (p : Program) (parts : List Part) (exports : List InputSymbol) (l : Layout) where
   split : (ks : List FunctionKey) → length ks ≡ length (filter_map (function_import Plain p parts exports l) ks) + length (filter (λ f. not (is_import Plain p parts exports l f)) ks)
   split [] = refl
   split (outside k ∷ ks) = let h = split ks in omega (arith, h)
@@ -86,7 +86,7 @@ signed_fits n = onto (nat_lt n (2 ^ 31)) refl
 some_types : (t : Tree) → length t.types ≤ entries t
 some_types t = omega arith
 
-module _ (p : Program) (parts : List Part) (exports : List Entry) (l : Layout) where
+module _ (p : Program) (parts : List Part) (exports : List InputSymbol) (l : Layout) where
   pub few_types : ((t : Tree) → entries t ≤ length (bytes_of t)) → IsU32 (length (bytes_of (linked_tree p parts exports l))) → length l.numbers.types < 2 ^ 32
   unfolding image
   few_types law s =

@@ -17,7 +17,7 @@ use Rattle.round_rules.specs.Rounds.{Candidate}
 use Rattle.link_plan.specs.declared.plan.Plan.{Plan}
 use Rattle.made_symbols.specs.Made.{MadeSymbol, made}
 use Rattle.made_symbols.specs.declared.mode.Mode.TheVariants.{Plain}
-use Rattle.name_rules.specs.Entries.{Entry, ImportKey, SymbolType, is_kind, name_of, is_named, entries, symbols_of, import_in, type_in, key_of, same_import}
+use Rattle.name_rules.specs.Entries.{InputSymbol, ImportKey, SymbolType, is_kind, name_of, is_named, entries, symbols_of, import_in, type_in, key_of, same_import}
 use Rattle.name_rules.specs.Meanings.{Meaning, here, imported, null, nothing, Resolved, resolved_in, resolve, meaning, no_uses}
 use Rattle.name_rules.specs.Cases.{clash}
 use Rattle.link_rules.specs.Program.{Program, program_of, Part, Content, function, segment, global, linker_made, parts_of, init_calls}
@@ -32,7 +32,7 @@ use Rattle.link_facts.proofs.SoundPrograms.{export_is, parts_are}
 use Rattle.link_runs.proofs.Names.{ObjectNamed, ImportNamed, IsName}
 
 abbrev pub KeyNamed : ImportKey → Type 0
-KeyNamed k = IsUtf8 k.place × IsUtf8 k.field
+KeyNamed k = IsUtf8 k.module_name × IsUtf8 k.field
 
 abbrev pub ContentFits : Content → Type 0
 ContentFits (function t) = Unit {0}
@@ -99,7 +99,7 @@ module _ (plan : Plan) (files : List (List ℕ)) (all : List Candidate) (objects
   abbrev p : Program
   p = program_of Plain plan files all objects
 
-  abbrev es : List Entry
+  abbrev es : List InputSymbol
   es = entries Plain objects
 
   abbrev res : Object → Resolved
@@ -109,17 +109,17 @@ module _ (plan : Plan) (files : List (List ℕ)) (all : List Candidate) (objects
   unfolding program_of resolve
   resolved_is = refl
 
-  entry_named : (e : Entry) → Known objects e → IsUtf8 (name_of e)
-  entry_named e (inl m) = subst (λ (x : Entry). IsUtf8 (name_of x)) (sym m.is) (of_made (made Plain) made_names m.symbol (has_at (made Plain) m.place m.symbol m.there))
-  entry_named e (inr x) = subst (λ (y : Entry). IsUtf8 (name_of y)) (sym x.symbol.is) (name_or x.symbol.symbol.name ((are x.object x.there).symbols x.symbol.symbol (has_at x.object.symbols x.symbol.place x.symbol.symbol x.symbol.there)))
+  entry_named : (e : InputSymbol) → Known objects e → IsUtf8 (name_of e)
+  entry_named e (inl m) = subst (λ (x : InputSymbol). IsUtf8 (name_of x)) (sym m.is) (of_made (made Plain) made_names m.symbol (has_at (made Plain) m.place m.symbol m.there))
+  entry_named e (inr x) = subst (λ (y : InputSymbol). IsUtf8 (name_of y)) (sym x.symbol.is) (name_or x.symbol.symbol.name ((are x.object x.there).symbols x.symbol.symbol (has_at x.object.symbols x.symbol.place x.symbol.symbol x.symbol.there)))
 
-  entry_import : (e : Entry) → Known objects e → (k : ImportKey) → e.import ≡ Some k → KeyNamed k
-  entry_import e (inl m) k q = absurd (let n = ap (λ (x : Entry). x.import) (sym m.is) ∙ q in grind arith)
+  entry_import : (e : InputSymbol) → Known objects e → (k : ImportKey) → e.import ≡ Some k → KeyNamed k
+  entry_import e (inl m) k q = absurd (let n = ap (λ (x : InputSymbol). x.import) (sym m.is) ∙ q in grind arith)
   entry_import e (inr x) k q =
       let s = x.symbol.symbol in
-      keyed (type_in x.object s s.kind) (import_in x.object s s.kind) k (import_named x.object (are x.object x.there) s s.kind) (ap (λ (y : Entry). y.import) (sym x.symbol.is) ∙ q)
+      keyed (type_in x.object s s.kind) (import_in x.object s s.kind) k (import_named x.object (are x.object x.there) s s.kind) (ap (λ (y : InputSymbol). y.import) (sym x.symbol.is) ∙ q)
 
-  meant_named : (e : Entry) (m : Meaning) (k : ImportKey) → Means es e m → import_of m ≡ Some k → KeyNamed k
+  meant_named : (e : InputSymbol) (m : Meaning) (k : ImportKey) → Means es e m → import_of m ≡ Some k → KeyNamed k
   meant_named e (here d) k s q = absurd (grind arith)
   meant_named e null k s q = absurd (grind arith)
   meant_named e nothing k s q = absurd (grind arith)
@@ -141,7 +141,7 @@ module _ (plan : Plan) (files : List (List ℕ)) (all : List Candidate) (objects
       meant_named m.0 f.0 k (subst (Means es m.0) m.2 (means plan.allow_undefined es m.0)) f.2)
       (distinct_only same_import [] _ k h)
 
-  written : (e : Entry) (r : Option Resolved) → ((x : Resolved) → r ≡ Some x → Has (map res objects) x) → IsName (option_and_then (λ r. written_name r e) r)
+  written : (e : InputSymbol) (r : Option Resolved) → ((x : Resolved) → r ≡ Some x → Has (map res objects) x) → IsName (option_and_then (λ r. written_name r e) r)
   written e None h = tt
   written e (Some r) h =
       let o = has_map res objects r (h r refl) in
@@ -151,7 +151,7 @@ module _ (plan : Plan) (files : List (List ℕ)) (all : List Candidate) (objects
       of_function None g = tt
       of_function (Some f) g = g f refl
 
-  pub export_named : (e : Entry) → Has (exported Plain p) e → IsUtf8 (export_name p e)
+  pub export_named : (e : InputSymbol) → Has (exported Plain p) e → IsUtf8 (export_name p e)
   export_named e h = by (is_kind Function e)
     where
       own : IsUtf8 (name_of e)

@@ -7,7 +7,7 @@ use Rattle.std.proofs.lemmas.Bool.{ltb-false}
 use Rattle.std.proofs.lemmas.List.Kept.{AllPairs-cons}
 use Rattle.wl_base.specs.Choice.{given}
 use Rattle.made_symbols.specs.declared.mode.Mode.TheVariants.{Plain}
-use Rattle.name_rules.specs.Entries.{Entry}
+use Rattle.name_rules.specs.Entries.{InputSymbol}
 use Rattle.reloc_apply.specs.declared.window.Window.{Window}
 use Rattle.reloc_apply.specs.Windows.{patch_of}
 use Rattle.reloc_apply.proofs.Over.{long_all}
@@ -56,7 +56,7 @@ picks f marked at (x ∷ xs) h =
     }
     onto false r = record { numbers = r.numbers; above = All-weaker (λ n. at + 1 ≤ n) (λ n. at ≤ n) (λ n l. omega (arith, l)) r.numbers r.above; rise = r.rise; are = r.are }
 
-lives : (p : Program) (exports : List Entry) → (numbers : List ℕ) × AreLive p numbers (live p exports)
+lives : (p : Program) (exports : List InputSymbol) → (numbers : List ℕ) × AreLive p numbers (live p exports)
 unfolding live
 lives p exports = let r = picks (slice_get p.parts) (reached (targets p) (root_places p exports)) 0 p.parts (λ k. let e : 0 + k ≡ k = omega arith in ap (slice_get p.parts) e) in (r.numbers, record { rise = r.rise; are = r.are })
 
@@ -64,7 +64,7 @@ given_none : {A : Type 0} (b : Bool) (x : A) → given b x ≡ None → b ≡ fa
 given_none true x e = absurd (grind arith)
 given_none false x e = refl
 
-tree_short : (p : Program) (exports : List Entry) → output_fault p (image Plain p (live p exports) exports (layout_of p exports)) ≡ None
+tree_short : (p : Program) (exports : List InputSymbol) → output_fault p (image Plain p (live p exports) exports (layout_of p exports)) ≡ None
     → length (bytes_of (tree_of p.files (image Plain p (live p exports) exports (layout_of p exports)))) < 2 ^ 32
 unfolding output_fault
 tree_short p exports e =
@@ -72,7 +72,7 @@ tree_short p exports e =
     let f = ltb-false (2 ^ 31 - 1) n (given_none (nat_lt (2 ^ 31 - 1) n) _ e) in
     omega (arith, f)
 
-pub short : (p : Program) (exports : List Entry) → PartsStand p → output_fault p (image Plain p (live p exports) exports (layout_of p exports)) ≡ None
+pub short : (p : Program) (exports : List InputSymbol) → PartsStand p → output_fault p (image Plain p (live p exports) exports (layout_of p exports)) ≡ None
     → IsU32 (length (bytes_of (linked_tree p (live p exports) exports (layout_of p exports))))
 short p exports stand e =
     let v = lives p exports in

@@ -4,7 +4,7 @@ use Rattle.std.specs.Prelude.{nat_lt, IfSome, option_map}
 use Rattle.std.proofs.lemmas.Bool.{ltb-false}
 use Rattle.wl_base.specs.Choice.{given, first_some}
 use Rattle.made_symbols.specs.declared.mode.Mode.TheVariants.{Plain}
-use Rattle.name_rules.specs.Entries.{Entry}
+use Rattle.name_rules.specs.Entries.{InputSymbol}
 use Rattle.link_plan.specs.Plan.{IsPlan, IsMemory}
 use Rattle.memory_layout.specs.Memory.{heap_base, around, around_stack, pages_over, memory_overflow, data_end, places}
 use Rattle.memory_layout.specs.declared.rules.MemoryRules.{MemoryRules}
@@ -25,7 +25,7 @@ given_none : {A : Type 0} (b : Bool) (x : A) → given b x ≡ None → b ≡ fa
 given_none true x e = absurd (grind arith)
 given_none false x e = refl
 
-pub few_slots : (p : Program) (exports : List Entry) → table_fault (layout_of p exports) ≡ None → 1 + slot_count (layout_of p exports) < 2 ^ 32
+pub few_slots : (p : Program) (exports : List InputSymbol) → table_fault (layout_of p exports) ≡ None → 1 + slot_count (layout_of p exports) < 2 ^ 32
 unfolding table_fault layout
 few_slots p exports e =
     let l = layout_of p exports in
@@ -33,7 +33,7 @@ few_slots p exports e =
     let f = ltb-false (2 ^ 32 - 1) (1 + length l.numbers.slots) (given_none (nat_lt (2 ^ 32 - 1) (1 + length l.numbers.slots)) (1 + length l.numbers.slots) none) in
     omega (arith, f)
 
-pub table_fits : (p : Program) (exports : List Entry) → table_fault (layout_of p exports) ≡ None → IsTable (table Plain p (live p exports) exports (layout_of p exports))
+pub table_fits : (p : Program) (exports : List InputSymbol) → table_fault (layout_of p exports) ≡ None → IsTable (table Plain p (live p exports) exports (layout_of p exports))
 table_fits p exports e = record { least = few_slots p exports e; most = few_slots p exports e }
 
 -- ---- memory
@@ -68,7 +68,7 @@ most_in : (o : Option ℕ) → IfSome o IsMemory → IfSome (option_map (λ n. n
 most_in None h = tt
 most_in (Some n) h = let k = pages_in n h.1 in omega (arith, k)
 
-pub memory_fits : (p : Program) (exports : List Entry) → IsPlan p.plan → memory_fault Plain p (live p exports) ≡ None → AreLimits (memory Plain p (live p exports) exports (layout_of p exports))
+pub memory_fits : (p : Program) (exports : List InputSymbol) → IsPlan p.plan → memory_fault Plain p (live p exports) ≡ None → AreLimits (memory Plain p (live p exports) exports (layout_of p exports))
 unfolding memory_fault layout
 memory_fits p exports plan e =
     let none = mapped_none _ _ e in

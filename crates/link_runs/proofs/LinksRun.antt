@@ -10,7 +10,7 @@ use Rattle.wasm_instr.specs.BodyLaws.{body_again}
 use Rattle.round_rules.specs.Rounds.{Candidate}
 use Rattle.link_plan.specs.declared.plan.Plan.{Plan}
 use Rattle.made_symbols.specs.declared.mode.Mode.TheVariants.{Plain}
-use Rattle.name_rules.specs.Entries.{Entry}
+use Rattle.name_rules.specs.Entries.{InputSymbol}
 use Rattle.name_rules.specs.Cases.{clash}
 use Rattle.link_rules.specs.Candidates.{candidates_of}
 use Rattle.link_rules.specs.Program.{Program, program_of, Part}
@@ -58,13 +58,13 @@ is_from plan files all objects c loaded o h =
       is = object_found o.input (bytes_of files d) o (ap (λ n. object_of n (bytes_of files d)) (sym each.2.input) ∙ sym r ∙ each.2.object);
     }
 
-run : (p : Program) (exports : List Entry) → ReadsAddresses p exports → (part : Part) → Has (live p exports) part → part.chunk.kind ≡ 0 → (part.chunk.input ≡ 0 → ⊥) → IsCoded p part → IsRun p part
+run : (p : Program) (exports : List InputSymbol) → ReadsAddresses p exports → (part : Part) → Has (live p exports) part → part.chunk.kind ≡ 0 → (part.chunk.input ≡ 0 → ⊥) → IsCoded p part → IsRun p part
 run p exports opens part h k i c = record {
   coded = c;
   reads = λ x m. subst (λ ns. Reads ns x) c.named (opens.reads part h k i c.body (body_again (part_bytes p part) c.body c.spelled) x m);
 }
 
-accepted : ((t : Tree) → entries t ≤ length (bytes_of_tree t)) → (p : Program) (exports : List Entry) → ReadsAddresses p exports → IsRanged (linked_tree p (live p exports) exports (layout_of p exports))
+accepted : ((t : Tree) → entries t ≤ length (bytes_of_tree t)) → (p : Program) (exports : List InputSymbol) → ReadsAddresses p exports → IsRanged (linked_tree p (live p exports) exports (layout_of p exports))
     → Facts p exports → NoFault p exports (layout_of p exports) → IsAccepted p exports
 accepted law p exports opens ranged f n = record {
   sound = f.sound;

@@ -2,7 +2,7 @@
 use Rattle.std.specs.Prelude.{List}
 use Rattle.std.proofs.Common.{sym, ◌∙◌, subst}
 use Rattle.wasm_instr.specs.BodyLaws.{body_again}
-use Rattle.name_rules.specs.Entries.{Entry}
+use Rattle.name_rules.specs.Entries.{InputSymbol}
 use Rattle.link_rules.specs.Program.{Program, Part}
 use Rattle.link_rules.specs.Values.{part_bytes}
 use Rattle.link_worlds.specs.Worlds.{layout_of}
@@ -13,13 +13,13 @@ use Rattle.output_module.specs.Outputs.{OutputIsRead}
 use Rattle.link_facts.specs.Faults.{ValuesFit, MemoryHolds}
 use Rattle.link_runs.specs.Runs.{IsRun, IsAccepted, OutputRuns}
 
-shaped : TakenBody → (p : Program) (exports : List Entry) (part : Part) → IsRun p part → IsShaped p part
+shaped : TakenBody → (p : Program) (exports : List InputSymbol) (part : Part) → IsRun p part → IsShaped p part
 shaped taken p exports part r =
     let c = r.coded in
     subst (Shaped part.named) (sym (body_again (part_bytes p part) c.body c.spelled))
     (λ x h. subst (λ ns. Takes ns x) (sym c.named) (taken p (layout_of p exports) c.body c.stands (part_bytes p part) c.spelled c.on r.reads x h))
 
-linked : TakenBody → ValuesFit → (p : Program) (exports : List Entry) → IsAccepted p exports → LinkedBy p exports (layout_of p exports)
+linked : TakenBody → ValuesFit → (p : Program) (exports : List InputSymbol) → IsAccepted p exports → LinkedBy p exports (layout_of p exports)
 linked taken fit p exports a =
     let v = fit p exports a.sound a.exported a.measured a.no_fault in
     record {

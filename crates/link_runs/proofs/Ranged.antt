@@ -15,7 +15,7 @@ use Rattle.wasm_module.specs.declared.parts.ModuleGlobal.{ModuleGlobal}
 use Rattle.linking_section.specs.declared.symbol.SymbolKind.{SymbolKind}
 use Rattle.linking_section.specs.declared.symbol.SymbolKind.TheVariants.{Function, Datum, GlobalVar, Section, Table}
 use Rattle.made_symbols.specs.declared.mode.Mode.TheVariants.{Plain}
-use Rattle.name_rules.specs.Entries.{Entry, ImportKey, SymbolType, of_function, of_global, untyped}
+use Rattle.name_rules.specs.Entries.{InputSymbol, ImportKey, SymbolType, of_function, of_global, untyped}
 use Rattle.image_emit.specs.Bytes.{Tree, bytes_of}
 use Rattle.image_emit.specs.Spelled.{IsU32, IsImport, IsImportKind, IsTable, AreLimits, IsGlobal, IsExport, entries}
 use Rattle.link_rules.specs.Program.{Program, Part, Content, function, segment, global, linker_made}
@@ -58,7 +58,7 @@ finds test (y ∷ ys) x h t = onto (test y) refl (λ m. finds test ys x m t)
     onto true e go = record { part = y; is = ap (λ b. cond b (Some y) (find test ys)) e; there = inl refl; passes = e }
     onto false e go = let r = rest e h go in record { part = r.part; is = ap (λ b. cond b (Some y) (find test ys)) e ∙ r.is; there = inr r.there; passes = r.passes }
 
-module _ (p : Program) (parts : List Part) (exports : List Entry) where
+module _ (p : Program) (parts : List Part) (exports : List InputSymbol) where
   abbrev l : Layout
   l = layout Plain p parts exports
 
@@ -226,7 +226,7 @@ module _ (p : Program) (parts : List Part) (exports : List Entry) where
         omega (arith, c, a, e, b, short)
 
   module _ (few : length l.numbers.functions < 2 ^ 32) (few_types : length l.numbers.types < 2 ^ 32) (few_globals : length l.numbers.globals < 2 ^ 32)
-      (keys : (k : ImportKey) → Has (imports_in_order p) k → KeyNamed k) (names : (e : Entry) → Has exports e → IsUtf8 (export_name p e))
+      (keys : (k : ImportKey) → Has (imports_in_order p) k → KeyNamed k) (names : (e : InputSymbol) → Has exports e → IsUtf8 (export_name p e))
       (contents : (part : Part) → Has parts part → ContentFits part.content) (limits : AreLimits (memory Plain p parts exports l)) where
     kind_fits : (t : SymbolType) → IsImportKind (imported_kind Plain p parts exports l t)
     kind_fits (of_function t) = below (same_type t) l.numbers.types (2 ^ 32) few_types
@@ -289,7 +289,7 @@ module _ (p : Program) (parts : List Part) (exports : List Entry) where
 
     -- ---- exports
 
-    export_fits : (e : Entry) (kind : SymbolKind) → IsUtf8 (export_name p e) → IsExport (export_of Plain p parts exports l e kind)
+    export_fits : (e : InputSymbol) (kind : SymbolKind) → IsUtf8 (export_name p e) → IsExport (export_of Plain p parts exports l e kind)
     export_fits e Function n = record { name = n; kind = omega arith; index = below (same_function (function_of e)) l.numbers.functions (2 ^ 32) few }
     export_fits e Datum n = record { name = n; kind = omega arith; index = below (same_global (exported_datum e)) l.numbers.globals (2 ^ 32) few_globals }
     export_fits e GlobalVar n = record { name = n; kind = omega arith; index = below (same_global (global_of Plain e)) l.numbers.globals (2 ^ 32) few_globals }

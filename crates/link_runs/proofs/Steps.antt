@@ -6,7 +6,7 @@ use Rattle.object_file.specs.declared.object.Object.{Object}
 use Rattle.round_rules.specs.Rounds.{Candidate, load}
 use Rattle.link_plan.specs.declared.plan.Plan.{Plan}
 use Rattle.made_symbols.specs.declared.mode.Mode.TheVariants.{Plain}
-use Rattle.name_rules.specs.Entries.{Entry}
+use Rattle.name_rules.specs.Entries.{InputSymbol}
 use Rattle.name_rules.specs.Cases.{clash, duplicate}
 use Rattle.link_rules.specs.Candidates.{candidates_of}
 use Rattle.link_rules.specs.Program.{Program, program_of}
@@ -20,7 +20,7 @@ use Rattle.link_runs.proofs.Candidates.{guard}
 ok_is : {A F : Type 0} (x y : A) (r : Result A F) → r ≡ Ok x → r ≡ Ok y → x ≡ y
 ok_is x y r a b = grind arith
 
-module _ (p : Program) (exports : List Entry) (bytes : List ℕ) where
+module _ (p : Program) (exports : List InputSymbol) (bytes : List ℕ) where
   record Written : Type 0 where
     output : output_fault p (image Plain p (live p exports) exports (layout_of p exports)) ≡ None
     references : reference_fault (source_windows Plain p (live p exports) exports (layout_of p exports)) ≡ None

@@ -9,7 +9,7 @@ use Rattle.round_rules.specs.Rounds.{Candidate, load}
 use Rattle.link_plan.specs.declared.plan.Plan.{Plan}
 use Rattle.link_plan.specs.Plan.{IsPlan}
 use Rattle.made_symbols.specs.declared.mode.Mode.TheVariants.{Plain}
-use Rattle.name_rules.specs.Entries.{Entry}
+use Rattle.name_rules.specs.Entries.{InputSymbol}
 use Rattle.link_rules.specs.Candidates.{candidates_of}
 use Rattle.link_rules.specs.LinkOf.{asked_names, the_readers, link_of}
 use Rattle.link_rules.specs.Marks.{live, exported}
@@ -20,7 +20,7 @@ use Rattle.link_runs.specs.Runs.{Gives}
 
 -- Of a live function no instruction sets a global of which the window names a datum or a function, whose address is in the cell. The rule
 -- on what may stand where makes sure of it, and no law says it yet.
-pub record ReadsAddresses (p : Program) (exports : List Entry) : Type 0 where
+pub record ReadsAddresses (p : Program) (exports : List InputSymbol) : Type 0 where
   pub reads : (part : Part) → Has (live p exports) part → part.chunk.kind ≡ 0 → (part.chunk.input ≡ 0 → ⊥) → (b : Body) → body_at (part_bytes p part) ≡ Ok b
       → (x : Placed) → Has b.code x → Reads part.named x
 

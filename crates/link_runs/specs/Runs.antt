@@ -5,7 +5,7 @@ use Rattle.wasm_instr.specs.declared.body.Placed.{Placed}
 use Rattle.wasm_module.specs.declared.structure.Module.{Module}
 use Rattle.wasm_module.specs.ModuleReading.{module_of}
 use Rattle.made_symbols.specs.declared.mode.Mode.TheVariants.{Plain}
-use Rattle.name_rules.specs.Entries.{Entry}
+use Rattle.name_rules.specs.Entries.{InputSymbol}
 use Rattle.image_emit.specs.Spelled.{IsSpellable}
 use Rattle.run_rules.specs.declared.session.Session.{Session}
 use Rattle.run_rules.specs.Modules.{module_trace}
@@ -26,7 +26,7 @@ pub record IsRun (p : Program) (part : Part) : Type 0 where
   pub reads : (x : Placed) → Has coded.body.code x → Reads (names_in coded.stands) x
 
 -- What a link that is accepted makes sure of.
-pub record IsAccepted (p : Program) (exports : List Entry) : Type 0 where
+pub record IsAccepted (p : Program) (exports : List InputSymbol) : Type 0 where
   pub sound : Sound p
   pub exported : SoundExports p exports
   pub measured : Measured p exports
@@ -43,11 +43,11 @@ pub record IsAccepted (p : Program) (exports : List Entry) : Type 0 where
   pub spellable : IsSpellable (linked_tree p (live p exports) exports (layout_of p exports))
 
 -- The bytes are read as a module that gives the traces of the plan and the files.
-pub record Gives (p : Program) (exports : List Entry) (bytes : List ℕ) : Type 0 where
+pub record Gives (p : Program) (exports : List InputSymbol) (bytes : List ℕ) : Type 0 where
   pub is : Module
   pub read : module_of bytes ≡ Ok is
   pub runs : (s : Session) (n : ℕ) → Enough s (layout_of p exports) → plan_trace s p exports n ≡ module_trace s is n
 
 abbrev pub OutputRuns : Type 0
-OutputRuns = (p : Program) (exports : List Entry) → IsAccepted p exports
+OutputRuns = (p : Program) (exports : List InputSymbol) → IsAccepted p exports
     → Gives p exports (output_bytes Plain p (image Plain p (live p exports) exports (layout_of p exports)) (source_windows Plain p (live p exports) exports (layout_of p exports)))

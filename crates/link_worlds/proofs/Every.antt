@@ -9,7 +9,7 @@ use Rattle.wl_base.specs.Choice.{given}
 use Rattle.linking_section.specs.declared.symbol.SymbolKind.TheVariants.{Datum, GlobalVar}
 use Rattle.linking_section.specs.Flags.{kind_code}
 use Rattle.made_symbols.specs.declared.mode.Mode.TheVariants.{Plain}
-use Rattle.name_rules.specs.Entries.{Entry, is_kind, same_entry}
+use Rattle.name_rules.specs.Entries.{InputSymbol, is_kind, same_entry}
 use Rattle.name_rules.specs.Meanings.{Meaning, here, imported, null, nothing}
 use Rattle.live_mark.specs.Live.{ReachedLaw}
 use Rattle.reloc_apply.specs.declared.window.Form.{Form}
@@ -38,7 +38,7 @@ given_if : (P : GotKey → Type 0) (t : Bool) (x k : GlobalKey) → given t x �
 given_if P true x k h p = subst (IfGot P) (grind arith) p
 given_if P false x k h p = absurd (grind arith)
 
-got_among : (p : Program) (parts : List Part) (exports : List Entry) (k : GlobalKey) → Has (globals Plain p parts exports) k → IfGot (Has (got_entries Plain parts)) k
+got_among : (p : Program) (parts : List Part) (exports : List InputSymbol) (k : GlobalKey) → Has (globals Plain p parts exports) k → IfGot (Has (got_entries Plain parts)) k
 unfolding globals
 got_among p parts exports k h =
     let P = Has (got_entries Plain parts) in
@@ -61,7 +61,7 @@ got_among p parts exports k h =
     (has_either (mades ++ owns ++ gots) dates k g))
     (has_either outs (mades ++ owns ++ gots ++ dates) k h)
 
-abbrev entry_of : GotKey → Option Entry
+abbrev entry_of : GotKey → Option InputSymbol
 entry_of (got_entry e) = Some e
 entry_of (got_import k) = None
 entry_of (got_null n) = None
@@ -73,13 +73,13 @@ got_meant kind null = refl
 got_meant kind nothing = refl
 
 -- one value for the same cell
-value_equal : (l : Layout) (a b : GotKey) → same_got a b ≡ true → ((e f : Entry) → a ≡ got_entry e → b ≡ got_entry f → same_entry e f ≡ true → e ≡ f) → got_value Plain l a ≡ got_value Plain l b
+value_equal : (l : Layout) (a b : GotKey) → same_got a b ≡ true → ((e f : InputSymbol) → a ≡ got_entry e → b ≡ got_entry f → same_entry e f ≡ true → e ≡ f) → got_value Plain l a ≡ got_value Plain l b
 value_equal l (got_entry e) (got_entry f) s h = ap (λ x. got_value Plain l (got_entry x)) (h e f refl refl s)
 value_equal l (got_import j) (got_import k) s h = ap (λ x. got_value Plain l (got_import x)) (import_equal j k s)
 value_equal l (got_null j) (got_null k) s h = refl
 value_equal l _ _ s h = absurd (grind arith)
 
-module _ (p : Program) (exports : List Entry) (sound : Sound p) where
+module _ (p : Program) (exports : List InputSymbol) (sound : Sound p) where
   -- the entry that a cell of live code is made for is among those that references mean
   got_from : (k : GotKey) → Has (got_entries Plain (live p exports)) k → (ref : Ref) × Has (refs_of p.parts) ref × (ref_got ref ≡ k)
   got_from k h =
@@ -93,7 +93,7 @@ module _ (p : Program) (exports : List Entry) (sound : Sound p) where
       (r.0, ref_listed p.parts q.0 r.0 (live_part p exports q.0 c.0) q.2, r.2))
       found
 
-  meant_has : (ref : Ref) (e : Entry) → Has (refs_of p.parts) ref → ref_got ref ≡ got_entry e → Has (meant_entries p) e
+  meant_has : (ref : Ref) (e : InputSymbol) → Has (refs_of p.parts) ref → ref_got ref ≡ got_entry e → Has (meant_entries p) e
   meant_has ref e h g = pick_has (λ (x : Ref). meant_entry x.meaning) (refs_of p.parts) ref e h (got_meant (kind_code ref.entry.symbol.kind) ref.meaning ∙ ap entry_of g)
 
   module _ (part : Part) (ref : Ref) (h : Has (live p exports) part) (r : Has (refs part) ref) (seven : ref.kind ≡ 7) (kind : is_kind GlobalVar ref.entry ≡ false) where
@@ -155,7 +155,7 @@ in_range place n form h =
     let l : n + 0 < 2 ^ 32 = ltb-true (n + 0) (2 ^ 32) r.1 in
     mod-eq_of_lt l ∙ omega arith
 
-module _ (p : Program) (exports : List Entry) (part : Part) (ref : Ref) (sound : Sound p) (open' : unresolved p (live p exports) ≡ None) (h : Has (live p exports) part) (r : Has (refs part) ref)
+module _ (p : Program) (exports : List InputSymbol) (part : Part) (ref : Ref) (sound : Sound p) (open' : unresolved p (live p exports) ≡ None) (h : Has (live p exports) part) (r : Has (refs part) ref)
     (law : ReachedLaw) (f : fits (ref_window Plain (layout Plain p (live p exports) exports) ref) ≡ true) where
   abbrev lay : Layout
   lay = layout Plain p (live p exports) exports

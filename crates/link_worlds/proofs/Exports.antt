@@ -12,7 +12,7 @@ use Rattle.linking_section.specs.declared.symbol.SymbolKind.{SymbolKind}
 use Rattle.linking_section.specs.declared.symbol.SymbolKind.TheVariants.{Function, Datum, GlobalVar, Section, Table}
 use Rattle.linking_section.specs.Flags.{kind_code}
 use Rattle.made_symbols.specs.declared.mode.Mode.TheVariants.{Plain}
-use Rattle.name_rules.specs.Entries.{Entry, ImportKey, is_kind}
+use Rattle.name_rules.specs.Entries.{InputSymbol, ImportKey, is_kind}
 use Rattle.mark_bits.specs.declared.chunk.Chunk.{Chunk}
 use Rattle.live_mark.specs.Live.{ReachedLaw}
 use Rattle.link_rules.specs.Program.{Program, Part, chunk_of, chunk_by, chunk_at}
@@ -29,7 +29,7 @@ use Rattle.link_worlds.proofs.Refs.{own_here, number_pairs}
 use Rattle.link_worlds.proofs.Tables.{key_number}
 
 -- the cell of a global that stands among parts
-cell_own : (parts : List Part) (e : Entry) → (e.input ≡ 0 → e.index ≡ e.place) → PartOf parts (chunk_at e.input 2 e.index)
+cell_own : (parts : List Part) (e : InputSymbol) → (e.input ≡ 0 → e.index ≡ e.place) → PartOf parts (chunk_at e.input 2 e.index)
     → Has (filter_map made_global_key parts) (global_of Plain e) ⊎ Has (filter_map own_global_key parts) (global_of Plain e)
 cell_own parts e made o =
     by_test (e.input == 0)
@@ -42,18 +42,18 @@ cell_own parts e made o =
     ∙ ap (λ b. given (not b && true) (own_global e.input e.index)) t
     ∙ ap Some (sym (cond-false (e.input == 0) (linker_global e.place) (own_global e.input e.index) t)))))
 
-abbrev IfDatum : (Entry → Type 0) → GlobalKey → Type 0
+abbrev IfDatum : (InputSymbol → Type 0) → GlobalKey → Type 0
 IfDatum P (outside_global k) = Unit {0}
 IfDatum P (linker_global k) = Unit {0}
 IfDatum P (own_global i k) = Unit {0}
 IfDatum P (got k) = Unit {0}
 IfDatum P (exported_datum e) = P e
 
-given_if : (P : Entry → Type 0) (t : Bool) (x k : GlobalKey) → given t x ≡ Some k → IfDatum P x → IfDatum P k
+given_if : (P : InputSymbol → Type 0) (t : Bool) (x k : GlobalKey) → given t x ≡ Some k → IfDatum P x → IfDatum P k
 given_if P true x k h p = subst (IfDatum P) (grind arith) p
 given_if P false x k h p = absurd (grind arith)
 
-module _ (law : ReachedLaw) (p : Program) (exports : List Entry) (sound : Sound p) (named : SoundExports p exports) (cell : ℕ → ℕ) (straight : (n : ℕ) → cell n ≡ n) where
+module _ (law : ReachedLaw) (p : Program) (exports : List InputSymbol) (sound : Sound p) (named : SoundExports p exports) (cell : ℕ → ℕ) (straight : (n : ℕ) → cell n ≡ n) where
   abbrev parts : List Part
   parts = live p exports
 
@@ -86,7 +86,7 @@ module _ (law : ReachedLaw) (p : Program) (exports : List Entry) (sound : Sound 
       (has_either (mades ++ owns ++ gots) dates k g))
       (has_either outs (mades ++ owns ++ gots ++ dates) k h)
 
-  module _ (e : Entry) (h : Has exports e) where
+  module _ (e : InputSymbol) (h : Has exports e) where
     rooted : (c : Chunk) → chunk_of e ≡ Some c → PartOf (live p exports) c
     rooted c q =
         let first = pick_has chunk_of exports e c h q in
@@ -158,7 +158,7 @@ module _ (law : ReachedLaw) (p : Program) (exports : List Entry) (sound : Sound 
     by_kind Section q = record { name = refl; target = tt }
     by_kind Table q = record { name = refl; target = tt }
 
-  each_pairs : (es : List Entry) → ((e : Entry) → Has es e → Has exports e) → Each (ExportPairs ren) (map (plan_export p lay) es) (map (module_export cell) (map (λ e. export_of Plain p parts exports lay e e.symbol.kind) es))
+  each_pairs : (es : List InputSymbol) → ((e : InputSymbol) → Has es e → Has exports e) → Each (ExportPairs ren) (map (plan_export p lay) es) (map (module_export cell) (map (λ e. export_of Plain p parts exports lay e e.symbol.kind) es))
   each_pairs [] f = tt
   each_pairs (e ∷ es) f = (by_kind e (f e (inl refl)) e.symbol.kind refl, each_pairs es (λ d h. f d (inr h)))
 

@@ -18,7 +18,7 @@ use Rattle.run_rules.specs.Modules.{coded}
 use Rattle.run_rules.specs.Steps.{joined}
 use Rattle.sim_laws.specs.Pairs.{Renaming, Calls, Both, OpPairs, FunctionPairs, SourcePairs}
 use Rattle.made_symbols.specs.declared.mode.Mode.TheVariants.{Plain}
-use Rattle.name_rules.specs.Entries.{Entry, ImportKey}
+use Rattle.name_rules.specs.Entries.{InputSymbol, ImportKey}
 use Rattle.live_mark.specs.Live.{is_among, reached}
 use Rattle.link_rules.specs.Program.{Program, Part, Ref, TypeWindow, a_symbol, a_type, refs, types_named, named_type, same_chunk}
 use Rattle.link_rules.specs.Marks.{live, refs_of, picked, targets, root_places}
@@ -82,7 +82,7 @@ apart_picked marked at (x ∷ xs) a = onto (is_among marked at) (apart_picked ma
     onto true r f = (f, r)
     onto false r f = r
 
-pub live_apart : (p : Program) (exports : List Entry) → Sound p → Apart same_part (live p exports)
+pub live_apart : (p : Program) (exports : List InputSymbol) → Sound p → Apart same_part (live p exports)
 unfolding live
 live_apart p exports sound = apart_picked (reached (targets p) (root_places p exports)) 0 p.parts sound.apart
 
@@ -136,7 +136,7 @@ is_own part input index t =
     let q = and_parts (part.chunk.kind == 0) (part.chunk.input == input) p.0 in
     (eqb-true part.chunk.kind 0 q.0, eqb-true part.chunk.input input q.1, eqb-true part.chunk.index index p.1)
 
-module _ (p : Program) (exports : List Entry) (sound : Sound p) (cell : ℕ → ℕ) (straight : (n : ℕ) → cell n ≡ n) where
+module _ (p : Program) (exports : List InputSymbol) (sound : Sound p) (cell : ℕ → ℕ) (straight : (n : ℕ) → cell n ≡ n) where
   abbrev parts : List Part
   parts = live p exports
 
@@ -148,7 +148,7 @@ module _ (p : Program) (exports : List Entry) (sound : Sound p) (cell : ℕ → 
 
   -- a function of the output's module
   abbrev pub mod_source : FunctionKey → Source
-  mod_source (outside k) = Host k.place k.field
+  mod_source (outside k) = Host k.module_name k.field
   mod_source (linker_function n) = coded (op_of lay.numbers.types cell) (linked_source p lay parts (linker_function n))
   mod_source (stub name) = coded (op_of lay.numbers.types cell) (linked_source p lay parts (stub name))
   mod_source (own i x) = coded (op_of lay.numbers.types cell) (linked_source p lay parts (own i x))

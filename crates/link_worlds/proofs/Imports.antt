@@ -14,7 +14,7 @@ use Rattle.wasm_types.specs.declared.import.Import.{Import}
 use Rattle.wasm_types.specs.Same.{same_global_type}
 use Rattle.run_rules.specs.Modules.{GlobalImport, same_cell, imported_global, imported_table, imported_memory, imported_globals, imported_tables, imported_memories, cell_at, cell_of}
 use Rattle.made_symbols.specs.declared.mode.Mode.TheVariants.{Plain}
-use Rattle.name_rules.specs.Entries.{Entry, ImportKey, SymbolType, of_function, of_global, untyped}
+use Rattle.name_rules.specs.Entries.{InputSymbol, ImportKey, SymbolType, of_function, of_global, untyped}
 use Rattle.link_rules.specs.Program.{Program, Part}
 use Rattle.link_rules.specs.Keys.{FunctionKey, GlobalKey, outside, linker_function, stub, own, outside_global, linker_global, own_global, got, exported_datum, is_function_type, is_global_type}
 use Rattle.link_rules.specs.Values.{Layout}
@@ -30,7 +30,7 @@ pub agree_of : {A B : Type 0} (f g : A → Option B) (xs : List A) → ((x : A) 
 agree_of f g [] h = refl
 agree_of f g (x ∷ xs) h = ap (λ o. cons_option o (filter_map f xs)) (h x (inl refl)) ∙ ap (λ ys. cons_option (g x) ys) (agree_of f g xs (λ y m. h y (inr m)))
 
-module _ (p : Program) (parts : List Part) (exports : List Entry) (l : Layout) where
+module _ (p : Program) (parts : List Part) (exports : List InputSymbol) (l : Layout) where
   abbrev memories : List Import
   memories = cond p.plan.import_memory (memory_import Plain p parts exports l) []
 
@@ -68,12 +68,12 @@ module _ (p : Program) (parts : List Part) (exports : List Entry) (l : Layout) w
       by_key (got g) m e = absurd (grind arith)
       by_key (exported_datum d) m e = absurd (grind arith)
 
-  no_table : (t : SymbolType) (place field : List ℕ) → imported_table (import_for Plain p parts exports l (record { place = place; field = field; type = t })).kind ≡ None
+  no_table : (t : SymbolType) (place field : List ℕ) → imported_table (import_for Plain p parts exports l (record { module_name = place; field = field; type = t })).kind ≡ None
   no_table (of_function t) place field = refl
   no_table (of_global g) place field = refl
   no_table untyped place field = refl
 
-  no_memory : (t : SymbolType) (place field : List ℕ) → imported_memory (import_for Plain p parts exports l (record { place = place; field = field; type = t })).kind ≡ None
+  no_memory : (t : SymbolType) (place field : List ℕ) → imported_memory (import_for Plain p parts exports l (record { module_name = place; field = field; type = t })).kind ≡ None
   no_memory (of_function t) place field = refl
   no_memory (of_global g) place field = refl
   no_memory untyped place field = refl
@@ -84,8 +84,8 @@ module _ (p : Program) (parts : List Part) (exports : List Entry) (l : Layout) w
       picked_imports (λ x. imported_table x.kind)
       ∙ ap (λ xs. xs ++ (filter_map (λ (x : Import). imported_table x.kind) functions_in ++ filter_map (λ (x : Import). imported_table x.kind) globals_in)) (of_memory p.plan.import_memory)
       ∙ ap (λ xs. xs ++ filter_map (λ (x : Import). imported_table x.kind) globals_in)
-      (none_of (λ (x : Import). imported_table x.kind) functions_in (λ x h. let k = function_of_key x h in ap (λ (y : Import). imported_table y.kind) k.1 ∙ no_table k.0.type k.0.place k.0.field))
-      ∙ none_of (λ (x : Import). imported_table x.kind) globals_in (λ x h. let k = global_of_key x h in ap (λ (y : Import). imported_table y.kind) k.1 ∙ no_table k.0.type k.0.place k.0.field)
+      (none_of (λ (x : Import). imported_table x.kind) functions_in (λ x h. let k = function_of_key x h in ap (λ (y : Import). imported_table y.kind) k.1 ∙ no_table k.0.type k.0.module_name k.0.field))
+      ∙ none_of (λ (x : Import). imported_table x.kind) globals_in (λ x h. let k = global_of_key x h in ap (λ (y : Import). imported_table y.kind) k.1 ∙ no_table k.0.type k.0.module_name k.0.field)
     where
       of_memory : (b : Bool) → filter_map (λ (x : Import). imported_table x.kind) (cond b (memory_import Plain p parts exports l) []) ≡ []
       of_memory true = refl
@@ -97,9 +97,9 @@ module _ (p : Program) (parts : List Part) (exports : List Entry) (l : Layout) w
       picked_imports (λ x. imported_memory x.kind)
       ∙ ap (λ xs. xs ++ (filter_map (λ (x : Import). imported_memory x.kind) functions_in ++ filter_map (λ (x : Import). imported_memory x.kind) globals_in)) (of_memory p.plan.import_memory)
       ∙ ap (λ xs. m ++ (xs ++ filter_map (λ (x : Import). imported_memory x.kind) globals_in))
-      (none_of (λ (x : Import). imported_memory x.kind) functions_in (λ x h. let k = function_of_key x h in ap (λ (y : Import). imported_memory y.kind) k.1 ∙ no_memory k.0.type k.0.place k.0.field))
+      (none_of (λ (x : Import). imported_memory x.kind) functions_in (λ x h. let k = function_of_key x h in ap (λ (y : Import). imported_memory y.kind) k.1 ∙ no_memory k.0.type k.0.module_name k.0.field))
       ∙ ap (λ xs. m ++ xs)
-      (none_of (λ (x : Import). imported_memory x.kind) globals_in (λ x h. let k = global_of_key x h in ap (λ (y : Import). imported_memory y.kind) k.1 ∙ no_memory k.0.type k.0.place k.0.field))
+      (none_of (λ (x : Import). imported_memory x.kind) globals_in (λ x h. let k = global_of_key x h in ap (λ (y : Import). imported_memory y.kind) k.1 ∙ no_memory k.0.type k.0.module_name k.0.field))
       ∙ append-nil m
     where
       m : List Limits
@@ -116,7 +116,7 @@ module _ (p : Program) (parts : List Part) (exports : List Entry) (l : Layout) w
   global_type_of untyped = record { kind = types.I32; var = false }
 
   abbrev pub cell_import : ImportKey → GlobalImport
-  cell_import k = record { from = k.place; field = k.field; kind = global_type_of k.type }
+  cell_import k = record { from = k.module_name; field = k.field; kind = global_type_of k.type }
 
   abbrev pub imported_key : GlobalKey → Option GlobalImport
   imported_key (outside_global k) = Some (cell_import k)
@@ -126,14 +126,14 @@ module _ (p : Program) (parts : List Part) (exports : List Entry) (l : Layout) w
   imported_key (exported_datum e) = None
 
   function_no_global : (t : SymbolType) (place field : List ℕ) → is_function_type t ≡ true
-      → imported_global (import_for Plain p parts exports l (record { place = place; field = field; type = t })) (import_for Plain p parts exports l (record { place = place; field = field; type = t })).kind ≡ None
+      → imported_global (import_for Plain p parts exports l (record { module_name = place; field = field; type = t })) (import_for Plain p parts exports l (record { module_name = place; field = field; type = t })).kind ≡ None
   function_no_global (of_function t) place field h = refl
   function_no_global (of_global g) place field h = absurd (grind arith)
   function_no_global untyped place field h = absurd (grind arith)
 
   global_is : (t : SymbolType) (place field : List ℕ) → is_global_type t ≡ true
-      → imported_global (import_for Plain p parts exports l (record { place = place; field = field; type = t })) (import_for Plain p parts exports l (record { place = place; field = field; type = t })).kind
-      ≡ Some (cell_import (record { place = place; field = field; type = t }))
+      → imported_global (import_for Plain p parts exports l (record { module_name = place; field = field; type = t })) (import_for Plain p parts exports l (record { module_name = place; field = field; type = t })).kind
+      ≡ Some (cell_import (record { module_name = place; field = field; type = t }))
   global_is (of_function t) place field h = absurd (grind arith)
   global_is (of_global g) place field h = refl
   global_is untyped place field h = absurd (grind arith)
@@ -144,7 +144,7 @@ module _ (p : Program) (parts : List Part) (exports : List Entry) (l : Layout) w
         → filter_map (λ (x : Import). imported_global x x.kind) (filter_map (global_import Plain p parts exports l) gs) ≡ filter_map imported_key gs
     globals_by [] f = refl
     globals_by (outside_global k ∷ gs) f =
-        ap (λ o. cons_option o (filter_map (λ (x : Import). imported_global x x.kind) (filter_map (global_import Plain p parts exports l) gs))) (global_is k.type k.place k.field (globals_typed k (f (outside_global k) (inl refl))))
+        ap (λ o. cons_option o (filter_map (λ (x : Import). imported_global x x.kind) (filter_map (global_import Plain p parts exports l) gs))) (global_is k.type k.module_name k.field (globals_typed k (f (outside_global k) (inl refl))))
         ∙ ap (λ xs. cell_import k ∷ xs) (globals_by gs (λ j h. f j (inr h)))
     globals_by (linker_global n ∷ gs) f = globals_by gs (λ j h. f j (inr h))
     globals_by (own_global i x ∷ gs) f = globals_by gs (λ j h. f j (inr h))
@@ -157,7 +157,7 @@ module _ (p : Program) (parts : List Part) (exports : List Entry) (l : Layout) w
         picked_imports (λ x. imported_global x x.kind)
         ∙ ap (λ xs. xs ++ (filter_map (λ (x : Import). imported_global x x.kind) functions_in ++ filter_map (λ (x : Import). imported_global x x.kind) globals_in)) (of_memory p.plan.import_memory)
         ∙ ap (λ xs. xs ++ filter_map (λ (x : Import). imported_global x x.kind) globals_in)
-        (none_of (λ (x : Import). imported_global x x.kind) functions_in (λ x h. let k = function_of_key x h in ap (λ (y : Import). imported_global y y.kind) k.1 ∙ function_no_global k.0.type k.0.place k.0.field (functions_typed k.0 k.2)))
+        (none_of (λ (x : Import). imported_global x x.kind) functions_in (λ x h. let k = function_of_key x h in ap (λ (y : Import). imported_global y y.kind) k.1 ∙ function_no_global k.0.type k.0.module_name k.0.field (functions_typed k.0 k.2)))
         ∙ globals_by l.numbers.globals (λ k h. h)
       where
         of_memory : (b : Bool) → filter_map (λ (x : Import). imported_global x x.kind) (cond b (memory_import Plain p parts exports l) []) ≡ []

@@ -8,7 +8,7 @@ use Rattle.wasm_types.specs.declared.function.FuncType.{FuncType}
 use Rattle.wasm_types.specs.declared.table.GlobalType.{GlobalType}
 use Rattle.wasm_types.specs.Same.{same_type, same_global_type}
 use Rattle.wasm_types.specs.SameLaws.{same_type_is, same_global_type_is}
-use Rattle.name_rules.specs.Entries.{Entry, ImportKey, SymbolType, of_function, of_global, untyped, same_entry, same_import, same_symbol_type}
+use Rattle.name_rules.specs.Entries.{InputSymbol, ImportKey, SymbolType, of_function, of_global, untyped, same_entry, same_import, same_symbol_type}
 use Rattle.mark_bits.specs.declared.chunk.Chunk.{Chunk}
 use Rattle.link_rules.specs.Program.{same_chunk, chunk_at}
 use Rattle.link_rules.specs.Keys.{FunctionKey, GlobalKey, GotKey, outside, linker_function, stub, own, outside_global, linker_global, own_global, got, exported_datum, got_entry, got_import, got_null, same_function, same_global, same_got}
@@ -54,26 +54,26 @@ symbol_type_itself untyped = refl
 
 -- imports
 abbrev import_of : List ℕ → List ℕ → SymbolType → ImportKey
-import_of place field type = record { place = place; field = field; type = type }
+import_of place field type = record { module_name = place; field = field; type = type }
 
 pub import_equal : (a b : ImportKey) → same_import a b ≡ true → a ≡ b
 import_equal a b h =
-    let r = and_parts (bytes_eq a.place b.place && bytes_eq a.field b.field) (same_symbol_type a.type b.type) h in
-    let q = and_parts (bytes_eq a.place b.place) (bytes_eq a.field b.field) r.0 in
-    ap (λ p. import_of p a.field a.type) (bytes_equal a.place b.place q.0)
-    ∙ ap (λ f. import_of b.place f a.type) (bytes_equal a.field b.field q.1)
-    ∙ ap (λ t. import_of b.place b.field t) (symbol_type_equal a.type b.type r.1)
+    let r = and_parts (bytes_eq a.module_name b.module_name && bytes_eq a.field b.field) (same_symbol_type a.type b.type) h in
+    let q = and_parts (bytes_eq a.module_name b.module_name) (bytes_eq a.field b.field) r.0 in
+    ap (λ p. import_of p a.field a.type) (bytes_equal a.module_name b.module_name q.0)
+    ∙ ap (λ f. import_of b.module_name f a.type) (bytes_equal a.field b.field q.1)
+    ∙ ap (λ t. import_of b.module_name b.field t) (symbol_type_equal a.type b.type r.1)
 
 pub import_itself : (a : ImportKey) → same_import a a ≡ true
 import_itself a =
-    both (bytes_eq a.place a.place && bytes_eq a.field a.field) (same_symbol_type a.type a.type)
-    (both (bytes_eq a.place a.place) (bytes_eq a.field a.field) (bytes_itself a.place) (bytes_itself a.field)) (symbol_type_itself a.type)
+    both (bytes_eq a.module_name a.module_name && bytes_eq a.field a.field) (same_symbol_type a.type a.type)
+    (both (bytes_eq a.module_name a.module_name) (bytes_eq a.field a.field) (bytes_itself a.module_name) (bytes_itself a.field)) (symbol_type_itself a.type)
 
 -- entries
-pub entry_itself : (a : Entry) → same_entry a a ≡ true
+pub entry_itself : (a : InputSymbol) → same_entry a a ≡ true
 entry_itself a = both (a.input == a.input) (a.place == a.place) (number_itself a.input) (number_itself a.place)
 
-entry_carries : (a b : Entry) → same_entry a b ≡ true → (z : Entry) → same_entry a z ≡ same_entry b z
+entry_carries : (a b : InputSymbol) → same_entry a b ≡ true → (z : InputSymbol) → same_entry a z ≡ same_entry b z
 entry_carries a b h z =
     let r = and_parts (a.input == b.input) (a.place == b.place) h in
     ap (λ n. (n == z.input) && (a.place == z.place)) (eqb-true a.input b.input r.0)

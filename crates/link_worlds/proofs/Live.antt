@@ -8,7 +8,7 @@ use Rattle.list_places.proofs.Lists.{has_at, placed, stands, pick_has, flat_has,
 use Rattle.wl_base.specs.Choice.{first_some}
 use Rattle.wl_base.specs.declared.fault.Fault.{Fault}
 use Rattle.wl_base.specs.declared.fault.Fault.TheVariants.{Unresolved}
-use Rattle.name_rules.specs.Entries.{Entry, name_of, same_entry}
+use Rattle.name_rules.specs.Entries.{InputSymbol, name_of, same_entry}
 use Rattle.name_rules.specs.Meanings.{nothing, is_nothing}
 use Rattle.mark_bits.specs.declared.chunk.Chunk.{Chunk}
 use Rattle.live_mark.specs.Live.{ReachedLaw, is_among, reached}
@@ -48,7 +48,7 @@ picked_at marked at (y ∷ ys) (suc k) x h t =
     onto false g = g
 
 -- each live part is a part
-pub live_part : (p : Program) (exports : List Entry) (part : Part) → Has (live p exports) part → Has p.parts part
+pub live_part : (p : Program) (exports : List InputSymbol) (part : Part) → Has (live p exports) part → Has p.parts part
 unfolding live
 live_part p exports part h = let r = at_picked (reached (targets p) (root_places p exports)) 0 p.parts part h in has_at p.parts r.0 part r.1
 
@@ -87,7 +87,7 @@ walk_on : (ts : List (List ℕ)) (a : ℕ) (walk : List ℕ) (c d : ℕ) → IsW
 walk_on ts a [] c d w h = (subst (λ x. Among d (slice_index_or ts x [])) (sym w) h, refl)
 walk_on ts a (b ∷ bs) c d w h = (w.0, walk_on ts b bs c d w.1 h)
 
-module _ (law : ReachedLaw) (p : Program) (exports : List Entry) where
+module _ (law : ReachedLaw) (p : Program) (exports : List InputSymbol) where
   -- what a live part refers to is live, where it is there
   pub live_closed : (part : Part) (c : Chunk) → Has (live p exports) part → Has (refers part) c → PartOf p.parts c → PartOf (live p exports) c
   unfolding live
@@ -124,7 +124,7 @@ pub ref_listed : (parts : List Part) (part : Part) (ref : Ref) → Has parts par
 ref_listed parts part ref h r = flat_has refs parts part ref h r
 
 -- where nothing is unresolved, no live part names what means nothing
-find_none : (test : Entry → Bool) (xs : List Entry) (x : Entry) → find test xs ≡ None → Has xs x → test x ≡ true → ⊥
+find_none : (test : InputSymbol → Bool) (xs : List InputSymbol) (x : InputSymbol) → find test xs ≡ None → Has xs x → test x ≡ true → ⊥
 find_none test [] x n h t = h
 find_none test (y ∷ ys) x n (inl e) t = absurd (let k : test y ≡ true = ap test e ∙ t in let f = ap (λ b. cond b (Some y) (find test ys)) (sym k) in grind arith)
 find_none test (y ∷ ys) x n (inr h) t = onto (test y) n (λ m. find_none test ys x m h t)
@@ -133,7 +133,7 @@ find_none test (y ∷ ys) x n (inr h) t = onto (test y) n (λ m. find_none test 
     onto true n rest = absurd (grind arith)
     onto false n rest = rest n
 
-last_none : (a : Option Fault) (f : Entry → Fault) (b : Option Entry) → first_some (a ∷ option_map f b ∷ []) ≡ None → b ≡ None
+last_none : (a : Option Fault) (f : InputSymbol → Fault) (b : Option InputSymbol) → first_some (a ∷ option_map f b ∷ []) ≡ None → b ≡ None
 last_none (Some a) f b h = absurd (grind arith)
 last_none None f None h = refl
 last_none None f (Some b) h = absurd (grind arith)

@@ -7,7 +7,7 @@ use Rattle.list_places.specs.Has.{Has, Same}
 use Rattle.list_places.proofs.Lists.{by_test, has_left, has_right, first_of, second_of, third_of, placed, stands, same_place, pick_has, any_has, has_any, map_has, filter_has}
 use Rattle.wl_base.specs.Choice.{given, distinct, distinct_onto}
 use Rattle.linking_section.specs.declared.symbol.SymbolKind.TheVariants.{Function, GlobalVar}
-use Rattle.name_rules.specs.Entries.{Entry, ImportKey, is_kind, name_of, same_import}
+use Rattle.name_rules.specs.Entries.{InputSymbol, ImportKey, is_kind, name_of, same_import}
 use Rattle.name_rules.specs.Meanings.{Meaning, here, imported, null, nothing}
 use Rattle.mark_bits.specs.declared.chunk.Chunk.{Chunk}
 use Rattle.live_mark.specs.Live.{ReachedLaw}
@@ -65,14 +65,14 @@ module _ {X : Type 0} (same : X → X → Bool) (s : Same same) where
       )
 
 -- the function that a live reference means has a number in both worlds
-module _ (law : ReachedLaw) (p : Program) (exports : List Entry) (sound : Sound p) where
+module _ (law : ReachedLaw) (p : Program) (exports : List InputSymbol) (sound : Sound p) where
   abbrev Here : FunctionKey → Type 0
   Here k = (y : FunctionKey) × Has (functions Plain p (live p exports)) y × (same_function k y ≡ true)
 
   abbrev There : FunctionKey → Type 0
   There k = (y : FunctionKey) × Has (all_functions p) y × (same_function k y ≡ true)
 
-  at_own : (parts : List Part) (e : Entry) → (e.input ≡ 0 → e.index ≡ e.place) → PartOf parts (chunk_at e.input 0 e.index)
+  at_own : (parts : List Part) (e : InputSymbol) → (e.input ≡ 0 → e.index ≡ e.place) → PartOf parts (chunk_at e.input 0 e.index)
       → Has (filter_map made_function_key parts) (function_of e) ⊎ Has (filter_map own_function_key parts) (function_of e)
   at_own parts e made o =
       by_test (e.input == 0)
@@ -85,7 +85,7 @@ module _ (law : ReachedLaw) (p : Program) (exports : List Entry) (sound : Sound 
       ∙ ap (λ b. given (not b && true) (own e.input e.index)) t
       ∙ ap Some (sym (cond-false (e.input == 0) (linker_function e.place) (own e.input e.index) t)))))
 
-  pub own_here : (e : Entry) → (e.input ≡ 0 → e.index ≡ e.place) → PartOf (live p exports) (chunk_at e.input 0 e.index) → Has (functions Plain p (live p exports)) (function_of e)
+  pub own_here : (e : InputSymbol) → (e.input ≡ 0 → e.index ≡ e.place) → PartOf (live p exports) (chunk_at e.input 0 e.index) → Has (functions Plain p (live p exports)) (function_of e)
   unfolding functions
   own_here e made o =
       let parts = live p exports in
@@ -96,7 +96,7 @@ module _ (law : ReachedLaw) (p : Program) (exports : List Entry) (sound : Sound 
       has_right outs (mades ++ stubs ++ owns) (function_of e)
       (⊎_elim (first_of mades stubs owns (function_of e)) (third_of mades stubs owns (function_of e)) (at_own parts e made o))
 
-  own_there : (e : Entry) → (e.input ≡ 0 → e.index ≡ e.place) → PartOf p.parts (chunk_at e.input 0 e.index) → Has (all_functions p) (function_of e)
+  own_there : (e : InputSymbol) → (e.input ≡ 0 → e.index ≡ e.place) → PartOf p.parts (chunk_at e.input 0 e.index) → Has (all_functions p) (function_of e)
   own_there e made o =
       let parts = p.parts in
       let outs = map outside (filter (λ (k : ImportKey). is_function_type k.type) (imports_in_order p)) in
@@ -128,12 +128,12 @@ module _ (law : ReachedLaw) (p : Program) (exports : List Entry) (sound : Sound 
     used k m = any_has (same_import k) (used_imports (filter (imports_by Plain) (refs_of (live p exports)))) k
         (pick_has (λ (x : Ref). import_of x.meaning) (filter (imports_by Plain) (refs_of (live p exports))) ref k (filter_has (imports_by Plain) (refs_of (live p exports)) ref in_refs refl) (ap import_of m)) (import_itself k)
 
-    target : (e : Entry) (c : Chunk) → ref.meaning ≡ here e → chunk_of e ≡ Some c → PartOf p.parts c → PartOf (live p exports) c
+    target : (e : InputSymbol) (c : Chunk) → ref.meaning ≡ here e → chunk_of e ≡ Some c → PartOf p.parts c → PartOf (live p exports) c
     target e c m ec o = live_closed law p exports part c h (pick_has (λ (x : Ref). meant_chunk x.meaning) (refs part) ref c r (ap meant_chunk m ∙ ec)) o
 
     -- functions
     module _ (zero' : ref.kind ≡ 0) where
-      by_here : (e : Entry) → ref.meaning ≡ here e → SoundHere p ref e → Here (function_of e) × There (function_of e)
+      by_here : (e : InputSymbol) → ref.meaning ≡ here e → SoundHere p ref e → Here (function_of e) × There (function_of e)
       by_here e m s =
           let c : chunk_of e ≡ Some (chunk_at e.input 0 e.index) = ap (chunk_by e) (s.function zero') in
           let o = s.kept (chunk_at e.input 0 e.index) c in
@@ -160,7 +160,7 @@ module _ (law : ReachedLaw) (p : Program) (exports : List Entry) (sound : Sound 
       by_null m s =
           let parts = live p exports in
           let n = name_of ref.entry in
-          let test = λ (e : Entry). list_any (calls_stub (name_of e)) (refs_of parts) in
+          let test = λ (e : InputSymbol). list_any (calls_stub (name_of e)) (refs_of parts) in
           let t0 : (ref.kind == 0) ≡ true = eq-eqb ref.kind 0 zero' in
           let t1 : is_null ref.meaning ≡ true = ap is_null m in
           let t2 : bytes_eq n (name_of s.entry) ≡ true = ap (bytes_eq n) s.name ∙ bytes_same.itself n in
@@ -205,7 +205,7 @@ module _ (law : ReachedLaw) (p : Program) (exports : List Entry) (sound : Sound 
         abbrev CellThere : GlobalKey → Type 0
         CellThere k = (y : GlobalKey) × Has (all_cells p) y × (same_global k y ≡ true)
 
-        cell_own : (parts : List Part) (e : Entry) → (e.input ≡ 0 → e.index ≡ e.place) → PartOf parts (chunk_at e.input 2 e.index)
+        cell_own : (parts : List Part) (e : InputSymbol) → (e.input ≡ 0 → e.index ≡ e.place) → PartOf parts (chunk_at e.input 2 e.index)
             → Has (filter_map made_global_key parts) (global_of Plain e) ⊎ Has (filter_map own_global_key parts) (global_of Plain e)
         cell_own parts e made o =
             by_test (e.input == 0)
@@ -221,7 +221,7 @@ module _ (law : ReachedLaw) (p : Program) (exports : List Entry) (sound : Sound 
         cell_itself : (k : GlobalKey) (ks : List GlobalKey) → Has ks k → (y : GlobalKey) × Has ks y × (same_global k y ≡ true)
         cell_itself k ks h = (k, h, globals_same.itself k)
 
-        cell_here : (e : Entry) → ref.meaning ≡ here e → SoundHere p ref e → CellHere (global_of Plain e) × CellThere (global_of Plain e)
+        cell_here : (e : InputSymbol) → ref.meaning ≡ here e → SoundHere p ref e → CellHere (global_of Plain e) × CellThere (global_of Plain e)
         unfolding globals
         cell_here e m s =
             let parts = live p exports in

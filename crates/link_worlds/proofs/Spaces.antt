@@ -15,7 +15,7 @@ use Rattle.run_rules.specs.Ops.{op_of}
 use Rattle.run_rules.specs.Modules.{imported_function, imported_functions, defined_functions, typed, coded}
 use Rattle.linking_section.specs.declared.symbol.SymbolKind.TheVariants.{Datum}
 use Rattle.made_symbols.specs.declared.mode.Mode.TheVariants.{Plain}
-use Rattle.name_rules.specs.Entries.{Entry, is_kind, ImportKey, SymbolType, of_function, of_global, untyped}
+use Rattle.name_rules.specs.Entries.{InputSymbol, is_kind, ImportKey, SymbolType, of_function, of_global, untyped}
 use Rattle.link_rules.specs.Program.{Program, Part}
 use Rattle.link_rules.specs.Marks.{live, refs_of}
 use Rattle.link_rules.specs.Keys.{FunctionKey, GlobalKey, outside, linker_function, stub, own, outside_global, linker_global, own_global, got, exported_datum, functions, defined_functions as keys_defined, function_imports_of, made_function_key, own_function_key, stub_names, type_of, type_place, types, window_types, globals, used_globals, made_global_key, own_global_key, got_entries, datum_key, is_function_type, is_global_type, has_import, used_imports, imports_by, imports_in_order, function_type_of}
@@ -27,7 +27,7 @@ use Rattle.link_worlds.specs.Sound.{Sound}
 use Rattle.link_worlds.proofs.Functions.{stood, type_found, mod_function}
 use Rattle.link_worlds.proofs.Imports.{picked_imports}
 
-module _ (p : Program) (exports : List Entry) (sound : Sound p) where
+module _ (p : Program) (exports : List InputSymbol) (sound : Sound p) where
   abbrev parts : List Part
   parts = live p exports
 
@@ -135,8 +135,8 @@ module _ (p : Program) (exports : List Entry) (sound : Sound p) where
 
     -- imports of functions, in their order
     import_one : (place field : List ℕ) (t : SymbolType) → is_function_type t ≡ true → slice_get T (type_place lay.numbers (function_type_of t)) ≡ Some (function_type_of t)
-        → imported_function T (import_for Plain p parts exports lay (record { place = place; field = field; type = t })) (import_for Plain p parts exports lay (record { place = place; field = field; type = t })).kind
-        ≡ Some (F (outside (record { place = place; field = field; type = t })))
+        → imported_function T (import_for Plain p parts exports lay (record { module_name = place; field = field; type = t })) (import_for Plain p parts exports lay (record { module_name = place; field = field; type = t })).kind
+        ≡ Some (F (outside (record { module_name = place; field = field; type = t })))
     import_one place field (of_function t) h e = ap (λ o. Some (typed (Host place field) o)) e
     import_one place field (of_global g) h e = absurd (grind arith)
     import_one place field untyped h e = absurd (grind arith)
@@ -155,7 +155,7 @@ module _ (p : Program) (exports : List Entry) (sound : Sound p) where
 
     -- imports of globals are none of functions
     not_one : (place field : List ℕ) (t : SymbolType) → is_global_type t ≡ true
-        → imported_function T (import_for Plain p parts exports lay (record { place = place; field = field; type = t })) (import_for Plain p parts exports lay (record { place = place; field = field; type = t })).kind ≡ None
+        → imported_function T (import_for Plain p parts exports lay (record { module_name = place; field = field; type = t })) (import_for Plain p parts exports lay (record { module_name = place; field = field; type = t })).kind ≡ None
     not_one place field (of_function t) h = absurd (grind arith)
     not_one place field (of_global g) h = refl
     not_one place field untyped h = absurd (grind arith)
@@ -163,7 +163,7 @@ module _ (p : Program) (exports : List Entry) (sound : Sound p) where
     globals_none : (gs : List GlobalKey) → ((k : GlobalKey) → Has gs k → GlobalTyped k) → filter_map (λ (x : Import). imported_function T x x.kind) (filter_map (global_import Plain p parts exports lay) gs) ≡ []
     globals_none [] f = refl
     globals_none (outside_global k ∷ gs) f =
-        ap (λ o. cons_option o (filter_map (λ (x : Import). imported_function T x x.kind) (filter_map (global_import Plain p parts exports lay) gs))) (not_one k.place k.field k.type (f (outside_global k) (inl refl)))
+        ap (λ o. cons_option o (filter_map (λ (x : Import). imported_function T x x.kind) (filter_map (global_import Plain p parts exports lay) gs))) (not_one k.module_name k.field k.type (f (outside_global k) (inl refl)))
         ∙ globals_none gs (λ j h. f j (inr h))
     globals_none (linker_global k ∷ gs) f = globals_none gs (λ j h. f j (inr h))
     globals_none (own_global i k ∷ gs) f = globals_none gs (λ j h. f j (inr h))
@@ -192,7 +192,7 @@ module _ (p : Program) (exports : List Entry) (sound : Sound p) where
         ∙ ap (λ xs. A ++ xs) (globals_none gs global_typed)
         ∙ append-nil A
         ∙ imports_are ks ds
-        (λ k h. import_one k.place k.field k.type (stood parts p (outside k) (has_left (map outside ks) ds (outside k) (map_has outside ks k h))) (key_typed (outside k) (has_left (map outside ks) ds (outside k) (map_has outside ks k h))))
+        (λ k h. import_one k.module_name k.field k.type (stood parts p (outside k) (has_left (map outside ks) ds (outside k) (map_has outside ks k h))) (key_typed (outside k) (has_left (map outside ks) ds (outside k) (map_has outside ks k h))))
         outer_defined in
         let defined_eq : defined_functions (op_of T cell) T (map tp defined_list) (map (linked_source p lay parts) defined_list) ≡ map F ds =
         ap (λ xs. defined_functions (op_of T cell) T (map tp xs) (map (linked_source p lay parts) xs)) (kept_defined ks ds outer_defined)

@@ -18,7 +18,7 @@ use Rattle.run_rules.specs.Modules.{first_value, first_values, expr_value}
 use Rattle.sim_laws.specs.Pairs.{CellsPair}
 use Rattle.linking_section.specs.declared.symbol.SymbolKind.TheVariants.{Datum}
 use Rattle.made_symbols.specs.declared.mode.Mode.TheVariants.{Plain}
-use Rattle.name_rules.specs.Entries.{Entry, ImportKey, SymbolType, of_function, of_global, untyped, is_kind}
+use Rattle.name_rules.specs.Entries.{InputSymbol, ImportKey, SymbolType, of_function, of_global, untyped, is_kind}
 use Rattle.reloc_apply.specs.Windows.{signed32}
 use Rattle.link_rules.specs.Program.{Program, Part, Content, function, segment, global, linker_made, same_chunk}
 use Rattle.link_rules.specs.Marks.{live, refs_of}
@@ -69,7 +69,7 @@ given_own : (parts : List Part) (t : Bool) (x k : GlobalKey) → given t x ≡ S
 given_own parts true x k h p = subst (IfOwn parts) (grind arith) (p refl)
 given_own parts false x k h p = absurd (grind arith)
 
-pub own_among : (p : Program) (parts : List Part) (exports : List Entry) (k : GlobalKey) → Has (globals Plain p parts exports) k → IfOwn parts k
+pub own_among : (p : Program) (parts : List Part) (exports : List InputSymbol) (k : GlobalKey) → Has (globals Plain p parts exports) k → IfOwn parts k
 unfolding globals
 own_among p parts exports k h =
     let P = IfOwn parts in
@@ -111,7 +111,7 @@ unsigned_again n h = onto (nat_lt n (2 ^ 31)) refl
     onto true e = refl
     onto false e = omega arith
 
-module _ (s : Session) (p : Program) (exports : List Entry) (sound : Sound p) (l : Layout) where
+module _ (s : Session) (p : Program) (exports : List InputSymbol) (sound : Sound p) (l : Layout) where
   abbrev parts : List Part
   parts = live p exports
 
@@ -143,7 +143,7 @@ module _ (s : Session) (p : Program) (exports : List Entry) (sound : Sound p) (l
       as_value None = None
       as_value (Some n) = Some (values.I32 n)
 
-module _ (s : Session) (p : Program) (exports : List Entry) (sound : Sound p) where
+module _ (s : Session) (p : Program) (exports : List InputSymbol) (sound : Sound p) where
   abbrev parts' : List Part
   parts' = live p exports
 
@@ -234,10 +234,10 @@ module _ (s : Session) (p : Program) (exports : List Entry) (sound : Sound p) wh
     imports_first [] (own_global i x ∷ ds) g = imports_first [] ds (λ k h. g k (inr h))
     imports_first [] (got k ∷ ds) g = imports_first [] ds (λ k h. g k (inr h))
     imports_first [] (exported_datum e ∷ ds) g = imports_first [] ds (λ k h. g k (inr h))
-    imports_first (k ∷ ks) ds g = ap (λ v. v ∷ map Some (first_values s (filter_map (imported_key p parts' exports lay) (map outside_global ks ++ ds)))) (one k.type k.place k.field)
+    imports_first (k ∷ ks) ds g = ap (λ v. v ∷ map Some (first_values s (filter_map (imported_key p parts' exports lay) (map outside_global ks ++ ds)))) (one k.type k.module_name k.field)
         ∙ ap (λ vs. cell_value s parts' lay (outside_global k) ∷ vs) (imports_first ks ds g)
       where
-        one : (t : SymbolType) (place field : List ℕ) → Some (first_value s place field (cell_import p parts' exports lay (record { place = place; field = field; type = t })).kind.kind) ≡ Some (first_value s place field (global_kind t))
+        one : (t : SymbolType) (place field : List ℕ) → Some (first_value s place field (cell_import p parts' exports lay (record { module_name = place; field = field; type = t })).kind.kind) ≡ Some (first_value s place field (global_kind t))
         one (of_function t) place field = refl
         one (of_global t) place field = refl
         one untyped place field = refl

@@ -13,7 +13,7 @@ use Rattle.run_rules.specs.Modules.{first, imported_tables, with_elements, table
 use Rattle.sim_laws.specs.Pairs.{Calls, Both, Each}
 use Rattle.linking_section.specs.declared.symbol.SymbolKind.TheVariants.{Function}
 use Rattle.made_symbols.specs.declared.mode.Mode.TheVariants.{Plain}
-use Rattle.name_rules.specs.Entries.{Entry, ImportKey, is_kind, name_of}
+use Rattle.name_rules.specs.Entries.{InputSymbol, ImportKey, is_kind, name_of}
 use Rattle.name_rules.specs.Meanings.{Meaning, here, imported, null, nothing}
 use Rattle.link_rules.specs.Program.{Program, Part, Ref, refs}
 use Rattle.link_rules.specs.Marks.{live, refs_of}
@@ -28,7 +28,7 @@ use Rattle.link_worlds.proofs.Live.{live_part, ref_listed}
 use Rattle.link_worlds.proofs.Refs.{distinct_has, number_pairs, bytes_same}
 use Rattle.link_worlds.proofs.Imports.{tables_none}
 
-module _ (p : Program) (exports : List Entry) (sound : Sound p) where
+module _ (p : Program) (exports : List InputSymbol) (sound : Sound p) where
   abbrev parts : List Part
   parts = live p exports
 
@@ -50,7 +50,7 @@ module _ (p : Program) (exports : List Entry) (sound : Sound p) where
 
   stub_there : (name : List ℕ) → Has (stub_names p (refs_of parts)) name → There (stub name)
   stub_there name h =
-      let test = λ (e : Entry). list_any (calls_stub (name_of e)) (refs_of parts) in
+      let test = λ (e : InputSymbol). list_any (calls_stub (name_of e)) (refs_of parts) in
       let a : Has (map name_of (filter test p.entries)) name = ⊎_elim (λ n. absurd n) (λ m. m) (distinct_only bytes_eq [] (map name_of (filter test p.entries)) name h) in
       let r = has_map name_of (filter test p.entries) name a in
       let f = has_filter test p.entries r.0 r.1 in
@@ -145,7 +145,7 @@ module _ (number : FunctionKey → ℕ) (firsts : List Value) where
       ∙ nulls n (map Some (map number (k ∷ ks)))
 
 -- the tables pair, entry by entry
-module _ (p : Program) (exports : List Entry) (sound : Sound p) (firsts : List Value) where
+module _ (p : Program) (exports : List InputSymbol) (sound : Sound p) (firsts : List Value) where
   pub table_pairs : Both (Each (Both (Calls (renaming p (layout Plain p (live p exports) exports))))) (Some (plan_table p (layout Plain p (live p exports) exports)))
       (table_of firsts (elements Plain p (live p exports) exports (layout Plain p (live p exports) exports))
       (first (imported_tables (imports Plain p (live p exports) exports (layout Plain p (live p exports) exports)) ++ table Plain p (live p exports) exports (layout Plain p (live p exports) exports) ∷ [])))

@@ -17,7 +17,7 @@ use Rattle.sim_laws.specs.Pairs.{Calls, Both, FunctionPairs, WorldPairs, Alike, 
 use Rattle.sim_laws.proofs.Together.{lockstep_law}
 use Rattle.linking_section.specs.declared.symbol.SymbolKind.TheVariants.{Datum}
 use Rattle.made_symbols.specs.declared.mode.Mode.TheVariants.{Plain}
-use Rattle.name_rules.specs.Entries.{Entry, ImportKey, SymbolType, of_function, of_global, untyped, same_import, same_symbol_type, is_kind}
+use Rattle.name_rules.specs.Entries.{InputSymbol, ImportKey, SymbolType, of_function, of_global, untyped, same_import, same_symbol_type, is_kind}
 use Rattle.live_mark.specs.Live.{ReachedLaw}
 use Rattle.reloc_apply.specs.declared.window.Form.TheVariants.{Unsigned5}
 use Rattle.reloc_apply.specs.Windows.{signed32, patch_of}
@@ -46,7 +46,7 @@ use Rattle.link_worlds.proofs.Exports.{exports_pair}
 use Rattle.link_worlds.proofs.Memory.{start_memory}
 use Rattle.link_worlds.proofs.Start.{cells_pair, inner, defined_are, outer_none, imports_first, unsigned_again}
 
-module _ (p : Program) (exports : List Entry) (sound : Sound p) where
+module _ (p : Program) (exports : List InputSymbol) (sound : Sound p) where
   abbrev parts : List Part
   parts = live p exports
 
@@ -101,8 +101,8 @@ module _ (p : Program) (exports : List Entry) (sound : Sound p) where
     (λ y h e.
         let r = has_map (cell_import p parts exports lay) js y h in
         let e' : same_cell (cell_import p parts exports lay j) (cell_import p parts exports lay r.0) ≡ true = ap (same_cell (cell_import p parts exports lay j)) r.2 ∙ e in
-        let q = and_parts (bytes_eq j.place r.0.place && bytes_eq j.field r.0.field) (same_global_type (global_type_of p parts exports lay j.type) (global_type_of p parts exports lay r.0.type)) e' in
-        a.0 r.0 r.1 (and_from (bytes_eq j.place r.0.place && bytes_eq j.field r.0.field) (same_symbol_type j.type r.0.type) q.0 (same_types j.type r.0.type (t j (inl refl)) (t r.0 (inr r.1)) q.1))),
+        let q = and_parts (bytes_eq j.module_name r.0.module_name && bytes_eq j.field r.0.field) (same_global_type (global_type_of p parts exports lay j.type) (global_type_of p parts exports lay r.0.type)) e' in
+        a.0 r.0 r.1 (and_from (bytes_eq j.module_name r.0.module_name && bytes_eq j.field r.0.field) (same_symbol_type j.type r.0.type) q.0 (same_types j.type r.0.type (t j (inl refl)) (t r.0 (inr r.1)) q.1))),
     keys_apart js a.1 (λ k h. t k (inr h)),
   )
 
@@ -135,7 +135,7 @@ module _ (p : Program) (exports : List Entry) (sound : Sound p) where
 
 -- ---- the worlds
 
-module _ (law : ReachedLaw) (s : Session) (p : Program) (exports : List Entry) (lk : LinkedBy p exports (layout_of p exports)) where
+module _ (law : ReachedLaw) (s : Session) (p : Program) (exports : List InputSymbol) (lk : LinkedBy p exports (layout_of p exports)) where
   abbrev parts' : List Part
   parts' = live p exports
 

@@ -112,7 +112,7 @@ module _ (p : Program) (l : Layout) where
 
   -- A function of the program, by its key.
   abbrev pub plan_source : List Part → FunctionKey → Source
-  plan_source parts (outside k) = Host k.place k.field
+  plan_source parts (outside k) = Host k.module_name k.field
   plan_source parts (linker_function k) = plan_calls (find (is_function_at 0 k) parts)
   plan_source parts (stub name) = Code [] (Own (instrs.Plain 0x00) ∷ Own (instrs.Plain 0x0B) ∷ [])
   plan_source parts (own input index) = plan_part (find (is_function_at input index) parts)

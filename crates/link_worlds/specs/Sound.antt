@@ -15,7 +15,7 @@ use Rattle.wasm_instr.specs.declared.body.Body.{Body}
 use Rattle.wasm_instr.specs.Bodies.{body_at}
 use Rattle.linking_section.specs.declared.symbol.SymbolKind.TheVariants.{Function, GlobalVar}
 use Rattle.made_symbols.specs.declared.mode.Mode.TheVariants.{Plain}
-use Rattle.name_rules.specs.Entries.{Entry, ImportKey, is_kind, name_of, same_entry}
+use Rattle.name_rules.specs.Entries.{InputSymbol, ImportKey, is_kind, name_of, same_entry}
 use Rattle.name_rules.specs.Meanings.{Meaning, here, imported, null, nothing}
 use Rattle.mark_bits.specs.declared.chunk.Chunk.{Chunk}
 use Rattle.reloc_apply.specs.Windows.{fits}
@@ -35,7 +35,7 @@ pub record PartOf (parts : List Part) (c : Chunk) : Type 0 where
   pub chunk : part.chunk ≡ c
 
 -- a definition
-pub record SoundHere (p : Program) (ref : Ref) (e : Entry) : Type 0 where
+pub record SoundHere (p : Program) (ref : Ref) (e : InputSymbol) : Type 0 where
   pub made : e.input ≡ 0 → e.index ≡ e.place
   pub function : ref.kind ≡ 0 → e.symbol.kind ≡ Function
   pub global : ref.kind ≡ 7 → is_kind GlobalVar ref.entry ≡ true → e.symbol.kind ≡ GlobalVar
@@ -47,7 +47,7 @@ pub record SoundImport (p : Program) (ref : Ref) (k : ImportKey) : Type 0 where
   pub global : ref.kind ≡ 7 → is_kind GlobalVar ref.entry ≡ true → is_global_type k.type ≡ true
 
 pub record SoundNull (p : Program) (ref : Ref) : Type 0 where
-  pub entry : Entry
+  pub entry : InputSymbol
   pub listed : Has p.entries entry
   pub name : name_of entry ≡ name_of ref.entry
   pub function : ref.kind ≡ 0 → is_kind Function ref.entry ≡ true
@@ -65,13 +65,13 @@ pub record SoundRef (p : Program) (part : Part) (ref : Ref) : Type 0 where
   pub meant : SoundMeaning p ref ref.meaning
 
 -- the entries that references mean
-abbrev pub meant_entry : Meaning → Option Entry
+abbrev pub meant_entry : Meaning → Option InputSymbol
 meant_entry (here e) = Some e
 meant_entry (imported k) = None
 meant_entry null = None
 meant_entry nothing = None
 
-abbrev pub meant_entries : Program → List Entry
+abbrev pub meant_entries : Program → List InputSymbol
 meant_entries p = filter_map (λ (ref : Ref). meant_entry ref.meaning) (refs_of p.parts)
 
 abbrev pub same_part : Part → Part → Bool
@@ -80,17 +80,17 @@ same_part a b = same_chunk a.chunk b.chunk
 pub record Sound (p : Program) : Type 0 where
   pub apart : Apart same_part p.parts
   -- an entry is known by its input and place
-  pub one : (e f : Entry) → Has (meant_entries p) e → Has (meant_entries p) f → same_entry e f ≡ true → e ≡ f
+  pub one : (e f : InputSymbol) → Has (meant_entries p) e → Has (meant_entries p) f → same_entry e f ≡ true → e ≡ f
   pub refs : (part : Part) (ref : Ref) → Has p.parts part → Has (refs part) ref → SoundRef p part ref
 
 -- the same of exported winners
-pub record SoundExport (p : Program) (e : Entry) : Type 0 where
+pub record SoundExport (p : Program) (e : InputSymbol) : Type 0 where
   pub made : e.input ≡ 0 → e.index ≡ e.place
   pub kept : (c : Chunk) → chunk_of e ≡ Some c → PartOf p.parts c
 
-pub record SoundExports (p : Program) (exports : List Entry) : Type 0 where
-  pub each : (e : Entry) → Has exports e → SoundExport p e
-  pub one : (e f : Entry) → Has exports e → Has exports f → same_entry e f ≡ true → e ≡ f
+pub record SoundExports (p : Program) (exports : List InputSymbol) : Type 0 where
+  pub each : (e : InputSymbol) → Has exports e → SoundExport p e
+  pub one : (e f : InputSymbol) → Has exports e → Has exports f → same_entry e f ≡ true → e ≡ f
 
 -- ---- bodies
 

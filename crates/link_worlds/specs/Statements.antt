@@ -2,7 +2,7 @@
 use Rattle.std.specs.Prelude.{◌≡◌, ℕ, ◌<◌, ◌^◌, ◌*◌, List, ◌++◌, map, None}
 use Rattle.list_places.specs.Has.{Has}
 use Rattle.image_emit.specs.Stored.{Rise, first_address}
-use Rattle.name_rules.specs.Entries.{Entry}
+use Rattle.name_rules.specs.Entries.{InputSymbol}
 use Rattle.run_rules.specs.declared.session.Session.{Session}
 use Rattle.run_rules.specs.Modules.{module_world, module_start, module_trace}
 use Rattle.sim_laws.specs.Pairs.{WorldPairs, Alike}
@@ -15,7 +15,7 @@ use Rattle.link_worlds.specs.Worlds.{layout_of, world_by, start_by, plan_trace, 
 use Rattle.link_worlds.specs.Sound.{Sound, SoundExports, IsShaped, IsGlobalPart, InRange, IsSmall, AllZero}
 
 -- What an accepted link makes sure of, under a layout.
-pub record LinkedBy (p : Program) (exports : List Entry) (l : Layout) : Type 0 where
+pub record LinkedBy (p : Program) (exports : List InputSymbol) (l : Layout) : Type 0 where
   pub sound : Sound p
   pub exported : SoundExports p exports
   -- the code of each live function of an object is a body, its references at instructions that take them
@@ -31,22 +31,22 @@ pub record LinkedBy (p : Program) (exports : List Entry) (l : Layout) : Type 0 w
   pub small : (k : GlobalKey) → Has l.numbers.globals k → IsSmall l k
 
 -- What is asked of a session: the memory holds all segments.
-pub record Holds (s : Session) (p : Program) (exports : List Entry) (l : Layout) : Type 0 where
+pub record Holds (s : Session) (p : Program) (exports : List InputSymbol) (l : Layout) : Type 0 where
   pub rises : Rise 0 (65536 * pages_at_first s p l) (map (segment_block p l) (solid_segments p (live p exports)) ++ map (segment_block p l) (zero_segments p (live p exports)))
   pub low : first_address (map (segment_block p l) (solid_segments p (live p exports))) < 2 ^ 32
   pub zeros : AllZero (map (segment_block p l) (zero_segments p (live p exports)))
 
 -- The output's module is the program before it is linked, renamed.
 abbrev pub WorldsPair : Type 0
-WorldsPair = (s : Session) (p : Program) (exports : List Entry) → LinkedBy p exports (layout_of p exports)
+WorldsPair = (s : Session) (p : Program) (exports : List InputSymbol) → LinkedBy p exports (layout_of p exports)
     → WorldPairs (renaming p (layout_of p exports)) (world_by p (layout_of p exports) exports) (module_world s (linked_module p exports))
 
 -- They begin alike.
 abbrev pub StartsPair : Type 0
-StartsPair = (s : Session) (p : Program) (exports : List Entry) → LinkedBy p exports (layout_of p exports) → Holds s p exports (layout_of p exports)
+StartsPair = (s : Session) (p : Program) (exports : List InputSymbol) → LinkedBy p exports (layout_of p exports) → Holds s p exports (layout_of p exports)
     → Alike (renaming p (layout_of p exports)) (start_by s p (layout_of p exports) (live p exports)) (module_start s (linked_module p exports))
 
 -- So each session has one trace.
 abbrev pub RunsAgree : Type 0
-RunsAgree = (s : Session) (p : Program) (exports : List Entry) (n : ℕ) → LinkedBy p exports (layout_of p exports) → Holds s p exports (layout_of p exports)
+RunsAgree = (s : Session) (p : Program) (exports : List InputSymbol) (n : ℕ) → LinkedBy p exports (layout_of p exports) → Holds s p exports (layout_of p exports)
     → plan_trace s p exports n ≡ module_trace s (linked_module p exports) n

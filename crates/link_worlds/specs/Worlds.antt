@@ -8,7 +8,7 @@ use Rattle.wasm_module.specs.declared.structure.Module.{Module}
 use Rattle.linking_section.specs.declared.symbol.SymbolKind.{SymbolKind}
 use Rattle.linking_section.specs.declared.symbol.SymbolKind.TheVariants.{Function, Datum, GlobalVar, Section, Table}
 use Rattle.made_symbols.specs.declared.mode.Mode.TheVariants.{Plain}
-use Rattle.name_rules.specs.Entries.{Entry, SymbolType, of_function, of_global, untyped}
+use Rattle.name_rules.specs.Entries.{InputSymbol, SymbolType, of_function, of_global, untyped}
 use Rattle.reloc_apply.specs.Windows.{filled, patch_of}
 use Rattle.image_emit.specs.Bytes.{Tree, Block, tree_of}
 use Rattle.image_emit.specs.Filled.{tree_filled}
@@ -49,22 +49,22 @@ target_by f None = Elsewhere
 target_by f (Some n) = f n
 
 -- An exported datum is a number, its address.
-abbrev pub plan_target : Program → Layout → Entry → SymbolKind → Target
+abbrev pub plan_target : Program → Layout → InputSymbol → SymbolKind → Target
 plan_target p l e Function = target_by ToFunction (function_place p (function_of e))
 plan_target p l e Datum = ToNumber (address_of Plain l e)
 plan_target p l e GlobalVar = target_by ToCell (cell_place p (global_of Plain e))
 plan_target p l e Section = Elsewhere
 plan_target p l e Table = Elsewhere
 
-abbrev pub plan_export : Program → Layout → Entry → Exported
+abbrev pub plan_export : Program → Layout → InputSymbol → Exported
 plan_export p l e = record { name = export_name p e; target = plan_target p l e e.symbol.kind }
 
-abbrev pub plan_exports : Program → Layout → List Entry → List Exported
+abbrev pub plan_exports : Program → Layout → List InputSymbol → List Exported
 plan_exports p l exports =
     (if p.plan.import_memory then [] else record { name = memory_name; target = Elsewhere } ∷ [])
     ++ map (plan_export p l) exports
 
-unfoldable pub world_by : Program → Layout → List Entry → World
+unfoldable pub world_by : Program → Layout → List InputSymbol → World
 world_by p l exports = record {
   functions = map (plan_function p l) (all_functions p);
   table = Some (plan_table p l);
@@ -92,7 +92,7 @@ part_value (Some part) = content_value part.content
 -- The first value of a cell: what the session gives an import, what an object's global is written with, or what the linker's
 -- own has by the layout.
 abbrev pub cell_value : Session → List Part → Layout → GlobalKey → Option Value
-cell_value s parts l (outside_global k) = Some (first_value s k.place k.field (global_kind k.type))
+cell_value s parts l (outside_global k) = Some (first_value s k.module_name k.field (global_kind k.type))
 cell_value s parts l (linker_global n) = Some (values.I32 (made_global_value l n))
 cell_value s parts l (own_global input index) = part_value (find (λ part. (part.chunk.kind == 2) && (part.chunk.input == input) && (part.chunk.index == index)) parts)
 cell_value s parts l (got k) = Some (values.I32 (got_value Plain l k))
@@ -120,30 +120,30 @@ start_by s p l parts = at_first (map (cell_value s p.parts l) (all_cells p)) (pl
 
 -- ---- the trace of plan and files, under the layout of the link
 
-abbrev pub layout_of : Program → List Entry → Layout
+abbrev pub layout_of : Program → List InputSymbol → Layout
 layout_of p exports = layout Plain p (live p exports) exports
 
-unfoldable pub plan_world : Program → List Entry → World
+unfoldable pub plan_world : Program → List InputSymbol → World
 plan_world p exports = world_by p (layout_of p exports) exports
 
-unfoldable pub plan_start : Session → Program → List Entry → State
+unfoldable pub plan_start : Session → Program → List InputSymbol → State
 plan_start s p exports = start_by s p (layout_of p exports) (live p exports)
 
-unfoldable pub plan_trace : Session → Program → List Entry → ℕ → Trace
+unfoldable pub plan_trace : Session → Program → List InputSymbol → ℕ → Trace
 plan_trace s p exports n = trace_of (plan_world p exports) s (plan_start s p exports) n
 
 -- ---- the output as a module
 
-abbrev pub linked_bodies : Program → List Part → List Entry → Layout → List Body
+abbrev pub linked_bodies : Program → List Part → List InputSymbol → Layout → List Body
 linked_bodies p parts exports l = map (linked_source p l parts) (filter (λ f. not (is_import Plain p parts exports l f)) l.numbers.functions)
 
 -- The output's tree, each window written.
-abbrev pub linked_tree : Program → List Part → List Entry → Layout → Tree
+abbrev pub linked_tree : Program → List Part → List InputSymbol → Layout → Tree
 linked_tree p parts exports l = tree_filled (map (map patch_of) (source_windows Plain p parts exports l)) (tree_of p.files (image Plain p parts exports l))
 
-unfoldable pub module_by : Program → List Part → List Entry → Layout → Module
+unfoldable pub module_by : Program → List Part → List InputSymbol → Layout → Module
 module_by p parts exports l = module_with (linked_bodies p parts exports l) (linked_tree p parts exports l)
 
 -- The output, with its bodies as instructions.
-abbrev pub linked_module : Program → List Entry → Module
+abbrev pub linked_module : Program → List InputSymbol → Module
 linked_module p exports = module_by p (live p exports) exports (layout_of p exports)

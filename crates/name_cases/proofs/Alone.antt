@@ -6,7 +6,7 @@ use Rattle.std.proofs.lemmas.Slice.Eq.{bytes_eq-Decides}
 use Rattle.name_entries.specs.wasm_types.Same.{same_val, same_bool}
 use Rattle.name_entries.specs.wasm_types.Types.{val_byte}
 use Rattle.name_entries.specs.wasm_types.declared.value.ValType.{ValType}
-use Rattle.name_entries.specs.name_rules.Entries.{Entry, ImportKey, SymbolType, of_function, of_global, untyped, is_kind, same_symbol_type}
+use Rattle.name_entries.specs.name_rules.Entries.{InputSymbol, ImportKey, SymbolType, of_function, of_global, untyped, is_kind, same_symbol_type}
 use Rattle.name_entries.specs.name_rules.Cases.{differ, explicit_import}
 use Rattle.name_cases.specs.declared.question.Question.{Question}
 use Rattle.name_cases.specs.declared.question.Question.TheVariants.{Clashes, Duplicates}
@@ -32,11 +32,11 @@ same_bytes xs = (bytes_eq-Decides xs xs).1 refl
 
 same_key : (k : Option ImportKey) → differ k k ≡ false
 same_key None = refl
-same_key (Some k) = rw (same_bytes k.place, same_bytes k.field) refl
+same_key (Some k) = rw (same_bytes k.module_name, same_bytes k.field) refl
 
-kind_of : (e : Entry) → is_kind e.symbol.kind e ≡ true
+kind_of : (e : InputSymbol) → is_kind e.symbol.kind e ≡ true
 kind_of e = eq-eqb _ _ refl
 
-pub stands_alone : (q : Question) (e : Entry) → contradicts q e e ≡ false
+pub stands_alone : (q : Question) (e : InputSymbol) → contradicts q e e ≡ false
 stands_alone Clashes e = rw (kind_of e, same_type_of e.type) (same_key (explicit_import e))
 stands_alone Duplicates e = rw (eq-eqb e.input e.input refl, eq-eqb e.place e.place refl) refl

@@ -5,7 +5,7 @@ use Rattle.std.proofs.lemmas.Bool.Decides.{nat_tests}
 use Rattle.name_entries.specs.wl_base.Choice.{first_some, given}
 use Rattle.name_entries.specs.wl_base.Names.{number_of}
 use Rattle.name_entries.specs.name_rules.declared.case.PairCase.{PairCase}
-use Rattle.name_entries.specs.name_rules.Entries.{Entry, name_of, is_entry}
+use Rattle.name_entries.specs.name_rules.Entries.{InputSymbol, name_of, is_entry}
 use Rattle.name_entries.specs.View.{entry_number}
 use Rattle.name_cases.specs.declared.question.Question.{Question}
 use Rattle.name_cases.specs.declared.rows.Spot.{Spot}
@@ -39,12 +39,12 @@ counted_is : (b : Bool) (n : Option ℕ) (k : ℕ) → cond b n None ≡ Some k 
 counted_is true n k h = h
 counted_is false n k h = cc
 
-module _ (q : Question) (names : List (List ℕ)) (rows : List (List Entry)) (all : List Entry) (column : List (Option Spot)) where
+module _ (q : Question) (names : List (List ℕ)) (rows : List (List InputSymbol)) (all : List InputSymbol) (column : List (Option Spot)) where
   spot_case_is : AreFirsts q names rows all column → (s : Spot) → spot_case q names rows column s ≡ option_and_then (case_at q names all) (symbol_in rows s)
   spot_case_is firsts s = by (symbol_in rows s) refl
     where
       -- the least one of the name stands at f
-      beside : (e a : Entry) (n : ℕ) (f : Spot) → symbol_in rows s ≡ Some e → symbol_in rows f ≡ Some a → spot_beside q rows s n f ≡ case_beside q e n a
+      beside : (e a : InputSymbol) (n : ℕ) (f : Spot) → symbol_in rows s ≡ Some e → symbol_in rows f ≡ Some a → spot_beside q rows s n f ≡ case_beside q e n a
       beside e a n f here there = by_spot (same_spot f s) refl
         where
           by_spot : (b : Bool) → same_spot f s ≡ b
@@ -54,21 +54,21 @@ module _ (q : Question) (names : List (List ℕ)) (rows : List (List Entry)) (al
               sym (ap (λ b. given b (record { name = n; first = a.input; other = e.input })) (ap (λ x. contradicts q x e) one ∙ stands_alone q e))
           by_spot false other = rw (here, there) refl
 
-      at_name : (e : Entry) (n : ℕ) → symbol_in rows s ≡ Some e → (o : Option Spot) (l : Option Entry) → option_map (symbol_in rows) o ≡ option_map (λ x. Some x) l
+      at_name : (e : InputSymbol) (n : ℕ) → symbol_in rows s ≡ Some e → (o : Option Spot) (l : Option InputSymbol) → option_map (symbol_in rows) o ≡ option_map (λ x. Some x) l
           → option_and_then (spot_beside q rows s n) o ≡ option_and_then (case_beside q e n) l
       at_name e n here None None same = refl
       at_name e n here None (Some a) same = cc
       at_name e n here (Some f) None same = cc
       at_name e n here (Some f) (Some a) same = beside e a n f here (some_is same)
 
-      by_number : (e : Entry) → symbol_in rows s ≡ Some e → (n : Option ℕ) → counted_number q names e ≡ n
+      by_number : (e : InputSymbol) → symbol_in rows s ≡ Some e → (n : Option ℕ) → counted_number q names e ≡ n
           → option_and_then (λ k. option_and_then (spot_beside q rows s k) (get_or column k None)) n ≡ option_and_then (case_numbered q all e) n
       by_number e here None counted = refl
       by_number e here (Some k) counted =
           let numbered : number_of names (name_of e) ≡ Some k = counted_is (is_entry e) (number_of names (name_of e)) k (counted_is (counts q e) (entry_number names e) k counted) in
           at_name e k here (get_or column k None) (least_of q all (name_of e)) (firsts.at k (name_of e) (name_at names (name_of e) k numbered))
 
-      by : (o : Option Entry) → symbol_in rows s ≡ o
+      by : (o : Option InputSymbol) → symbol_in rows s ≡ o
           → option_and_then (λ n. option_and_then (spot_beside q rows s n) (get_or column n None)) (option_and_then (counted_number q names) o) ≡ option_and_then (case_at q names all) o
       by None here = refl
       by (Some e) here = by_number e here (counted_number q names e) refl

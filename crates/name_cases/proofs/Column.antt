@@ -16,7 +16,7 @@ use Rattle.std.proofs.lemmas.Option.{slice_get_within, slice_get-get_or, get_or_
 use Rattle.std.proofs.lemmas.Slice.Eq.{bytes_eq-Decides}
 use Rattle.std.specs.Cmp.Lexicographic.{nat_list_eq_equiv}
 use Rattle.name_entries.specs.wl_base.Names.{number_of}
-use Rattle.name_entries.specs.name_rules.Entries.{Entry, name_of, is_named, is_entry}
+use Rattle.name_entries.specs.name_rules.Entries.{InputSymbol, name_of, is_named, is_entry}
 use Rattle.name_entries.specs.View.{entry_number}
 use Rattle.name_cases.specs.declared.question.Question.{Question}
 use Rattle.name_cases.specs.declared.rows.Spot.{Spot}
@@ -71,35 +71,35 @@ none_found f (Some x) h = cc
 
 -- ---- one entry more
 
-module _ (q : Question) (names : List (List ℕ)) (rows : List (List Entry)) where
+module _ (q : Question) (names : List (List ℕ)) (rows : List (List InputSymbol)) where
   pub adds_none : (column : List (Option Spot)) → Adds q names rows column column []
   adds_none column es h = subst (λ xs. AreFirsts q names rows xs column) (sym (append-nil es)) h
 
-  pub adds_both : (old mid new : List (Option Spot)) (xs ys : List Entry) → Adds q names rows old mid xs → Adds q names rows mid new ys → Adds q names rows old new (xs ++ ys)
+  pub adds_both : (old mid new : List (Option Spot)) (xs ys : List InputSymbol) → Adds q names rows old mid xs → Adds q names rows mid new ys → Adds q names rows old new (xs ++ ys)
   adds_both old mid new xs ys f g es h = subst (λ zs. AreFirsts q names rows zs new) (append_assoc es xs ys) (g (es ++ xs) (f es h))
 
-  least_more : (es : List Entry) (e : Entry) (name : List ℕ) → least_of q (es ++ e ∷ []) name ≡ option_or (least_of q es name) (cond (counts q e && is_named name e) (Some e) None)
+  least_more : (es : List InputSymbol) (e : InputSymbol) (name : List ℕ) → least_of q (es ++ e ∷ []) name ≡ option_or (least_of q es name) (cond (counts q e && is_named name e) (Some e) None)
   least_more es e name = find-append (λ x. counts q x && is_named name x) es (e ∷ [])
 
   -- an entry that the test of a name fails
-  passed_by : (es : List Entry) (e : Entry) (name : List ℕ) → (counts q e && is_named name e) ≡ false → least_of q (es ++ e ∷ []) name ≡ least_of q es name
+  passed_by : (es : List InputSymbol) (e : InputSymbol) (name : List ℕ) → (counts q e && is_named name e) ≡ false → least_of q (es ++ e ∷ []) name ≡ least_of q es name
   passed_by es e name fails = least_more es e name ∙ ap (λ b. option_or (least_of q es name) (cond b (Some e) None)) fails ∙ or_none (least_of q es name)
 
   -- the column stays where the entry changes no least one
-  adds_nothing : (column : List (Option Spot)) (e : Entry)
-      → ((es : List Entry) (i : ℕ) (name : List ℕ) → AreFirsts q names rows es column → slice_get names i ≡ Some name → least_of q (es ++ e ∷ []) name ≡ least_of q es name)
+  adds_nothing : (column : List (Option Spot)) (e : InputSymbol)
+      → ((es : List InputSymbol) (i : ℕ) (name : List ℕ) → AreFirsts q names rows es column → slice_get names i ≡ Some name → least_of q (es ++ e ∷ []) name ≡ least_of q es name)
       → Adds q names rows column column (e ∷ [])
   adds_nothing column e same es h = record { len = h.len; at = λ i name here. h.at i name here ∙ ap (option_map (λ x. Some x)) (sym (same es i name h here)) }
 
-  pub adds_skipped : (column : List (Option Spot)) (e : Entry) → counts q e ≡ false → Adds q names rows column column (e ∷ [])
+  pub adds_skipped : (column : List (Option Spot)) (e : InputSymbol) → counts q e ≡ false → Adds q names rows column column (e ∷ [])
   adds_skipped column e fails = adds_nothing column e (λ es i name h here. passed_by es e name (ap (λ b. b && is_named name e) fails))
 
   -- the name's entry stands in the column already
-  pub adds_later : IsDistinct bytes_eq names → (column : List (Option Spot)) (e : Entry) (n : ℕ) (s : Spot) → number_of names (name_of e) ≡ Some n → get_or column n None ≡ Some s
+  pub adds_later : IsDistinct bytes_eq names → (column : List (Option Spot)) (e : InputSymbol) (n : ℕ) (s : Spot) → number_of names (name_of e) ≡ Some n → get_or column n None ≡ Some s
       → Adds q names rows column column (e ∷ [])
   adds_later distinct column e n s numbered there = adds_nothing column e (λ es i name h here. by es i name h here (counts q e && is_named name e) refl)
     where
-      by : (es : List Entry) (i : ℕ) (name : List ℕ) → AreFirsts q names rows es column → slice_get names i ≡ Some name → (b : Bool) → (counts q e && is_named name e) ≡ b
+      by : (es : List InputSymbol) (i : ℕ) (name : List ℕ) → AreFirsts q names rows es column → slice_get names i ≡ Some name → (b : Bool) → (counts q e && is_named name e) ≡ b
           → least_of q (es ++ e ∷ []) name ≡ least_of q es name
       by es i name h here false t = passed_by es e name t
       by es i name h here true t =
@@ -109,17 +109,17 @@ module _ (q : Question) (names : List (List ℕ)) (rows : List (List Entry)) whe
           (ap (option_map (symbol_in rows)) (sym there ∙ ap (λ k. get_or column k None) at) ∙ h.at i name here)
 
   -- a name that isn't held has no entry in the column
-  pub adds_unheld : IsDistinct bytes_eq names → (column : List (Option Spot)) (e : Entry) → number_of names (name_of e) ≡ None → Adds q names rows column column (e ∷ [])
+  pub adds_unheld : IsDistinct bytes_eq names → (column : List (Option Spot)) (e : InputSymbol) → number_of names (name_of e) ≡ None → Adds q names rows column column (e ∷ [])
   adds_unheld distinct column e numbered = adds_nothing column e (λ es i name h here. by es i name here (counts q e && is_named name e) refl)
     where
-      by : (es : List Entry) (i : ℕ) (name : List ℕ) → slice_get names i ≡ Some name → (b : Bool) → (counts q e && is_named name e) ≡ b → least_of q (es ++ e ∷ []) name ≡ least_of q es name
+      by : (es : List InputSymbol) (i : ℕ) (name : List ℕ) → slice_get names i ≡ Some name → (b : Bool) → (counts q e && is_named name e) ≡ b → least_of q (es ++ e ∷ []) name ≡ least_of q es name
       by es i name here false t = passed_by es e name t
       by es i name here true t =
           let same : name_of e ≡ name = (bytes_eq-Decides (name_of e) name).0 (second (counts q e) (is_named name e) t) in
           absurd (some_none (sym (own_number names name i distinct here) ∙ ap (number_of names) (sym same) ∙ numbered))
 
   -- the name's first entry
-  pub adds_first : IsDistinct bytes_eq names → (column : List (Option Spot)) (e : Entry) (n : ℕ) (s : Spot) → number_of names (name_of e) ≡ Some n → get_or column n None ≡ None
+  pub adds_first : IsDistinct bytes_eq names → (column : List (Option Spot)) (e : InputSymbol) (n : ℕ) (s : Spot) → number_of names (name_of e) ≡ Some n → get_or column n None ≡ None
       → symbol_in rows s ≡ Some e → counts q e ≡ true → Adds q names rows column (set column n (Some s)) (e ∷ [])
   adds_first distinct column e n s numbered there stood counted es h =
       record { len = length-set column n (Some s) ∙ h.len; at = λ i name here. by i name here (cases_eq i n) }
@@ -147,7 +147,7 @@ module _ (q : Question) (names : List (List ℕ)) (rows : List (List Entry)) whe
   -- ---- a symbol of a row
 
   -- an entry, by whether it counts and has a number
-  adds_entry : IsDistinct bytes_eq names → (column : List (Option Spot)) (e : Entry) (s : Spot) → symbol_in rows s ≡ Some e → is_entry e ≡ true
+  adds_entry : IsDistinct bytes_eq names → (column : List (Option Spot)) (e : InputSymbol) (s : Spot) → symbol_in rows s ≡ Some e → is_entry e ≡ true
       → Adds q names rows column (noted column s (counted_number q names e)) (e ∷ [])
   adds_entry distinct column e s stood entry = by (counts q e) refl
     where
@@ -177,13 +177,13 @@ module _ (q : Question) (names : List (List ℕ)) (rows : List (List Entry)) whe
       → Adds q names rows column new (filter is_entry (option_to_list (symbol_in rows s)))
   adds_symbol distinct column new s is = subst (λ c. Adds q names rows column c (filter is_entry (option_to_list (symbol_in rows s)))) (sym is) (by (symbol_in rows s) refl)
     where
-      entry_or_not : (e : Entry) → symbol_in rows s ≡ Some e → (b : Bool) → is_entry e ≡ b → Adds q names rows column (noted column s (counted_number q names e)) (cond b (e ∷ []) [])
+      entry_or_not : (e : InputSymbol) → symbol_in rows s ≡ Some e → (b : Bool) → is_entry e ≡ b → Adds q names rows column (noted column s (counted_number q names e)) (cond b (e ∷ []) [])
       entry_or_not e stood true entry = adds_entry distinct column e s stood entry
       entry_or_not e stood false entry =
           let none : counted_number q names e ≡ None = no_number (counts q e) (entry_number names e) (ap (λ b. cond b (number_of names (name_of e)) None) entry) in
           subst (λ n. Adds q names rows column (noted column s n) []) (sym none) (adds_none column)
 
-      by : (o : Option Entry) → symbol_in rows s ≡ o → Adds q names rows column (noted column s (option_and_then (counted_number q names) o)) (filter is_entry (option_to_list o))
+      by : (o : Option InputSymbol) → symbol_in rows s ≡ o → Adds q names rows column (noted column s (option_and_then (counted_number q names) o)) (filter is_entry (option_to_list o))
       by None stood = adds_none column
       by (Some e) stood = entry_or_not e stood (is_entry e) refl
 
@@ -197,19 +197,19 @@ module _ (q : Question) (names : List (List ℕ)) (rows : List (List Entry)) whe
 
 -- ---- a row, and all rows
 
-pub row_more : (row : List Entry) (p : ℕ) → p < length row → filter is_entry (take (p + 1) row) ≡ filter is_entry (take p row) ++ filter is_entry (option_to_list (slice_get row p))
+pub row_more : (row : List InputSymbol) (p : ℕ) → p < length row → filter is_entry (take (p + 1) row) ≡ filter is_entry (take p row) ++ filter is_entry (option_to_list (slice_get row p))
 row_more [] p below = absurd (omega arith)
 row_more (x ∷ xs) p below =
     ap (filter is_entry) (take_more (x ∷ xs) p x below) ∙ filter-append is_entry (take p (x ∷ xs)) (get_or (x ∷ xs) p x ∷ [])
     ∙ ap (λ o. filter is_entry (take p (x ∷ xs)) ++ filter is_entry (option_to_list o)) (sym (slice_get-get_or (x ∷ xs) p x below))
 
-pub rows_more : (rows : List (List Entry)) (r : ℕ) → r < length rows → entries_in (take (r + 1) rows) ≡ entries_in (take r rows) ++ filter is_entry (get_or rows r [])
+pub rows_more : (rows : List (List InputSymbol)) (r : ℕ) → r < length rows → entries_in (take (r + 1) rows) ≡ entries_in (take r rows) ++ filter is_entry (get_or rows r [])
 rows_more rows r below =
     ap entries_in (take_more rows r [] below)
-    ∙ ap (filter is_entry) (sym (flat_map_more (λ (row : List Entry). row) [] (take r rows) (get_or rows r [])))
+    ∙ ap (filter is_entry) (sym (flat_map_more (λ (row : List InputSymbol). row) [] (take r rows) (get_or rows r [])))
     ∙ filter-append is_entry (flat_map (λ row. row) (take r rows)) (get_or rows r [])
 
-module _ (q : Question) (names : List (List ℕ)) (rows : List (List Entry)) where
+module _ (q : Question) (names : List (List ℕ)) (rows : List (List InputSymbol)) where
   pub adds_row_more : IsDistinct bytes_eq names → (old column new : List (Option Spot)) (r p : ℕ) → p < length (get_or rows r [])
       → Adds q names rows old column (filter is_entry (take p (get_or rows r []))) → new ≡ noted column (record { row = r; place = p }) (number_at q names rows (record { row = r; place = p }))
       → Adds q names rows old new (filter is_entry (take (p + 1) (get_or rows r [])))
@@ -218,10 +218,10 @@ module _ (q : Question) (names : List (List ℕ)) (rows : List (List Entry)) whe
       subst (λ es. Adds q names rows old new es) (sym (row_more (get_or rows r []) p below))
       (adds_both q names rows old column new _ _ so_far (adds_symbol q names rows distinct column new s is))
 
-  pub adds_row_none : (old : List (Option Spot)) (row : List Entry) → Adds q names rows old old (filter is_entry (take 0 row))
+  pub adds_row_none : (old : List (Option Spot)) (row : List InputSymbol) → Adds q names rows old old (filter is_entry (take 0 row))
   adds_row_none old row = adds_none q names rows old
 
-  pub adds_row_all : (old new : List (Option Spot)) (row : List Entry) (p : ℕ) → p ≡ length row → Adds q names rows old new (filter is_entry (take p row)) → Adds q names rows old new (filter is_entry row)
+  pub adds_row_all : (old new : List (Option Spot)) (row : List InputSymbol) (p : ℕ) → p ≡ length row → Adds q names rows old new (filter is_entry (take p row)) → Adds q names rows old new (filter is_entry row)
   adds_row_all old new row p end so_far = subst (λ es. Adds q names rows old new (filter is_entry es)) (ap (λ n. take n row) end ∙ take-length row) so_far
 
   pub adds_rows_more : (old column new : List (Option Spot)) (r : ℕ) → r < length rows → Adds q names rows old column (entries_in (take r rows))

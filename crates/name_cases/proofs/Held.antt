@@ -9,7 +9,7 @@ use Rattle.name_entries.specs.object_file.declared.object.Object.{Object}
 use Rattle.name_entries.specs.made_symbols.declared.mode.Mode.{Mode}
 use Rattle.name_entries.specs.made_symbols.Made.{MadeSymbol, made}
 use Rattle.name_entries.specs.link_names.Numbered.{Numbered, AreNumbers, Held, entry_names, is_entry_symbol, symbol_name}
-use Rattle.name_entries.specs.name_rules.Entries.{Entry, name_of, is_entry, entries, entries_from, entry_in, symbols_of, made_entry, made_from}
+use Rattle.name_entries.specs.name_rules.Entries.{InputSymbol, name_of, is_entry, entries, entries_from, entry_in, symbols_of, made_entry, made_from}
 use Rattle.name_entries.specs.View.{rows_of}
 use Rattle.name_cases.specs.Rows.{all_rows, entries_in}
 use Rattle.name_cases.proofs.Column.{name_at}
@@ -19,14 +19,14 @@ none : IsSome {T = ℕ} None → ⊥
 none h = cc
 
 module _ (names : List (List ℕ)) where
-  held_is : (e : Entry) → is_entry e ≡ true → Held names (name_of e) → IsNumbered names e
+  held_is : (e : InputSymbol) → is_entry e ≡ true → Held names (name_of e) → IsNumbered names e
   held_is e entry held = by (number_of names (name_of e)) refl held
     where
       by : (o : Option ℕ) → number_of names (name_of e) ≡ o → IsSome o → IsNumbered names e
       by None is some = absurd (none some)
       by (Some n) is some = (n, ap (λ b. cond b (number_of names (name_of e)) None) entry ∙ is, name_at names (name_of e) n is)
 
-  each-append : (xs ys : List Entry) → AllByRecursion (IsNumbered names) xs → AllByRecursion (IsNumbered names) ys → AllByRecursion (IsNumbered names) (xs ++ ys)
+  each-append : (xs ys : List InputSymbol) → AllByRecursion (IsNumbered names) xs → AllByRecursion (IsNumbered names) ys → AllByRecursion (IsNumbered names) (xs ++ ys)
   each-append [] ys hs ks = ks
   each-append (x ∷ xs) ys hs ks = (hs.0, each-append xs ys hs.1 ks)
 

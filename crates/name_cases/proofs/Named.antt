@@ -9,7 +9,7 @@ use Rattle.name_entries.specs.object_file.declared.object.Object.{Object}
 use Rattle.name_entries.specs.made_symbols.declared.mode.Mode.{Mode}
 use Rattle.name_entries.specs.link_names.Numbered.{Numbered, AreNumbers}
 use Rattle.name_entries.specs.name_rules.declared.case.PairCase.{PairCase}
-use Rattle.name_entries.specs.name_rules.Entries.{Entry, name_of}
+use Rattle.name_entries.specs.name_rules.Entries.{InputSymbol, name_of}
 use Rattle.name_entries.specs.View.{entry_number}
 use Rattle.name_cases.specs.declared.question.Question.{Question}
 use Rattle.name_cases.specs.Rows.{all_rows, entries_in}
@@ -18,15 +18,15 @@ use Rattle.name_cases.specs.Told.{IsNamed}
 use Rattle.name_cases.proofs.Found.{IsNumbered, by_rows}
 use Rattle.name_cases.proofs.Held.{entries_held}
 
-module _ (q : Question) (names : List (List ℕ)) (all : List Entry) where
-  case_named : (e : Entry) → IsNumbered names e → IsNamed names (case_at q names all e)
+module _ (q : Question) (names : List (List ℕ)) (all : List InputSymbol) where
+  case_named : (e : InputSymbol) → IsNumbered names e → IsNamed names (case_at q names all e)
   case_named e numbered = by (counts q e)
     where
-      judged : (a : Entry) (r : Bool) → IsNamed names (given r (record { name = numbered.0; first = a.input; other = e.input }))
+      judged : (a : InputSymbol) (r : Bool) → IsNamed names (given r (record { name = numbered.0; first = a.input; other = e.input }))
       judged a true = slice_get_within names numbered.0 (name_of e) numbered.2
       judged a false = tt
 
-      beside : (o : Option Entry) → IsNamed names (option_and_then (case_beside q e numbered.0) o)
+      beside : (o : Option InputSymbol) → IsNamed names (option_and_then (case_beside q e numbered.0) o)
       beside None = tt
       beside (Some a) = judged a (contradicts q a e)
 
@@ -34,7 +34,7 @@ module _ (q : Question) (names : List (List ℕ)) (all : List Entry) where
       by false = tt
       by true = subst (λ (o : Option ℕ). IsNamed names (option_and_then (case_numbered q all e) o)) (sym numbered.1) (beside (least_of q all (name_of e)))
 
-  first_named : (xs : List Entry) → AllByRecursion (IsNumbered names) xs → IsNamed names (first_some (map (case_at q names all) xs))
+  first_named : (xs : List InputSymbol) → AllByRecursion (IsNumbered names) xs → IsNamed names (first_some (map (case_at q names all) xs))
   first_named [] numbered = tt
   first_named (e ∷ xs) numbered = by (case_at q names all e) (case_named e numbered.0) (first_named xs numbered.1)
     where

@@ -3,7 +3,7 @@ use Rattle.std.specs.Prelude.{◌≡◌, Bool, false, not, ◌&&◌, ◌||◌, �
 use Rattle.name_entries.specs.linking_section.Flags.{kind_code}
 use Rattle.name_entries.specs.object_columns.declared.imports.ImportRef.{ImportRef}
 use Rattle.name_entries.specs.object_columns.Seen.{import_seen}
-use Rattle.name_entries.specs.name_rules.Entries.{Entry, key_of, same_symbol_type}
+use Rattle.name_entries.specs.name_rules.Entries.{InputSymbol, key_of, same_symbol_type}
 use Rattle.name_entries.specs.name_rules.Cases.{explicit_import}
 use Rattle.name_entries.specs.Shown.{type_seen}
 use Rattle.name_cases.specs.declared.look.Look.{Look}
@@ -18,12 +18,12 @@ abbrev pub looks_clash : Look → Look → Bool
 looks_clash a b = not ((kind_code b.kind == kind_code a.kind) && same_symbol_type (type_seen a.of_type) (type_seen b.of_type)) || imports_differ a.explicit b.explicit
 
 -- This is what is compared of the entry.
-pub record IsLook (l : Look) (e : Entry) : Type 0 where
+pub record IsLook (l : Look) (e : InputSymbol) : Type 0 where
   pub kind : l.kind ≡ e.symbol.kind
   pub of_type : type_seen l.of_type ≡ e.type
   pub explicit : option_map (λ i. key_of e.type (import_seen i)) l.explicit ≡ explicit_import e
 
-abbrev pub AreLook : Option Look → Option Entry → Type 0
+abbrev pub AreLook : Option Look → Option InputSymbol → Type 0
 AreLook (Some l) (Some e) = IsLook l e
 AreLook None None = Unit {0}
 AreLook (Some l) None = ⊥

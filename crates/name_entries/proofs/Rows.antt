@@ -10,7 +10,7 @@ use Rattle.object_file.specs.object_columns.Seen.{symbol_seen, import_seen}
 use Rattle.object_file.specs.object_columns.declared.imports.ImportRef.{ImportRef}
 use Rattle.object_file.specs.declared.object.Object.{Object}
 use Rattle.link_names.specs.Numbered.{symbol_number}
-use Rattle.name_rules.specs.Entries.{Entry, SymbolType, entry_in, entries_from, symbols_of, in_kept_part, type_in, import_in, key_of}
+use Rattle.name_rules.specs.Entries.{InputSymbol, SymbolType, entry_in, entries_from, symbols_of, in_kept_part, type_in, import_in, key_of}
 use Rattle.name_entries.specs.View.{rows_of, entry_at}
 use Rattle.name_entries.specs.Parts.{ArePartsOf, keeps}
 use Rattle.name_entries.specs.Shown.{AreShown}
@@ -50,13 +50,13 @@ seen_key : (t : SymbolType) (r : Option ImportRef)
 seen_key t None = refl
 seen_key t (Some i) = refl
 
-pub import_shown : (objects : List Object) (i k : ℕ) (o : Object) (s : Symbol) (e : Entry) (r : Option ImportRef) → slice_get objects i ≡ Some o
+pub import_shown : (objects : List Object) (i k : ℕ) (o : Object) (s : Symbol) (e : InputSymbol) (r : Option ImportRef) → slice_get objects i ≡ Some o
     → Some s ≡ slice_get o.symbols k
     → option_map import_seen r ≡ import_in o s s.kind → entry_at objects i k ≡ Some e → option_map
     (λ (i : ImportRef). key_of e.type (import_seen i)) r ≡ e.import
 import_shown objects i k o s e r there symbol found is =
     let same : entry_in objects o k s ≡ e = same_Some (entry_in objects o k s) e (sym (the_entry objects i k o s there symbol) ∙ is) in
-    subst (λ (x : Entry). option_map (λ (i : ImportRef). key_of x.type (import_seen i)) r ≡ x.import) same
+    subst (λ (x : InputSymbol). option_map (λ (i : ImportRef). key_of x.type (import_seen i)) r ≡ x.import) same
     (seen_key (type_in o s s.kind) r ∙ ap (option_map (key_of (type_in o s s.kind))) found)
 
 -- ---- numbers

@@ -1,7 +1,7 @@
 -- What lent entries and types tell.
 use Rattle.std.specs.Prelude.{◌≡◌, ℕ, List, Option, Some, None}
 use Rattle.object_file.specs.object_columns.Seen.{symbol_seen, func_type_seen}
-use Rattle.name_rules.specs.Entries.{Entry, SymbolType, of_function, of_global, untyped}
+use Rattle.name_rules.specs.Entries.{InputSymbol, SymbolType, of_function, of_global, untyped}
 use Rattle.name_entries.specs.View.{entry_number}
 use Rattle.name_entries.specs.declared.entry.EntryRef.{EntryRef}
 use Rattle.name_entries.specs.declared.entry.TypeRef.{TypeRef}
@@ -13,7 +13,7 @@ type_seen (types.GlobalVar t) = of_global t
 type_seen types.Untyped = untyped
 
 -- A lent entry tells what the entry is, but for its type, its import and its index, and the number of its name.
-pub record Shows (names : List (List ℕ)) (r : EntryRef) (e : Entry) : Type 0 where
+pub record Shows (names : List (List ℕ)) (r : EntryRef) (e : InputSymbol) : Type 0 where
   pub input : r.input ≡ e.input
   pub place : r.place ≡ e.place
   pub symbol : symbol_seen r.symbol ≡ e.symbol
@@ -22,7 +22,7 @@ pub record Shows (names : List (List ℕ)) (r : EntryRef) (e : Entry) : Type 0 w
   pub class : r.class ≡ e.class
 
 -- The same, where there is one.
-abbrev pub AreShown : List (List ℕ) → Option EntryRef → Option Entry → Type 0
+abbrev pub AreShown : List (List ℕ) → Option EntryRef → Option InputSymbol → Type 0
 AreShown names (Some r) (Some e) = Shows names r e
 AreShown names None None = Unit {0}
 AreShown names r e = ⊥

@@ -2,20 +2,20 @@
 use Rattle.std.specs.Prelude.{◌≡◌, ℕ, ◌<◌, ◌^◌, ◌==◌, Bool, false, List, [], ◌∷◌, map, slice_get, slice_index_or, Option, Some, None, option_map, if◌then◌else◌}
 use Rattle.object_file.specs.declared.object.Object.{Object}
 use Rattle.object_file.specs.wl_base.Names.{number_of}
-use Rattle.name_rules.specs.Entries.{Entry, is_entry, name_of, symbols_of, group_winner}
+use Rattle.name_rules.specs.Entries.{InputSymbol, is_entry, name_of, symbols_of, group_winner}
 use Rattle.name_rules.specs.Meanings.{entry_rank, winner}
 
 -- ---- rows
 
 -- The symbols of each object, by place.
-abbrev pub rows_of : List Object → List (List Entry)
+abbrev pub rows_of : List Object → List (List InputSymbol)
 rows_of objects = map (symbols_of objects) objects
 
-abbrev pub entry_at : List Object → ℕ → ℕ → Option Entry
+abbrev pub entry_at : List Object → ℕ → ℕ → Option InputSymbol
 entry_at objects object place = slice_get (slice_index_or (rows_of objects) object []) place
 
 -- The number of an entry's name; a symbol that is no entry has none.
-abbrev pub entry_number : List (List ℕ) → Entry → Option ℕ
+abbrev pub entry_number : List (List ℕ) → InputSymbol → Option ℕ
 entry_number names e = if is_entry e then number_of names (name_of e) else None
 
 -- whether the number of a name is this one
@@ -35,5 +35,5 @@ abbrev pub GroupsAre : List (List ℕ) → List Object → List (Option ℕ) →
 GroupsAre names objects groups = (i : ℕ) (name : List ℕ) → slice_get names i ≡ Some name → slice_index_or groups i None ≡ group_winner objects name
 
 -- By the number of a name: the rank of the winner of the name.
-abbrev pub WinnersAre : List (List ℕ) → List Entry → List (Option ℕ) → Type 0
+abbrev pub WinnersAre : List (List ℕ) → List InputSymbol → List (Option ℕ) → Type 0
 WinnersAre names all winners = (i : ℕ) (name : List ℕ) → slice_get names i ≡ Some name → slice_index_or winners i None ≡ option_map entry_rank (winner all name)

@@ -1,7 +1,7 @@
 //! The view of all loaded objects.
 ghost use Rattle.std.specs.Prelude.{◌≡◌, [], Some, None, length, slice_get, slice_index_or, option_map, MatchOption};
 ghost use Rattle.object_file.specs.object_columns.Seen.{import_seen};
-ghost use Rattle.name_rules.specs.Entries.{Entry, key_of};
+ghost use Rattle.name_rules.specs.Entries.{InputSymbol, key_of};
 ghost use Rattle.name_entries.specs.View.{rows_of, entry_at};
 ghost use Rattle.name_entries.specs.Fits.{FitsObjects};
 ghost use Rattle.name_entries.specs.Parts.{ArePartsOf, AreParts};
@@ -82,7 +82,7 @@ impl<'a> Entries<'a> {
     /// The import that a symbol stands on.
     pub fn import_of(&self, object: u32, place: u32) -> Option<ImportRef<'a>>
         requires { FitsObjects self.now }
-        ensures { (e : Entry) → entry_at self.now.objects.now object place ≡ Some e
+        ensures { (e : InputSymbol) → entry_at self.now.objects.now object place ≡ Some e
             → option_map (λ i. key_of e.type (import_seen i)) result ≡ e.import }
     {
         let (from, parts) = self.object_at(object)?;

@@ -15,7 +15,7 @@ use Rattle.name_entries.specs.made_symbols.declared.mode.Mode.{Mode}
 use Rattle.name_entries.specs.made_symbols.declared.roles.Role.TheVariants.{CallCtors}
 use Rattle.name_entries.specs.made_symbols.Made.{MadeSymbol, made, made_at, made_function}
 use Rattle.symbol_race.specs.Ranks.{rank_of}
-use Rattle.name_entries.specs.name_rules.Entries.{Entry, made_from, entries_from, entry_in, symbols_of}
+use Rattle.name_entries.specs.name_rules.Entries.{InputSymbol, made_from, entries_from, entry_in, symbols_of}
 use Rattle.name_entries.specs.View.{InputsRise, entry_at}
 use Rattle.name_entries.specs.declared.entry.EntryRef.{EntryRef}
 use Rattle.name_entries.specs.Shown.{Shows, AreShown}
@@ -122,7 +122,7 @@ made_answer names mode numbers e k number has class rank of_class of_rank =
 
 -- ---- the symbols of objects
 
-symbol_parts : (objects : List Object) (o : Object) (place : ℕ) (ss : List Symbol) (k : ℕ) (e : Entry)
+symbol_parts : (objects : List Object) (o : Object) (place : ℕ) (ss : List Symbol) (k : ℕ) (e : InputSymbol)
     → slice_get (entries_from objects o place ss) k ≡ Some e → (e.class < 3) × (e.input ≡ o.input)
 symbol_parts objects o place [] k e at = absurd (let bad : None ≡ Some e = at in cc)
 symbol_parts objects o place (s ∷ ss) zero e at =
@@ -130,7 +130,7 @@ symbol_parts objects o place (s ∷ ss) zero e at =
     (subst (λ x. x.class < 3) same (weak_class (is_weak s)), sym (ap (λ x. x.input) same))
 symbol_parts objects o place (s ∷ ss) (suc k) e at = symbol_parts objects o (place + 1) ss k e at
 
-parts_from : (objects : List Object) (last : ℕ) (os : List Object) (k place : ℕ) (e : Entry) → InputsRise last os
+parts_from : (objects : List Object) (last : ℕ) (os : List Object) (k place : ℕ) (e : InputSymbol) → InputsRise last os
     → slice_get (slice_index_or (map (symbols_of objects) os) k []) place ≡ Some e
     → (e.class < 3) × (e.input < 2 ^ 20)
 parts_from objects last [] k place e rise at = absurd (let bad : None ≡ Some e = at in cc)
@@ -139,7 +139,7 @@ parts_from objects last (o ∷ os) zero place e rise at = let p = symbol_parts o
 parts_from objects last (o ∷ os) (suc k) place e rise at = parts_from objects o.input os k place e rise.2 at
 
 -- what an entry has that is shown
-entry_of : (names : List (List ℕ)) (r : EntryRef) (e : Option Entry) → AreShown names (Some r) e → (x : Entry) × (e ≡ Some x) × Shows names r x
+entry_of : (names : List (List ℕ)) (r : EntryRef) (e : Option InputSymbol) → AreShown names (Some r) e → (x : InputSymbol) × (e ≡ Some x) × Shows names r x
 entry_of names r None h = absurd h
 entry_of names r (Some x) h = (x, refl, h)
 

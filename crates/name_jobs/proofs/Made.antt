@@ -17,7 +17,7 @@ use Rattle.name_entries.specs.made_symbols.declared.mode.Mode.{Mode}
 use Rattle.name_entries.specs.made_symbols.declared.mode.Mode.TheVariants.{Plain, Shared}
 use Rattle.name_entries.specs.made_symbols.Made.{MadeSymbol, made}
 use Rattle.name_entries.specs.link_names.Numbered.{Numbered, AreNumbers, symbol_number}
-use Rattle.name_entries.specs.name_rules.Entries.{Entry, is_entry, name_of, made_from, made_entry, entries_from, entry_in, symbols_of}
+use Rattle.name_entries.specs.name_rules.Entries.{InputSymbol, is_entry, name_of, made_from, made_entry, entries_from, entry_in, symbols_of}
 use Rattle.name_entries.specs.name_rules.Meanings.{entry_rank, where_given}
 use Rattle.name_entries.specs.View.{InputsRise, rows_of, entry_number}
 use Rattle.name_jobs.specs.Offers.{entry_offer, name_jobs, group_offer, group_jobs}
@@ -85,11 +85,11 @@ entry_below names r name true true = below_by names r (number_of names name) (nu
 entry_below names r name true false = tt
 entry_below names r name false entry = tt
 
-entry_words : (names : List (List ℕ)) (es : List Entry) → Each (λ x. x.word < length names) (map (entry_offer names) es)
+entry_words : (names : List (List ℕ)) (es : List InputSymbol) → Each (λ x. x.word < length names) (map (entry_offer names) es)
 entry_words names [] = tt
 entry_words names (e ∷ es) = (entry_below names (entry_rank e) (name_of e) e.defines (is_entry e), entry_words names es)
 
-rows_words : (names : List (List ℕ)) (rows : List (List Entry))
+rows_words : (names : List (List ℕ)) (rows : List (List InputSymbol))
     → AllByRecursion (Each (λ x. x.word < length names)) (map (map (entry_offer names)) rows)
 rows_words names [] = tt
 rows_words names (r ∷ rs) = (entry_words names r, rows_words names rs)

@@ -10,7 +10,7 @@ use Rattle.name_entries.specs.wl_base.Names.{number_of}
 use Rattle.name_entries.specs.object_file.declared.object.Object.{Object}
 use Rattle.name_entries.specs.made_symbols.declared.mode.Mode.{Mode}
 use Rattle.name_entries.specs.made_symbols.Made.{MadeSymbol, made}
-use Rattle.name_entries.specs.name_rules.Entries.{Entry, is_entry, is_named, name_of, made_from, made_entry, symbols_of, entries}
+use Rattle.name_entries.specs.name_rules.Entries.{InputSymbol, is_entry, is_named, name_of, made_from, made_entry, symbols_of, entries}
 use Rattle.name_entries.specs.name_rules.Meanings.{entry_rank, winner, where_given, least}
 use Rattle.name_jobs.specs.Offers.{entry_offer, name_jobs}
 use Rattle.name_jobs.proofs.Items.{LeastIn, all_offers}
@@ -30,7 +30,7 @@ tells_by i r true false true (Some n) there back = λ e. let bad : false ≡ tru
 tells_by i r true false false number there back = tt
 
 -- whether an entry is a definition of the name
-abbrev is_definition_of : List ℕ → Entry → Bool
+abbrev is_definition_of : List ℕ → InputSymbol → Bool
 is_definition_of name e = is_entry e && (is_named name e && e.defines)
 
 -- ---- three filters are one
@@ -60,7 +60,7 @@ made_stay place [] = refl
 made_stay place (m ∷ ms) = ap (λ rest. made_entry place m ∷ rest) (made_stay (place + 1) ms)
 
 -- the symbols of the linker and of all objects
-abbrev pub all_symbols : Mode → List Object → List Entry
+abbrev pub all_symbols : Mode → List Object → List InputSymbol
 all_symbols mode objects = made_from 0 (made mode) ++ flat_map (symbols_of objects) objects
 
 entries_are : (mode : Mode) (objects : List Object) → entries mode objects ≡ filter is_entry (all_symbols mode objects)
@@ -82,10 +82,10 @@ offers_append [] ys = refl
 offers_append (None ∷ xs) ys = offers_append xs ys
 offers_append (Some o ∷ xs) ys = ap (λ rest. o ∷ rest) (offers_append xs ys)
 
-offers_of_both : (off : Entry → Option Offer) (xs ys : List Entry) → offers_in (map off (xs ++ ys)) ≡ offers_in (map off xs) ++ offers_in (map off ys)
+offers_of_both : (off : InputSymbol → Option Offer) (xs ys : List InputSymbol) → offers_in (map off (xs ++ ys)) ≡ offers_in (map off xs) ++ offers_in (map off ys)
 offers_of_both off xs ys = ap offers_in (map-append off xs ys) ∙ offers_append (map off xs) (map off ys)
 
-offers_of_rows : (off : Entry → Option Offer) (rows : Object → List Entry) (os : List Object)
+offers_of_rows : (off : InputSymbol → Option Offer) (rows : Object → List InputSymbol) (os : List Object)
     → all_offers (map (map off) (map rows os)) ≡ offers_in (map off (flat_map rows os))
 offers_of_rows off rows [] = refl
 offers_of_rows off rows (o ∷ os) =
@@ -104,7 +104,7 @@ pub names_least : (names : List (List ℕ)) (mode : Mode) (objects : List Object
     → LeastIn (all_offers (name_jobs names mode objects)) i (option_map entry_rank (winner (entries mode objects) name))
 names_least names mode objects i name distinct at =
     let p = placed names i name distinct at in
-    let tells : (e : Entry) → Tells i (entry_rank e) (is_definition_of name e) (entry_offer names e) =
+    let tells : (e : InputSymbol) → Tells i (entry_rank e) (is_definition_of name e) (entry_offer names e) =
     λ e. tells_by i (entry_rank e) (is_entry e) (is_named name e) e.defines (number_of names (name_of e)) (p.number (name_of e))
     (p.named (name_of e)) in
     subst (λ w. LeastIn (all_offers (name_jobs names mode objects)) i (option_map entry_rank w)) (sym (winner_is mode objects name))

@@ -7,7 +7,7 @@ use native.Mathlib.Decide.{dec_le}
 use Rattle.least_race.specs.declared.party.Offer.{Offer}
 use Rattle.least_race.specs.Jobs.{Job, offers_in}
 use Rattle.least_race.specs.Race.{offer}
-use Rattle.name_entries.specs.name_rules.Entries.{Entry}
+use Rattle.name_entries.specs.name_rules.Entries.{InputSymbol}
 use Rattle.name_entries.specs.name_rules.Meanings.{entry_rank, least, lesser}
 use Rattle.least_race.proofs.Least.{In}
 use Rattle.name_jobs.proofs.Items.{in_left, in_right, in_either, LeastIn}
@@ -64,12 +64,12 @@ joins xs ys i (Some r) (Some s) h l = (
 
 -- ---- the least of entries
 
-pick : (b : Bool) (e f : Entry) (r s : ℕ) → entry_rank e ≡ r → entry_rank f ≡ s → nat_lt s r ≡ b
+pick : (b : Bool) (e f : InputSymbol) (r s : ℕ) → entry_rank e ≡ r → entry_rank f ≡ s → nat_lt s r ≡ b
     → option_map entry_rank (cond b (Some f) (Some e)) ≡ Some (min r s)
 pick true e f r s re rs t = ap Some (let u : entry_rank f ≡ min r s = rs ∙ grind (arith, nat_tests) in u)
 pick false e f r s re rs t = ap Some (let u : entry_rank e ≡ min r s = re ∙ grind (arith, nat_tests) in u)
 
-pub lesser_rank : (e : Entry) (o : Option Entry) → option_map entry_rank (lesser e o) ≡ lower (entry_rank e) (option_map entry_rank o)
+pub lesser_rank : (e : InputSymbol) (o : Option InputSymbol) → option_map entry_rank (lesser e o) ≡ lower (entry_rank e) (option_map entry_rank o)
 lesser_rank e None = refl
 lesser_rank e (Some f) = pick (nat_lt (entry_rank f) (entry_rank e)) e f (entry_rank e) (entry_rank f) refl refl refl
 
@@ -79,7 +79,7 @@ Tells i r true o = o ≡ Some (offer i r)
 Tells i r false None = Unit {0}
 Tells i r false (Some o) = o.word ≢ i
 
-next : (i : ℕ) (e : Entry) (job : Job) (fs : List Entry) (t : Bool) (o : Option Offer) → Tells i (entry_rank e) t o
+next : (i : ℕ) (e : InputSymbol) (job : Job) (fs : List InputSymbol) (t : Bool) (o : Option Offer) → Tells i (entry_rank e) t o
     → LeastIn (offers_in job) i (option_map entry_rank (least fs))
     → LeastIn (offers_in (o ∷ job)) i (option_map entry_rank (least (cond t (e ∷ fs) fs)))
 next i e job fs true o told l =
@@ -90,7 +90,7 @@ next i e job fs false None told l = l
 next i e job fs false (Some o) told l = skips o (offers_in job) i (option_map entry_rank (least fs)) told l
 
 -- the least of what is offered is the rank of the least entry that passes the test
-pub least_offer : (i : ℕ) (off : Entry → Option Offer) (test : Entry → Bool) → ((e : Entry) → Tells i (entry_rank e) (test e) (off e))
-    → (es : List Entry) → LeastIn (offers_in (map off es)) i (option_map entry_rank (least (filter test es)))
+pub least_offer : (i : ℕ) (off : InputSymbol → Option Offer) (test : InputSymbol → Bool) → ((e : InputSymbol) → Tells i (entry_rank e) (test e) (off e))
+    → (es : List InputSymbol) → LeastIn (offers_in (map off es)) i (option_map entry_rank (least (filter test es)))
 least_offer i off test tells [] = λ o m. absurd m
 least_offer i off test tells (e ∷ es) = next i e (map off es) (filter test es) (test e) (off e) (tells e) (least_offer i off test tells es)

@@ -8,7 +8,7 @@ use Rattle.name_entries.specs.made_symbols.Made.{made}
 use Rattle.least_race.specs.declared.party.Offer.{Offer}
 use Rattle.least_race.specs.Jobs.{Job}
 use Rattle.least_race.specs.Race.{offer}
-use Rattle.name_entries.specs.name_rules.Entries.{Entry, made_from}
+use Rattle.name_entries.specs.name_rules.Entries.{InputSymbol, made_from}
 use Rattle.name_entries.specs.name_rules.Meanings.{entry_rank, where_given}
 use Rattle.name_entries.specs.View.{rows_of, entry_number}
 
@@ -25,7 +25,7 @@ group_jobs names objects = map (λ (o : Object). map (group_offer names o) o.gro
 -- ---- names
 
 -- A definition of a name offers its rank for the name's number: an entry that defines its name, in a kept part or by the linker.
-abbrev pub entry_offer : List (List ℕ) → Entry → Option Offer
+abbrev pub entry_offer : List (List ℕ) → InputSymbol → Option Offer
 entry_offer names e = where_given e.defines (option_map (λ n. offer n (entry_rank e)) (entry_number names e))
 
 -- The first job is the linker's own symbols; each further one is an object, an item one of its symbols.

@@ -14,7 +14,7 @@ use Rattle.name_entries.specs.object_file.declared.object.Object.{Object}
 use Rattle.name_entries.specs.made_symbols.declared.mode.Mode.TheVariants.{Plain}
 use Rattle.name_entries.specs.name_rules.declared.meaning.Meaning.{Meaning as Told}
 use Rattle.name_entries.specs.name_rules.declared.meaning.Meaning.TheVariants.{Here, Import, Null, Nothing}
-use Rattle.name_entries.specs.name_rules.Entries.{Entry, ImportKey, is_kind, name_of, named, entries, same_import}
+use Rattle.name_entries.specs.name_rules.Entries.{InputSymbol, ImportKey, is_kind, name_of, named, entries, same_import}
 use Rattle.name_entries.specs.name_rules.Meanings.{Meaning, here, imported, null, nothing, winner, entry_rank, references, least_import, may_import, may_be_null, where_given, own_meaning}
 use Rattle.name_entries.specs.declared.entry.EntryRef.{EntryRef}
 use Rattle.name_entries.specs.View.{entry_at}
@@ -116,19 +116,19 @@ finds_same k f told m found means none = record {
 
 -- ---- a symbol that is no entry
 
-own_means : (imports : List ImportKey) (e : Entry) (input place : ℕ) (defines : Bool) → e.input ≡ input → e.place ≡ place → 0 < input
+own_means : (imports : List ImportKey) (e : InputSymbol) (input place : ℕ) (defines : Bool) → e.input ≡ input → e.place ≡ place → 0 < input
     → Means imports (if defines then Here input place else Nothing) (if defines then here e else nothing)
 own_means imports e input place true input_is place_is some = (input_is, place_is, some)
 own_means imports e input place false input_is place_is some = tt
 
-own_none : (e : Entry) (defines : Bool) → import_meant (if defines then here e else nothing) ≡ None
+own_none : (e : InputSymbol) (defines : Bool) → import_meant (if defines then here e else nothing) ≡ None
 own_none e true = refl
 own_none e false = refl
 
 pub finds_itself : (k : Known) (f : Found) (object place : ℕ) (r : EntryRef) (told : Told) → IsKnown k → FoundBy k f
     → AreShown k.entries.names.now.names (Some r) (entry_at k.entries.objects.now object place) → r.number ≡ None
     → told ≡ (if r.defines then Here r.input r.place else Nothing)
-    → (e : Entry) → entry_at k.entries.objects.now object place ≡ Some e → Finds k told (meant k e) f f
+    → (e : InputSymbol) → entry_at k.entries.objects.now object place ≡ Some e → Finds k told (meant k e) f f
 finds_itself k f object place r told known found shown none is e at =
     let s : Shows k.entries.names.now.names r e = subst (AreShown k.entries.names.now.names (Some r)) at shown in
     let numbers = known.fits.numbers in
@@ -144,26 +144,26 @@ finds_itself k f object place r told known found shown none is e at =
 
 -- ---- an entry
 
-pub shown_entry : (names : List (List ℕ)) (r : EntryRef) (o : Option Entry) → AreShown names (Some r) o → (e : Entry) × (o ≡ Some e) × Shows names r e
+pub shown_entry : (names : List (List ℕ)) (r : EntryRef) (o : Option InputSymbol) → AreShown names (Some r) o → (e : InputSymbol) × (o ≡ Some e) × Shows names r e
 shown_entry names r None shown = absurd shown
 shown_entry names r (Some e) shown = (e, refl, shown)
 
-won : (w : Option Entry) (rank : ℕ) → option_map entry_rank w ≡ Some rank → (d : Entry) × (w ≡ Some d) × (rank ≡ entry_rank d)
+won : (w : Option InputSymbol) (rank : ℕ) → option_map entry_rank w ≡ Some rank → (d : InputSymbol) × (w ≡ Some d) × (rank ≡ entry_rank d)
 won None rank is = absurd cc
 won (Some d) rank is = (d, refl, ap (λ o. unwrap_or o rank) (sym is))
 
-not_won : (w : Option Entry) → option_map entry_rank w ≡ None → w ≡ None
+not_won : (w : Option InputSymbol) → option_map entry_rank w ≡ None → w ≡ None
 not_won None is = refl
 not_won (Some d) is = absurd cc
 
-abbrev all_of : Known → List Entry
+abbrev all_of : Known → List InputSymbol
 all_of k = entries Plain k.entries.objects.now
 
 pub finds_definition : (k : Known) (f : Found) (object place name rank : ℕ) (r : EntryRef) (told : Told) → IsKnown k → FoundBy k f
     → AreShown k.entries.names.now.names (Some r) (entry_at k.entries.objects.now object place) → r.number ≡ Some name
     → get_or k.winners.now name None ≡ Some rank
-    → ((d : Entry) (imports : List ImportKey) → IsParts d.class d.input d.place → rank ≡ entry_rank d → Means imports told (here d))
-    → (e : Entry) → entry_at k.entries.objects.now object place ≡ Some e → Finds k told (meant k e) f f
+    → ((d : InputSymbol) (imports : List ImportKey) → IsParts d.class d.input d.place → rank ≡ entry_rank d → Means imports told (here d))
+    → (e : InputSymbol) → entry_at k.entries.objects.now object place ≡ Some e → Finds k told (meant k e) f f
 finds_definition k f object place name rank r told known found shown number wins means e at =
     let s : Shows k.entries.names.now.names r e = subst (AreShown k.entries.names.now.names (Some r)) at shown in
     let numbered = numbered_is_entry k.entries.names.now.names e name (sym s.number ∙ number) in
@@ -176,14 +176,14 @@ finds_definition k f object place name rank r told known found shown number wins
     finds_same k f told (meant k e) found (subst (λ m. Means f.imports told m) (sym means_d) (means d f.imports parts ranked)) (ap import_meant means_d)
 
 -- what decides of an entry that no definition wins
-record Undefined (k : Known) (c : Column) (e : Entry) : Type 0 where
+record Undefined (k : Known) (c : Column) (e : InputSymbol) : Type 0 where
   column : IsColumn k.entries.objects.now (references (named (all_of k) (name_of e))) c
   rule : meant k e ≡ decided None (explicit_import_of (named (all_of k) (name_of e))) (k.allow_undefined && may_import (named (all_of k) (name_of e)) e)
       (least_import (references (named (all_of k) (name_of e)))) (may_be_null e)
 
 undefined : (k : Known) (object place name : ℕ) (r : EntryRef) → IsKnown k
     → AreShown k.entries.names.now.names (Some r) (entry_at k.entries.objects.now object place) → r.number ≡ Some name → get_or k.winners.now name None ≡ None
-    → (e : Entry) → entry_at k.entries.objects.now object place ≡ Some e → Undefined k (get_or k.columns.now name empty_column) e
+    → (e : InputSymbol) → entry_at k.entries.objects.now object place ≡ Some e → Undefined k (get_or k.columns.now name empty_column) e
 undefined k object place name r known shown number loses e at =
     let s : Shows k.entries.names.now.names r e = subst (AreShown k.entries.names.now.names (Some r)) at shown in
     let numbered = numbered_is_entry k.entries.names.now.names e name (sym s.number ∙ number) in
@@ -199,14 +199,14 @@ undefined k object place name r known shown number loses e at =
     }
 
 abbrev SourceIs : Known → Column → EntryRef → Option At → Type 0
-SourceIs k c r o = (e : Entry) → e.symbol ≡ symbol_seen r.symbol
+SourceIs k c r o = (e : InputSymbol) → e.symbol ≡ symbol_seen r.symbol
     → o ≡ or_else c.explicit (where_given (k.allow_undefined && ((is_kind Function e || is_kind GlobalVar e) && c.strong)) c.least)
 
 -- the import of an entry that no definition wins, if it means one
-abbrev sought : Known → Entry → Option ImportKey
+abbrev sought : Known → InputSymbol → Option ImportKey
 sought k e = or_else (explicit_import_of (named (all_of k) (name_of e))) (where_given (k.allow_undefined && may_import (named (all_of k) (name_of e)) e) (least_import (references (named (all_of k) (name_of e)))))
 
-source_is : (k : Known) (c : Column) (r : EntryRef) (e : Entry) (o : Option At) → Undefined k c e → e.symbol ≡ symbol_seen r.symbol → SourceIs k c r o → StandsOn k.entries.objects.now o (sought k e)
+source_is : (k : Known) (c : Column) (r : EntryRef) (e : InputSymbol) (o : Option At) → Undefined k c e → e.symbol ≡ symbol_seen r.symbol → SourceIs k c r o → StandsOn k.entries.objects.now o (sought k e)
 source_is k c r e o u symbol is =
     let es = named (all_of k) (name_of e) in
     let same : o ≡ or_else c.explicit (where_given (k.allow_undefined && may_import es e) c.least) =
@@ -218,7 +218,7 @@ source_is k c r e o u symbol is =
 pub source_stands_on : (k : Known) (object place name : ℕ) (r : EntryRef) (at : At) → IsKnown k
     → AreShown k.entries.names.now.names (Some r) (entry_at k.entries.objects.now object place) → r.number ≡ Some name → get_or k.winners.now name None ≡ None
     → SourceIs k (get_or k.columns.now name empty_column) r (Some at)
-    → (e : Entry) → entry_at k.entries.objects.now object place ≡ Some e → (key : ImportKey) × (meant k e ≡ imported key) × (import_at k.entries.objects.now at ≡ Some key)
+    → (e : InputSymbol) → entry_at k.entries.objects.now object place ≡ Some e → (key : ImportKey) × (meant k e ≡ imported key) × (import_at k.entries.objects.now at ≡ Some key)
 source_stands_on k object place name r at known shown number loses is e there =
     let s : Shows k.entries.names.now.names r e = subst (AreShown k.entries.names.now.names (Some r)) there shown in
     let c = get_or k.columns.now name empty_column in
@@ -252,7 +252,7 @@ pub finds_import : (k : Known) (old new : Found) (object place name number : ℕ
     → AreShown k.entries.names.now.names (Some r) (entry_at k.entries.objects.now object place) → r.number ≡ Some name → get_or k.winners.now name None ≡ None
     → SourceIs k (get_or k.columns.now name empty_column) r (Some at)
     → ((key : ImportKey) → import_at k.entries.objects.now at ≡ Some key → IsNumbered k number key old new)
-    → (e : Entry) → entry_at k.entries.objects.now object place ≡ Some e → Finds k (Import number) (meant k e) old new
+    → (e : InputSymbol) → entry_at k.entries.objects.now object place ≡ Some e → Finds k (Import number) (meant k e) old new
 finds_import k old new object place name number r at known shown loses_number loses is numbered e there =
     let (key, means, stands) = source_stands_on k object place name r at known shown loses_number loses is e there in
     let found = numbered key stands in
@@ -269,8 +269,8 @@ absent_none false = refl
 pub finds_absent : (k : Known) (f : Found) (object place name : ℕ) (r : EntryRef) (told : Told) → IsKnown k → FoundBy k f
     → AreShown k.entries.names.now.names (Some r) (entry_at k.entries.objects.now object place) → r.number ≡ Some name → get_or k.winners.now name None ≡ None
     → SourceIs k (get_or k.columns.now name empty_column) r None
-    → ((e : Entry) → e.symbol ≡ symbol_seen r.symbol → told ≡ (if may_be_null e then Null else Nothing))
-    → (e : Entry) → entry_at k.entries.objects.now object place ≡ Some e → Finds k told (meant k e) f f
+    → ((e : InputSymbol) → e.symbol ≡ symbol_seen r.symbol → told ≡ (if may_be_null e then Null else Nothing))
+    → (e : InputSymbol) → entry_at k.entries.objects.now object place ≡ Some e → Finds k told (meant k e) f f
 finds_absent k f object place name r told known found shown number loses is absent e there =
     let s : Shows k.entries.names.now.names r e = subst (AreShown k.entries.names.now.names (Some r)) there shown in
     let c = get_or k.columns.now name empty_column in

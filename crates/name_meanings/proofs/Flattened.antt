@@ -7,39 +7,39 @@ use Rattle.std.proofs.lemmas.Grind.{flat_map-append}
 use Rattle.std.proofs.lemmas.List.Folds.{flat_map-map}
 use Rattle.std.proofs.lemmas.Option.{slice_get-get_or}
 use Rattle.name_entries.specs.object_file.declared.object.Object.{Object}
-use Rattle.name_entries.specs.name_rules.Entries.{Entry, symbols_of}
+use Rattle.name_entries.specs.name_rules.Entries.{InputSymbol, symbols_of}
 use Rattle.name_entries.specs.View.{rows_of}
 use Rattle.name_meanings.specs.declared.columns.Column.{Column}
 use Rattle.name_meanings.specs.Columns.{AreColumns, all_symbols}
 
 -- the first symbol of some
-pub with_first : (row : List Entry) → 0 < length row → Entry
+pub with_first : (row : List InputSymbol) → 0 < length row → InputSymbol
 with_first [] within = absurd (omega arith)
 with_first (e ∷ es) within = e
 
-pub symbol_more : (names : List (List ℕ)) (objects : List Object) (row : List Entry) (p : ℕ) (old new : List Column) (seen : List Entry) → p < length row
-    → ((before : List Entry) (e : Entry) → slice_get row p ≡ Some e → AreColumns names objects before old → AreColumns names objects (before ++ e ∷ []) new)
+pub symbol_more : (names : List (List ℕ)) (objects : List Object) (row : List InputSymbol) (p : ℕ) (old new : List Column) (seen : List InputSymbol) → p < length row
+    → ((before : List InputSymbol) (e : InputSymbol) → slice_get row p ≡ Some e → AreColumns names objects before old → AreColumns names objects (before ++ e ∷ []) new)
     → AreColumns names objects (seen ++ take p row) old → AreColumns names objects (seen ++ take (p + 1) row) new
 symbol_more names objects row p old new seen within step before =
     let some : 0 < length row = omega arith in
-    let d : Entry = with_first row some in
+    let d : InputSymbol = with_first row some in
     let after = step (seen ++ take p row) (get_or row p d) (slice_get-get_or row p d within) before in
     subst (λ es. AreColumns names objects es new) (append_assoc seen (take p row) (get_or row p d ∷ []) ∙ ap (λ es. seen ++ es) (sym (take_more row p d within))) after
 
-pub row_whole : (names : List (List ℕ)) (objects : List Object) (row : List Entry) (p : ℕ) (seen : List Entry) (columns : List Column) → length row ≤ p
+pub row_whole : (names : List (List ℕ)) (objects : List Object) (row : List InputSymbol) (p : ℕ) (seen : List InputSymbol) (columns : List Column) → length row ≤ p
     → AreColumns names objects (seen ++ take p row) columns → AreColumns names objects (seen ++ row) columns
 row_whole names objects row p seen columns past before = subst (λ es. AreColumns names objects (seen ++ es) columns) (take_all p row past) before
 
-abbrev together : List (List Entry) → List Entry
+abbrev together : List (List InputSymbol) → List InputSymbol
 together rows = flat_map (λ r. r) rows
 
-together_more : (rows : List (List Entry)) (i : ℕ) → i < length rows → together (take (i + 1) rows) ≡ together (take i rows) ++ get_or rows i []
+together_more : (rows : List (List InputSymbol)) (i : ℕ) → i < length rows → together (take (i + 1) rows) ≡ together (take i rows) ++ get_or rows i []
 together_more rows i within =
-    ap together (take_more rows i [] within) ∙ flat_map-append (λ (r : List Entry). r) (take i rows) (get_or rows i [] ∷ [])
+    ap together (take_more rows i [] within) ∙ flat_map-append (λ (r : List InputSymbol). r) (take i rows) (get_or rows i [] ∷ [])
     ∙ ap (λ r. together (take i rows) ++ r) (append-nil (get_or rows i []))
 
-pub object_more : (names : List (List ℕ)) (objects : List Object) (rows : List (List Entry)) (i : ℕ) (old new : List Column) → i < length rows
-    → ((seen : List Entry) → AreColumns names objects seen old → AreColumns names objects (seen ++ get_or rows i []) new)
+pub object_more : (names : List (List ℕ)) (objects : List Object) (rows : List (List InputSymbol)) (i : ℕ) (old new : List Column) → i < length rows
+    → ((seen : List InputSymbol) → AreColumns names objects seen old → AreColumns names objects (seen ++ get_or rows i []) new)
     → AreColumns names objects (together (take i rows)) old → AreColumns names objects (together (take (i + 1) rows)) new
 object_more names objects rows i old new within step before =
     subst (λ es. AreColumns names objects es new) (sym (together_more rows i within)) (step (together (take i rows)) before)
@@ -47,10 +47,10 @@ object_more names objects rows i old new within step before =
 pub rows_whole : (names : List (List ℕ)) (objects : List Object) (i : ℕ) (columns : List Column) → length (rows_of objects) ≤ i
     → AreColumns names objects (together (take i (rows_of objects))) columns → AreColumns names objects (all_symbols objects) columns
 rows_whole names objects i columns past before =
-    subst (λ es. AreColumns names objects es columns) (ap together (take_all i (rows_of objects) past) ∙ flat_map-map (λ (r : List Entry). r) (symbols_of objects) objects) before
+    subst (λ es. AreColumns names objects es columns) (ap together (take_all i (rows_of objects) past) ∙ flat_map-map (λ (r : List InputSymbol). r) (symbols_of objects) objects) before
 
 -- what a list holds after its slice was written
-pub written : (names : List (List ℕ)) (objects : List Object) (seen : List Entry) (len : ℕ) (items new : List Column) → len ≡ length items → length items ≡ length names
+pub written : (names : List (List ℕ)) (objects : List Object) (seen : List InputSymbol) (len : ℕ) (items new : List Column) → len ≡ length items → length items ≡ length names
     → AreColumns names objects seen new → AreColumns names objects seen (take len (new ++ drop (length new) items))
 written names objects seen len items new counted named after =
     let same : len ≡ length new = counted ∙ named ∙ sym after.count in

@@ -13,7 +13,7 @@ use Rattle.name_entries.specs.wl_base.Names.{number_of}
 use Rattle.name_entries.specs.wl_base.Choice.{first_some, given}
 use Rattle.name_entries.specs.linking_section.Flags.{is_weak, is_explicit}
 use Rattle.name_entries.specs.object_file.declared.object.Object.{Object}
-use Rattle.name_entries.specs.name_rules.Entries.{Entry, ImportKey, key_of, is_entry, name_of}
+use Rattle.name_entries.specs.name_rules.Entries.{InputSymbol, ImportKey, key_of, is_entry, name_of}
 use Rattle.name_entries.specs.name_rules.Meanings.{least_import}
 use Rattle.name_entries.specs.View.{entry_at, entry_number, is_number}
 use Rattle.name_entries.specs.declared.entry.EntryRef.{EntryRef}
@@ -43,9 +43,9 @@ first_one : {A : Type 0} (o : Option A) → first_some (o ∷ []) ≡ o
 first_one (Some a) = refl
 first_one None = refl
 
-least_more : (es : List Entry) (e : Entry) → least_import (es ++ e ∷ []) ≡ or_else (least_import es) e.import
+least_more : (es : List InputSymbol) (e : InputSymbol) → least_import (es ++ e ∷ []) ≡ or_else (least_import es) e.import
 least_more es e =
-    ap first_some (map-append (λ (r : Entry). r.import) es (e ∷ [])) ∙ first_append (map (λ (r : Entry). r.import) es) (e.import ∷ [])
+    ap first_some (map-append (λ (r : InputSymbol). r.import) es (e ∷ [])) ∙ first_append (map (λ (r : InputSymbol). r.import) es) (e.import ∷ [])
     ∙ ap (or_else (least_import es)) (first_one e.import)
 
 given_stands : (objects : List Object) (at : At) (key : Option ImportKey) (stands : Bool) → import_at objects at ≡ key → stands ≡ is_some key
@@ -53,7 +53,7 @@ given_stands : (objects : List Object) (at : At) (key : Option ImportKey) (stand
 given_stands objects at None stands is standing = rw standing refl
 given_stands objects at (Some key) stands is standing = rw standing (ap Some is)
 
-stands_more : (objects : List Object) (first : Option At) (at : At) (es : List Entry) (e : Entry) (stands : Bool) → import_at objects at ≡ e.import → stands ≡ is_some e.import
+stands_more : (objects : List Object) (first : Option At) (at : At) (es : List InputSymbol) (e : InputSymbol) (stands : Bool) → import_at objects at ≡ e.import → stands ≡ is_some e.import
     → StandsOn objects first (least_import es) → StandsOn objects (or_else first (given stands at)) (least_import (es ++ e ∷ []))
 stands_more objects first at es e stands is standing before =
     map_or (import_at objects) first (given stands at)
@@ -65,10 +65,10 @@ or_nothing : {A : Type 0} (o : Option A) → or_else o None ≡ o
 or_nothing (Some a) = refl
 or_nothing None = refl
 
-abbrev explicit_in : List Entry → List Entry
+abbrev explicit_in : List InputSymbol → List InputSymbol
 explicit_in es = filter (λ r. is_explicit r.symbol) es
 
-explicit_more : (objects : List Object) (first : Option At) (at : At) (es : List Entry) (e : Entry) (stands explicit : Bool) → is_explicit e.symbol ≡ explicit
+explicit_more : (objects : List Object) (first : Option At) (at : At) (es : List InputSymbol) (e : InputSymbol) (stands explicit : Bool) → is_explicit e.symbol ≡ explicit
     → import_at objects at ≡ e.import → stands ≡ is_some e.import
     → StandsOn objects first (least_import (explicit_in es)) → StandsOn objects (or_else first (given (stands && explicit) at)) (least_import (explicit_in (es ++ e ∷ [])))
 explicit_more objects first at es e stands true explicit is standing before =
@@ -88,7 +88,7 @@ same_there f None = refl
 
 -- ---- the column, and one more reference
 
-pub column_more : (objects : List Object) (es : List Entry) (e : Entry) (at : At) (stands : Bool) (old new : Column)
+pub column_more : (objects : List Object) (es : List InputSymbol) (e : InputSymbol) (at : At) (stands : Bool) (old new : Column)
     → import_at objects at ≡ e.import → stands ≡ is_some e.import
     → new.explicit ≡ or_else old.explicit (given (stands && is_explicit e.symbol) at)
     → new.least ≡ or_else old.least (given stands at)
@@ -98,40 +98,40 @@ column_more objects es e at stands old new is standing explicit least strong bef
   explicit = ap (option_map (import_at objects)) explicit ∙ explicit_more objects old.explicit at es e stands (is_explicit e.symbol) refl is standing before.explicit;
   least = ap (option_map (import_at objects)) least ∙ stands_more objects old.least at es e stands is standing before.least;
   strong = strong ∙ ap (λ b. b || not (is_weak e.symbol)) before.strong
-      ∙ ap (λ b. list_any (λ (r : Entry). not (is_weak r.symbol)) es || b) (sym (or-false (not (is_weak e.symbol))))
-      ∙ sym (list_any-append (λ (r : Entry). not (is_weak r.symbol)) es (e ∷ []));
+      ∙ ap (λ b. list_any (λ (r : InputSymbol). not (is_weak r.symbol)) es || b) (sym (or-false (not (is_weak e.symbol))))
+      ∙ sym (list_any-append (λ (r : InputSymbol). not (is_weak r.symbol)) es (e ∷ []));
 }
 
 -- ---- the columns of all names
 
-pub skipped : (names : List (List ℕ)) (objects : List Object) (seen : List Entry) (e : Entry) (columns : List Column)
+pub skipped : (names : List (List ℕ)) (objects : List Object) (seen : List InputSymbol) (e : InputSymbol) (columns : List Column)
     → ((i : ℕ) → is_reference_of names i e ≡ false) → AreColumns names objects seen columns → AreColumns names objects (seen ++ e ∷ []) columns
 skipped names objects seen e columns none before = record {
   count = before.count;
   each = λ i within. subst (λ es. IsColumn objects es (get_or columns i empty_column)) (sym (filter_not_more (is_reference_of names i) seen e (none i))) (before.each i within);
 }
 
-unnumbered : (names : List (List ℕ)) (e : Entry) (i : ℕ) → entry_number names e ≡ None → is_reference_of names i e ≡ false
+unnumbered : (names : List (List ℕ)) (e : InputSymbol) (i : ℕ) → entry_number names e ≡ None → is_reference_of names i e ≡ false
 unnumbered names e i none = ap (λ o. is_number i o && not e.defines) none
 
 abbrev is_at : ℕ → ℕ → Bool
 is_at n i = n == i
 
-numbered : (names : List (List ℕ)) (e : Entry) (i n : ℕ) (defines : Bool) → entry_number names e ≡ Some n → e.defines ≡ defines → is_reference_of names i e ≡ (is_at n i && not defines)
+numbered : (names : List (List ℕ)) (e : InputSymbol) (i n : ℕ) (defines : Bool) → entry_number names e ≡ Some n → e.defines ≡ defines → is_reference_of names i e ≡ (is_at n i && not defines)
 numbered names e i n defines at is = ap (λ o. is_number i o && not e.defines) at ∙ ap (λ d. is_at n i && not d) is
 
-defined : (names : List (List ℕ)) (e : Entry) (i : ℕ) → e.defines ≡ true → is_reference_of names i e ≡ false
+defined : (names : List (List ℕ)) (e : InputSymbol) (i : ℕ) → e.defines ≡ true → is_reference_of names i e ≡ false
 defined names e i is = ap (λ d. is_number i (entry_number names e) && not d) is ∙ and-false (is_number i (entry_number names e))
 
 -- what is answered for a symbol that is no reference
-pub skip_unnumbered : (names : List (List ℕ)) (objects : List Object) (r : EntryRef) (o : Option Entry) (columns : List Column) → AreShown names (Some r) o → r.number ≡ None
-    → (seen : List Entry) (e : Entry) → o ≡ Some e → AreColumns names objects seen columns → AreColumns names objects (seen ++ e ∷ []) columns
+pub skip_unnumbered : (names : List (List ℕ)) (objects : List Object) (r : EntryRef) (o : Option InputSymbol) (columns : List Column) → AreShown names (Some r) o → r.number ≡ None
+    → (seen : List InputSymbol) (e : InputSymbol) → o ≡ Some e → AreColumns names objects seen columns → AreColumns names objects (seen ++ e ∷ []) columns
 skip_unnumbered names objects r o columns shown none seen e is before =
     let s : Shows names r e = subst (AreShown names (Some r)) is shown in
     skipped names objects seen e columns (λ i. unnumbered names e i (sym s.number ∙ none)) before
 
-pub skip_defined : (names : List (List ℕ)) (objects : List Object) (r : EntryRef) (o : Option Entry) (columns : List Column) → AreShown names (Some r) o → r.defines ≡ true
-    → (seen : List Entry) (e : Entry) → o ≡ Some e → AreColumns names objects seen columns → AreColumns names objects (seen ++ e ∷ []) columns
+pub skip_defined : (names : List (List ℕ)) (objects : List Object) (r : EntryRef) (o : Option InputSymbol) (columns : List Column) → AreShown names (Some r) o → r.defines ≡ true
+    → (seen : List InputSymbol) (e : InputSymbol) → o ≡ Some e → AreColumns names objects seen columns → AreColumns names objects (seen ++ e ∷ []) columns
 skip_defined names objects r o columns shown defines seen e is before =
     let s : Shows names r e = subst (AreShown names (Some r)) is shown in
     skipped names objects seen e columns (λ i. defined names e i (sym s.defines ∙ defines)) before
@@ -149,13 +149,13 @@ entry_below : (names : List (List ℕ)) (name : List ℕ) (n : ℕ) (entry : Boo
 entry_below names name n true at = number_below names name n at
 entry_below names name n false at = absurd cc
 
-pub shown_below : (names : List (List ℕ)) (r : EntryRef) (o : Option Entry) (n : ℕ) → AreShown names (Some r) o → r.number ≡ Some n → n < length names
+pub shown_below : (names : List (List ℕ)) (r : EntryRef) (o : Option InputSymbol) (n : ℕ) → AreShown names (Some r) o → r.number ≡ Some n → n < length names
 shown_below names r None n shown at = absurd shown
 shown_below names r (Some e) n shown at = entry_below names (name_of e) n (is_entry e) (sym shown.number ∙ at)
 
 -- ---- a reference
 
-noted_at : (names : List (List ℕ)) (objects : List Object) (columns : List Column) (n : ℕ) (new : Column) (seen : List Entry) (e : Entry)
+noted_at : (names : List (List ℕ)) (objects : List Object) (columns : List Column) (n : ℕ) (new : Column) (seen : List InputSymbol) (e : InputSymbol)
     → n < length columns → is_reference_of names n e ≡ true → IsColumn objects (filter (is_reference_of names n) seen ++ e ∷ []) new
     → IsColumn objects (filter (is_reference_of names n) (seen ++ e ∷ [])) (get_or (set columns n new) n empty_column)
 noted_at names objects columns n new seen e within is column =
@@ -163,7 +163,7 @@ noted_at names objects columns n new seen e within is column =
     let same : get_or (set columns n new) n empty_column ≡ new = get_or-set_same columns n new empty_column within in
     subst (λ c. IsColumn objects (filter (is_reference_of names n) (seen ++ e ∷ [])) c) (sym same) (subst (λ es. IsColumn objects es new) (sym more) column)
 
-noted_else : (names : List (List ℕ)) (objects : List Object) (columns : List Column) (n i : ℕ) (new : Column) (seen : List Entry) (e : Entry)
+noted_else : (names : List (List ℕ)) (objects : List Object) (columns : List Column) (n i : ℕ) (new : Column) (seen : List InputSymbol) (e : InputSymbol)
     → (i ≡ n → ⊥) → is_reference_of names i e ≡ false → IsColumn objects (filter (is_reference_of names i) seen) (get_or columns i empty_column)
     → IsColumn objects (filter (is_reference_of names i) (seen ++ e ∷ [])) (get_or (set columns n new) i empty_column)
 noted_else names objects columns n i new seen e other none column =
@@ -180,11 +180,11 @@ not_at n i other = by_test (n == i) (λ is. other (sym (eqb-true n i is)))
 
 pub noted : (names : List (List ℕ)) (objects : List Object) (r : EntryRef) (object place n : ℕ) (found : Option ImportRef) (stands : Bool) (columns : List Column) (new : Column)
     → AreShown names (Some r) (entry_at objects object place) → r.number ≡ Some n → r.defines ≡ false
-    → ((e : Entry) → entry_at objects object place ≡ Some e → option_map (λ i. key_of e.type (import_seen i)) found ≡ e.import) → stands ≡ is_some found
+    → ((e : InputSymbol) → entry_at objects object place ≡ Some e → option_map (λ i. key_of e.type (import_seen i)) found ≡ e.import) → stands ≡ is_some found
     → new.explicit ≡ or_else (get_or columns n empty_column).explicit (given (stands && is_explicit (symbol_seen r.symbol)) (record { object = object; place = place }))
     → new.least ≡ or_else (get_or columns n empty_column).least (given stands (record { object = object; place = place }))
     → new.strong ≡ ((get_or columns n empty_column).strong || not (is_weak (symbol_seen r.symbol)))
-    → (seen : List Entry) (e : Entry) → entry_at objects object place ≡ Some e → AreColumns names objects seen columns → AreColumns names objects (seen ++ e ∷ []) (set columns n new)
+    → (seen : List InputSymbol) (e : InputSymbol) → entry_at objects object place ≡ Some e → AreColumns names objects seen columns → AreColumns names objects (seen ++ e ∷ []) (set columns n new)
 noted names objects r object place n found stands columns new shown number reference import standing explicit least strong seen e is before =
     let s : Shows names r e = subst (AreShown names (Some r)) is shown in
     let at : At = record { object = object; place = place } in
@@ -193,7 +193,7 @@ noted names objects r object place n found stands columns new shown number refer
     let within_columns : n < length columns = subst (λ m. n < m) (sym before.count) within in
     let has_number : entry_number names e ≡ Some n = sym s.number ∙ number in
     let test : (i : ℕ) → is_reference_of names i e ≡ (is_at n i && not false) = λ i. numbered names e i n false has_number (sym s.defines ∙ reference) in
-    let stands_on : import_at objects at ≡ e.import = ap (option_and_then (λ (x : Entry). x.import)) is in
+    let stands_on : import_at objects at ≡ e.import = ap (option_and_then (λ (x : InputSymbol). x.import)) is in
     let stands_is : stands ≡ is_some e.import = standing ∙ same_there (λ i. key_of e.type (import_seen i)) found ∙ ap is_some (import e is) in
     let column = column_more objects (filter (is_reference_of names n) seen) e at stands old new stands_on stands_is
     (explicit ∙ ap (λ t. or_else old.explicit (given (stands && is_explicit t) at)) s.symbol) least (strong ∙ ap (λ t. old.strong || not (is_weak t)) s.symbol) (before.each n within) in

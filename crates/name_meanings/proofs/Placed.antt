@@ -15,52 +15,52 @@ use Rattle.name_entries.specs.made_symbols.declared.mode.Mode.{Mode}
 use Rattle.name_entries.specs.made_symbols.declared.mode.Mode.TheVariants.{Plain}
 use Rattle.name_entries.specs.made_symbols.Made.{MadeSymbol, made}
 use Rattle.name_entries.specs.link_names.Numbered.{Numbered, AreNumbers, is_entry_symbol, symbol_name, symbol_number, entry_names, Held, Short}
-use Rattle.name_entries.specs.name_rules.Entries.{Entry, entries_from, made_from, is_entry, entries, name_of, is_named, symbols_of, named}
+use Rattle.name_entries.specs.name_rules.Entries.{InputSymbol, entries_from, made_from, is_entry, entries, name_of, is_named, symbols_of, named}
 use Rattle.name_entries.specs.name_rules.Meanings.{entry_rank, lesser, least, winner, definitions}
 use Rattle.name_entries.specs.View.{rows_of, entry_at, entry_number, InputsRise}
 
-abbrev pub Each : (Entry → Type 0) → List Entry → Type 0
+abbrev pub Each : (InputSymbol → Type 0) → List InputSymbol → Type 0
 Each P [] = Unit {0}
 Each P (e ∷ es) = P e × Each P es
 
-each_append : (P : Entry → Type 0) (xs ys : List Entry) → Each P xs → Each P ys → Each P (xs ++ ys)
+each_append : (P : InputSymbol → Type 0) (xs ys : List InputSymbol) → Each P xs → Each P ys → Each P (xs ++ ys)
 each_append P [] ys first second = second
 each_append P (x ∷ xs) ys first second = (first.0, each_append P xs ys first.1 second)
 
-each_kept : (P : Entry → Type 0) (kept : Bool) (e : Entry) (rest : List Entry) → P e → Each P rest → Each P (if kept then e ∷ rest else rest)
+each_kept : (P : InputSymbol → Type 0) (kept : Bool) (e : InputSymbol) (rest : List InputSymbol) → P e → Each P rest → Each P (if kept then e ∷ rest else rest)
 each_kept P true e rest first second = (first, second)
 each_kept P false e rest first second = second
 
-each_filter : (P : Entry → Type 0) (q : Entry → Bool) (es : List Entry) → Each P es → Each P (filter q es)
+each_filter : (P : InputSymbol → Type 0) (q : InputSymbol → Bool) (es : List InputSymbol) → Each P es → Each P (filter q es)
 each_filter P q [] all = tt
 each_filter P q (e ∷ es) all = each_kept P (q e) e (filter q es) all.0 (each_filter P q es all.1)
 
-each_at : (P : Entry → Type 0) (es : List Entry) (k : ℕ) (e : Entry) → Each P es → slice_get es k ≡ Some e → P e
+each_at : (P : InputSymbol → Type 0) (es : List InputSymbol) (k : ℕ) (e : InputSymbol) → Each P es → slice_get es k ≡ Some e → P e
 each_at P es k e all at = by_place es k all (slice_get_within es k e at) (get_or_from_slice_get es k e e at)
   where
-    by_place : (xs : List Entry) (i : ℕ) → Each P xs → i < length xs → get_or xs i e ≡ e → P e
+    by_place : (xs : List InputSymbol) (i : ℕ) → Each P xs → i < length xs → get_or xs i e ≡ e → P e
     by_place [] i all within is = absurd (omega arith)
     by_place (x ∷ xs) zero all within is = subst P is all.0
     by_place (x ∷ xs) (suc i) all within is = by_place xs i all.1 (omega arith) is
 
-lesser_is : (P : Entry → Type 0) (e f d : Entry) (second : Bool) → P e → P f → (if second then Some f else Some e) ≡ Some d → P d
+lesser_is : (P : InputSymbol → Type 0) (e f d : InputSymbol) (second : Bool) → P e → P f → (if second then Some f else Some e) ≡ Some d → P d
 lesser_is P e f d true first holds same = subst P (ap (λ o. unwrap_or o e) same) holds
 lesser_is P e f d false first holds same = subst P (ap (λ o. unwrap_or o e) same) first
 
-lesser_holds : (P : Entry → Type 0) (e : Entry) (rest : Option Entry) (d : Entry) → P e → ((f : Entry) → rest ≡ Some f → P f) → lesser e rest ≡ Some d → P d
+lesser_holds : (P : InputSymbol → Type 0) (e : InputSymbol) (rest : Option InputSymbol) (d : InputSymbol) → P e → ((f : InputSymbol) → rest ≡ Some f → P f) → lesser e rest ≡ Some d → P d
 lesser_holds P e None d first others same = subst P (ap (λ o. unwrap_or o e) same) first
 lesser_holds P e (Some f) d first others same = lesser_is P e f d (nat_lt (entry_rank f) (entry_rank e)) first (others f refl) same
 
-each_least : (P : Entry → Type 0) (es : List Entry) (d : Entry) → Each P es → least es ≡ Some d → P d
+each_least : (P : InputSymbol → Type 0) (es : List InputSymbol) (d : InputSymbol) → Each P es → least es ≡ Some d → P d
 each_least P [] d all is = absurd cc
 each_least P (e ∷ es) d all is = lesser_holds P e (least es) d all.0 (λ f found. each_least P es f all.1 found) is
 
 -- ---- the parts of entries
 
-abbrev pub HasParts : Entry → Type 0
+abbrev pub HasParts : InputSymbol → Type 0
 HasParts e = IsParts e.class e.input e.place
 
-abbrev pub Placed : Entry → Type 0
+abbrev pub Placed : InputSymbol → Type 0
 Placed e = HasParts e × (0 < e.input)
 
 small_class : (weak : Bool) → (if weak then 1 else 0) < 3
@@ -98,7 +98,7 @@ placed_in_row objects names last (o ∷ os) zero rise short =
 placed_in_row objects names last (o ∷ os) (suc i) rise short =
     placed_in_row objects names o.input os i rise.2 (All-tail (λ (numbers : List (Option ℕ)). Short numbers) (numbers_in names o) (map (numbers_in names) os) short)
 
-each_weaker : (P Q : Entry → Type 0) → ((e : Entry) → P e → Q e) → (es : List Entry) → Each P es → Each Q es
+each_weaker : (P Q : InputSymbol → Type 0) → ((e : InputSymbol) → P e → Q e) → (es : List InputSymbol) → Each P es → Each Q es
 each_weaker P Q weaker [] all = tt
 each_weaker P Q weaker (e ∷ es) all = (weaker e all.0, each_weaker P Q weaker es all.1)
 
@@ -110,7 +110,7 @@ parts_made k (m ∷ ms) small short =
     let rest : (k + 1) + length ms ≤ 2 ^ 32 = omega arith in
     (record { class = ltb-true m.class 3 two.0; input = omega arith; symbol = below }, parts_made (k + 1) ms two.1 rest)
 
-pub winner_has_parts : (objects : List Object) (n : Numbered) (name : List ℕ) (d : Entry) → AreNumbers Plain objects n → InputsRise 0 objects → winner (entries Plain objects) name ≡ Some d → HasParts d
+pub winner_has_parts : (objects : List Object) (n : Numbered) (name : List ℕ) (d : InputSymbol) → AreNumbers Plain objects n → InputsRise 0 objects → winner (entries Plain objects) name ≡ Some d → HasParts d
 unfolding entries
 winner_has_parts objects n name d numbers rise wins =
     let all = flat_map (symbols_of objects) objects in
@@ -118,16 +118,16 @@ winner_has_parts objects n name d numbers rise wins =
     let objects_have = each_weaker Placed HasParts (λ e p. p.0) all (placed_in objects n.names 0 objects rise short) in
     let have = each_append HasParts (made_from 0 (made Plain)) (filter is_entry all) (parts_made 0 (made Plain) refl (omega arith)) (each_filter HasParts is_entry all objects_have) in
     each_least HasParts (definitions (entries Plain objects) name) d
-    (each_filter HasParts (λ (e : Entry). e.defines) (named (entries Plain objects) name) (each_filter HasParts (is_named name) (entries Plain objects) have)) wins
+    (each_filter HasParts (λ (e : InputSymbol). e.defines) (named (entries Plain objects) name) (each_filter HasParts (is_named name) (entries Plain objects) have)) wins
 
-pub entry_is_placed : (objects : List Object) (mode : Mode) (n : Numbered) (object place : ℕ) (e : Entry) → AreNumbers mode objects n → InputsRise 0 objects → entry_at objects object place ≡ Some e → Placed e
+pub entry_is_placed : (objects : List Object) (mode : Mode) (n : Numbered) (object place : ℕ) (e : InputSymbol) → AreNumbers mode objects n → InputsRise 0 objects → entry_at objects object place ≡ Some e → Placed e
 entry_is_placed objects mode n object place e numbers rise at =
     let short = subst (All (λ (l : List (Option ℕ)). Short l)) numbers.symbols numbers.short in
     each_at Placed (get_or (rows_of objects) object []) place e (placed_in_row objects n.names 0 objects object rise short) at
 
 -- ---- the names of entries
 
-abbrev HasNumber : List (List ℕ) → Entry → Type 0
+abbrev HasNumber : List (List ℕ) → InputSymbol → Type 0
 HasNumber names e = is_entry e ≡ true → IsSome (number_of names (name_of e))
 
 held_split : (names : List (List ℕ)) (s : Symbol) (kept : Bool) (rest : List Symbol) → All (Held names) (map symbol_name (if kept then s ∷ rest else rest))
@@ -154,7 +154,7 @@ no_entry names name true held none =
     sym some ∙ not_some
 no_entry names name false held none = refl
 
-pub unnumbered_is_none : (mode : Mode) (objects : List Object) (n : Numbered) (object place : ℕ) (e : Entry) → AreNumbers mode objects n → entry_at objects object place ≡ Some e
+pub unnumbered_is_none : (mode : Mode) (objects : List Object) (n : Numbered) (object place : ℕ) (e : InputSymbol) → AreNumbers mode objects n → entry_at objects object place ≡ Some e
     → entry_number n.names e ≡ None → is_entry e ≡ false
 unnumbered_is_none mode objects n object place e numbers at none =
     no_entry n.names (name_of e) (is_entry e) (each_at (HasNumber n.names) (get_or (rows_of objects) object []) place e (held_rows n.names objects objects object numbers.symbols_held) at) none
@@ -163,5 +163,5 @@ is_numbered : (names : List (List ℕ)) (name : List ℕ) (number : ℕ) (entry 
 is_numbered names name number true at = (refl, at)
 is_numbered names name number false at = absurd cc
 
-pub numbered_is_entry : (names : List (List ℕ)) (e : Entry) (number : ℕ) → entry_number names e ≡ Some number → (is_entry e ≡ true) × (number_of names (name_of e) ≡ Some number)
+pub numbered_is_entry : (names : List (List ℕ)) (e : InputSymbol) (number : ℕ) → entry_number names e ≡ Some number → (is_entry e ≡ true) × (number_of names (name_of e) ≡ Some number)
 numbered_is_entry names e number at = is_numbered names (name_of e) number (is_entry e) at

@@ -8,7 +8,7 @@ use Rattle.std.proofs.lemmas.Option.{slice_get-get_or}
 use Rattle.name_entries.specs.wl_base.Choice.{distinct_onto}
 use Rattle.name_entries.specs.name_rules.declared.meaning.Meaning.{Meaning as Told}
 use Rattle.name_entries.specs.name_rules.declared.meaning.Meaning.TheVariants.{Here, Made, Import, Null, Nothing}
-use Rattle.name_entries.specs.name_rules.Entries.{Entry, ImportKey, same_import}
+use Rattle.name_entries.specs.name_rules.Entries.{InputSymbol, ImportKey, same_import}
 use Rattle.name_entries.specs.name_rules.Meanings.{Meaning, here, imported, null, nothing}
 use Rattle.name_meanings.specs.declared.naming.Known.{Known}
 use Rattle.name_meanings.specs.declared.naming.Found.{Found}
@@ -76,12 +76,12 @@ row_more k row ms old f g t m before finds =
       found = finds.found;
     }
 
-pub row_symbol : (k : Known) (row : List Told) (es : List Entry) (p : ℕ) (old : List ImportKey) (f g : Found) (t : Told) → p < length es
-    → IsRow k row (map (meant k) (take p es)) old f → ((e : Entry) → slice_get es p ≡ Some e → Finds k t (meant k e) f g)
+pub row_symbol : (k : Known) (row : List Told) (es : List InputSymbol) (p : ℕ) (old : List ImportKey) (f g : Found) (t : Told) → p < length es
+    → IsRow k row (map (meant k) (take p es)) old f → ((e : InputSymbol) → slice_get es p ≡ Some e → Finds k t (meant k e) f g)
     → IsRow k (row ++ t ∷ []) (map (meant k) (take (p + 1) es)) old g
 row_symbol k row es p old f g t within before finds =
     let some : 0 < length es = omega arith in
-    let d : Entry = with_first es some in
+    let d : InputSymbol = with_first es some in
     let e = get_or es p d in
     let more : map (meant k) (take (p + 1) es) ≡ map (meant k) (take p es) ++ meant k e ∷ [] =
     ap (map (meant k)) (take_more es p d within) ∙ map-append (meant k) (take p es) (e ∷ []) in

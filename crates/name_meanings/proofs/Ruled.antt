@@ -5,24 +5,24 @@ use Rattle.name_entries.specs.wl_base.Choice.{first_some, given}
 use Rattle.name_entries.specs.linking_section.Flags.{is_explicit}
 use Rattle.name_entries.specs.object_file.declared.object.Object.{Object}
 use Rattle.name_entries.specs.made_symbols.declared.mode.Mode.TheVariants.{Plain}
-use Rattle.name_entries.specs.name_rules.Entries.{Entry, ImportKey, is_entry, name_of, named}
+use Rattle.name_entries.specs.name_rules.Entries.{InputSymbol, ImportKey, is_entry, name_of, named}
 use Rattle.name_entries.specs.name_rules.Meanings.{Meaning, here, imported, null, nothing, winner, references, least_import, may_import, may_be_null, where_given, own_meaning, meaning, by_rules, no_uses}
 use Rattle.name_meanings.specs.declared.columns.At.{At}
 use Rattle.name_meanings.specs.Columns.{or_else, import_at, StandsOn}
 use Rattle.name_meanings.proofs.Noted.{map_or}
 
-abbrev pub decided : Option Entry → Option ImportKey → Bool → Option ImportKey → Bool → Meaning
+abbrev pub decided : Option InputSymbol → Option ImportKey → Bool → Option ImportKey → Bool → Meaning
 decided w x may l none = unwrap_or (first_some (option_map here w ∷ option_map imported x ∷ option_map imported (where_given may l) ∷ given none null ∷ [])) nothing
 
-abbrev pub explicit_import_of : List Entry → Option ImportKey
+abbrev pub explicit_import_of : List InputSymbol → Option ImportKey
 explicit_import_of es = least_import (filter (λ r. is_explicit r.symbol) (references es))
 
-pub ruled : (allow : Bool) (all : List Entry) (e : Entry) → is_entry e ≡ true
+pub ruled : (allow : Bool) (all : List InputSymbol) (e : InputSymbol) → is_entry e ≡ true
     → meaning Plain no_uses allow all e
     ≡ decided (winner all (name_of e)) (explicit_import_of (named all (name_of e))) (allow && may_import (named all (name_of e)) e) (least_import (references (named all (name_of e)))) (may_be_null e)
 ruled allow all e is = ap (λ b. if b then by_rules Plain no_uses allow (named all (name_of e)) e else own_meaning e) is
 
-pub unruled : (allow : Bool) (all : List Entry) (e : Entry) → is_entry e ≡ false → meaning Plain no_uses allow all e ≡ own_meaning e
+pub unruled : (allow : Bool) (all : List InputSymbol) (e : InputSymbol) → is_entry e ≡ false → meaning Plain no_uses allow all e ≡ own_meaning e
 unruled allow all e is = ap (λ b. if b then by_rules Plain no_uses allow (named all (name_of e)) e else own_meaning e) is
 
 pub by_import : (x : Option ImportKey) (may : Bool) (l : Option ImportKey) (none : Bool) (key : ImportKey) → or_else x (where_given may l) ≡ Some key → decided None x may l none ≡ imported key

@@ -6,7 +6,7 @@ use Rattle.name_entries.specs.name_rules.Rows.{f, key}
 use Rattle.name_meanings.specs.Means.{imports_meant}
 
 abbrev other_module : ImportKey
-other_module = record (key f) { place = codes "n" }
+other_module = record (key f) { module_name = codes "n" }
 
 abbrev other_type : ImportKey
 other_type = record (key f) { type = untyped }

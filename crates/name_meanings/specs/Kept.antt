@@ -12,7 +12,7 @@ type_kept (GlobalVar kind var) = of_global (record { kind = kind; var = var })
 type_kept Untyped = untyped
 
 abbrev pub import_of : OutputImport → ImportKey
-import_of i = record { place = i.«module»; field = i.field; type = type_kept i.kind }
+import_of i = record { module_name = i.«module»; field = i.field; type = type_kept i.kind }
 
 -- Imports and one more, which goes last where it is new.
 abbrev pub with_import : List ImportKey → ImportKey → List ImportKey

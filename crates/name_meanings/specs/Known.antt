@@ -5,7 +5,7 @@ use Rattle.name_entries.specs.wl_base.Choice.{distinct_onto}
 use Rattle.name_entries.specs.object_file.declared.object.Object.{Object}
 use Rattle.name_entries.specs.made_symbols.declared.mode.Mode.TheVariants.{Plain}
 use Rattle.name_entries.specs.name_rules.declared.meaning.Meaning.{Meaning as Told}
-use Rattle.name_entries.specs.name_rules.Entries.{Entry, ImportKey, same_import, entries}
+use Rattle.name_entries.specs.name_rules.Entries.{InputSymbol, ImportKey, same_import, entries}
 use Rattle.name_entries.specs.name_rules.Meanings.{Meaning, Resolved, meaning, no_uses, resolved_in}
 use Rattle.name_entries.specs.View.{WinnersAre, InputsRise}
 use Rattle.name_entries.specs.Fits.{Fits}
@@ -23,7 +23,7 @@ pub record IsKnown (k : Known) : Type 0 where
   pub winners : WinnersAre k.entries.names.now.names (entries Plain k.entries.objects.now) k.winners.now
   pub columns : AreColumnsOf k.entries (all_symbols k.entries.objects.now) k.columns.now
 
-abbrev pub meant : Known → Entry → Meaning
+abbrev pub meant : Known → InputSymbol → Meaning
 meant k e = meaning Plain no_uses k.allow_undefined (entries Plain k.entries.objects.now) e
 
 -- ---- what was found

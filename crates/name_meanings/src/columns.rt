@@ -3,7 +3,7 @@ ghost use Rattle.std.specs.Prelude.{◌≡◌, ◌++◌, ◌∷◌, ◌&&◌, �
 ghost use Rattle.name_entries.specs.wl_base.Choice.{given};
 ghost use Rattle.name_entries.specs.linking_section.Flags.{is_weak, is_explicit};
 ghost use Rattle.name_entries.specs.object_columns.Seen.{symbol_seen};
-ghost use Rattle.name_entries.specs.name_rules.Entries.{Entry};
+ghost use Rattle.name_entries.specs.name_rules.Entries.{InputSymbol};
 ghost use Rattle.name_entries.specs.View.{rows_of, entry_at};
 ghost use Rattle.name_entries.specs.Fits.{FitsObjects};
 ghost use Rattle.name_meanings.specs.Columns.{or_else, AreColumnsOf, all_symbols};
@@ -73,7 +73,7 @@ impl Column {
 fn note_symbol(columns: &mut [Column], entries: Entries<'_>, object: u32, place: u32)
     requires fits { FitsObjects entries }
     requires count { length columns.old ≡ length entries.names.now.names }
-    ensures { (seen : List Entry) (e : Entry) → entry_at entries.entry.objects.now object place ≡ Some e
+    ensures { (seen : List InputSymbol) (e : InputSymbol) → entry_at entries.entry.objects.now object place ≡ Some e
         → AreColumnsOf entries.entry seen columns.old → AreColumnsOf entries.entry (seen ++ e ∷ []) columns.new }
 {
     let Some(entry) = entries.entry(object, place) else {
@@ -94,7 +94,7 @@ fn note_symbol(columns: &mut [Column], entries: Entries<'_>, object: u32, place:
 fn note_object(columns: &mut [Column], entries: Entries<'_>, object: u32)
     requires fits { FitsObjects entries }
     requires count { length columns.old ≡ length entries.names.now.names }
-    ensures { (seen : List Entry) → AreColumnsOf entries.entry seen columns.old
+    ensures { (seen : List InputSymbol) → AreColumnsOf entries.entry seen columns.old
         → AreColumnsOf entries.entry (seen ++ slice_index_or (rows_of entries.entry.objects.now) object []) columns.new }
 {
     for place in 0..entries.symbols(object) {

@@ -4,7 +4,7 @@ ghost use Rattle.symbol_race.specs.Ranks.{IsParts};
 ghost use Rattle.name_entries.specs.linking_section.Flags.{is_weak};
 ghost use Rattle.name_entries.specs.linking_section.declared.symbol.SymbolKind.TheVariants as kinds;
 ghost use Rattle.name_entries.specs.object_columns.Seen.{symbol_seen};
-ghost use Rattle.name_entries.specs.name_rules.Entries.{Entry, ImportKey, is_kind};
+ghost use Rattle.name_entries.specs.name_rules.Entries.{InputSymbol, ImportKey, is_kind};
 ghost use Rattle.name_entries.specs.name_rules.Meanings.{entry_rank, here, own_meaning, may_be_null, where_given};
 ghost use Rattle.name_entries.specs.name_rules.declared.meaning.Meaning.TheVariants as told;
 ghost use Rattle.name_entries.specs.View.{entry_at};
@@ -40,7 +40,7 @@ pub(crate) struct Found {
 
 /// The definition of this rank.
 fn definition(rank: u64) -> Meaning
-    ensures { (e : Entry) (imports : List ImportKey) → IsParts e.class e.input e.place → rank ≡ entry_rank e → Means imports result (here e) }
+    ensures { (e : InputSymbol) (imports : List ImportKey) → IsParts e.class e.input e.place → rank ≡ entry_rank e → Means imports result (here e) }
 {
     let input = (rank / (1 << 32) % (1 << 20)) as u32;
     let place = (rank % (1 << 32)) as u32;
@@ -70,7 +70,7 @@ fn itself(entry: EntryRef<'_>) -> Meaning
 
 /// What a symbol means whose name has neither a definition nor an import.
 fn absent(symbol: SymbolRef<'_>) -> Meaning
-    ensures { (e : Entry) → e.symbol ≡ symbol_seen symbol.entry → result ≡ (if may_be_null e then told.Null else told.Nothing) }
+    ensures { (e : InputSymbol) → e.symbol ≡ symbol_seen symbol.entry → result ≡ (if may_be_null e then told.Null else told.Nothing) }
 {
     let may = match symbol.kind {
         SymbolKind::Function | SymbolKind::Datum => symbol.is_weak(),
@@ -81,7 +81,7 @@ fn absent(symbol: SymbolRef<'_>) -> Meaning
 
 /// The symbol on whose import a symbol of the name stands, in a link without a definition of it.
 fn source(column: Column, symbol: SymbolRef<'_>, allow_undefined: bool) -> Option<At>
-    ensures { (e : Entry) → e.symbol ≡ symbol_seen symbol.entry → result ≡ or_else column.explicit
+    ensures { (e : InputSymbol) → e.symbol ≡ symbol_seen symbol.entry → result ≡ or_else column.explicit
         (where_given (allow_undefined && ((is_kind kinds.Function e || is_kind kinds.GlobalVar e) && column.strong)) column.least) }
 {
     if column.explicit.is_some() {
@@ -148,7 +148,7 @@ pub(crate) fn meaning_of(
     requires known { IsKnown known }
     requires found { FoundBy known found.old }
     requires there { IsSome (entry_at known.entries.objects.now object place) }
-    ensures { IfOk result (λ told. (e : Entry) → entry_at known.entry.entries.objects.now object place ≡ Some e
+    ensures { IfOk result (λ told. (e : InputSymbol) → entry_at known.entry.entries.objects.now object place ≡ Some e
         → Finds known.entry told (meant known.entry e) found.old found.new) }
 {
     let Some(entry) = known.entries.entry(object, place) else {

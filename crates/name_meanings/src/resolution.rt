@@ -72,7 +72,7 @@ impl Resolution {
     /// The module and the field of an import that symbols mean.
     pub fn import(&self, number: u32) -> (&[u8], &[u8])
         requires { number < length self.now.imports }
-        ensures place { option_map (λ key. key.place) (slice_get self.now.imports number) ≡ Some result.0.now }
+        ensures place { option_map (λ key. key.module_name) (slice_get self.now.imports number) ≡ Some result.0.now }
         ensures field { option_map (λ key. key.field) (slice_get self.now.imports number) ≡ Some result.1.now }
     {
         let import = self.imports.get(number);

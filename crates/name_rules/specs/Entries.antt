@@ -25,7 +25,7 @@ pub data SymbolType : Type 0 where
 
 -- What an import of the output is made for: a module, a field and a type. Imports that agree in all three are one.
 pub record ImportKey : Type 0 where
-  pub place : List ℕ  -- the module's name
+  pub module_name : List ℕ
   pub field : List ℕ
   pub type : SymbolType
 
@@ -33,7 +33,7 @@ pub record ImportKey : Type 0 where
 -- its name where it is a definition in a kept part. Its class is 0 strong, 1 weak or 2 linker-made datum. The index is of
 -- a defined function or global its place among those that the object defines, of a datum its segment, of a linker-made symbol its
 -- number.
-pub record Entry : Type 0 where
+pub record InputSymbol : Type 0 where
   pub input : ℕ
   pub place : ℕ
   pub symbol : Symbol
@@ -43,7 +43,7 @@ pub record Entry : Type 0 where
   pub class : ℕ
   pub index : ℕ
 
-abbrev pub is_kind : SymbolKind → Entry → Bool
+abbrev pub is_kind : SymbolKind → InputSymbol → Bool
 is_kind kind e = kind_code e.symbol.kind == kind_code kind
 
 -- ---- groups
@@ -101,11 +101,11 @@ index_in o s Section = s.index
 index_in o s Table = s.index
 
 abbrev pub key_of : SymbolType → Import → ImportKey
-key_of type i = record { place = i.«module»; field = i.field; type = type }
+key_of type i = record { module_name = i.«module»; field = i.field; type = type }
 
 -- A symbol of an object. One that is defined in a part that isn't kept defines nothing: it is read as a reference of the same kind,
 -- type and flags, which stands on no import.
-abbrev pub entry_in : List Object → Object → ℕ → Symbol → Entry
+abbrev pub entry_in : List Object → Object → ℕ → Symbol → InputSymbol
 entry_in objects o place s = record {
   input = o.input;
   place = place;
@@ -117,12 +117,12 @@ entry_in objects o place s = record {
   index = index_in o s s.kind;
 }
 
-abbrev pub entries_from : List Object → Object → ℕ → List Symbol → List Entry
+abbrev pub entries_from : List Object → Object → ℕ → List Symbol → List InputSymbol
 entries_from objects o place [] = []
 entries_from objects o place (s ∷ ss) = entry_in objects o place s ∷ entries_from objects o (place + 1) ss
 
 -- The symbols of an object, by place.
-abbrev pub symbols_of : List Object → Object → List Entry
+abbrev pub symbols_of : List Object → Object → List InputSymbol
 symbols_of objects o = entries_from objects o 0 o.symbols
 
 -- ---- the linker's own symbols
@@ -135,7 +135,7 @@ made_type m Section = untyped
 made_type m Table = untyped
 
 -- A linker-made symbol is HIDDEN (0x04) and defined; its index is its number.
-abbrev pub made_entry : ℕ → MadeSymbol → Entry
+abbrev pub made_entry : ℕ → MadeSymbol → InputSymbol
 made_entry place m = record {
   input = 0;
   place = place;
@@ -147,33 +147,33 @@ made_entry place m = record {
   index = place;
 }
 
-abbrev pub made_from : ℕ → List MadeSymbol → List Entry
+abbrev pub made_from : ℕ → List MadeSymbol → List InputSymbol
 made_from place [] = []
 made_from place (m ∷ ms) = made_entry place m ∷ made_from (place + 1) ms
 
 -- ---- entries
 
 -- A symbol is an entry of its name unless it is a local definition. A symbol of a section has no name.
-abbrev pub is_entry : Entry → Bool
+abbrev pub is_entry : InputSymbol → Bool
 is_entry e = is_some e.symbol.name && not (is_local_definition e.symbol)
 
 -- The entries of all names, by input and then by place: the linker's own, and the symbols of the loaded objects.
-unfoldable pub entries : Mode → List Object → List Entry
+unfoldable pub entries : Mode → List Object → List InputSymbol
 entries mode objects = made_from 0 (made mode) ++ filter is_entry (flat_map (symbols_of objects) objects)
 
-abbrev pub name_of : Entry → List ℕ
+abbrev pub name_of : InputSymbol → List ℕ
 name_of e = unwrap_or e.symbol.name []
 
-abbrev pub is_named : List ℕ → Entry → Bool
+abbrev pub is_named : List ℕ → InputSymbol → Bool
 is_named name e = bytes_eq (name_of e) name
 
 -- The entries of a name.
-abbrev pub named : List Entry → List ℕ → List Entry
+abbrev pub named : List InputSymbol → List ℕ → List InputSymbol
 named all name = filter (is_named name) all
 
 -- ---- equality
 
-abbrev pub same_entry : Entry → Entry → Bool
+abbrev pub same_entry : InputSymbol → InputSymbol → Bool
 same_entry a b = (a.input == b.input) && (a.place == b.place)
 
 abbrev pub same_symbol_type : SymbolType → SymbolType → Bool
@@ -183,4 +183,4 @@ same_symbol_type untyped untyped = true
 same_symbol_type a b = false
 
 abbrev pub same_import : ImportKey → ImportKey → Bool
-same_import a b = bytes_eq a.place b.place && bytes_eq a.field b.field && same_symbol_type a.type b.type
+same_import a b = bytes_eq a.module_name b.module_name && bytes_eq a.field b.field && same_symbol_type a.type b.type

@@ -8,7 +8,7 @@ use Rattle.object_file.specs.linking_section.declared.symbol.SymbolKind.TheVaria
 use Rattle.object_file.specs.declared.object.Object.{Object}
 use Rattle.object_file.specs.Spaces.{no_type}
 use Rattle.made_symbols.specs.declared.mode.Mode.TheVariants.{Plain}
-use Rattle.name_rules.specs.Entries.{Entry, ImportKey, of_function, is_kept, in_kept_part}
+use Rattle.name_rules.specs.Entries.{InputSymbol, ImportKey, of_function, is_kept, in_kept_part}
 use Rattle.name_rules.specs.Meanings.{Meaning, imported, null, nothing, no_uses, winner, meaning}
 use Rattle.name_rules.specs.Cases.{clash, duplicate}
 
@@ -21,19 +21,19 @@ abbrev pub symbol : SymbolKind → ℕ → Symbol
 symbol kind flags = record { kind = kind; flags = flags; name = Some f; index = 0; offset = 0; size = 0 }
 
 -- a function that an input defines, of a class
-abbrev pub defined : ℕ → ℕ → Entry
+abbrev pub defined : ℕ → ℕ → InputSymbol
 defined input class = record { input = input; place = 0; symbol = symbol Function class; type = of_function no_type; import = None; defines = true; class = class; index = 0 }
 
 abbrev pub key : List ℕ → ImportKey
-key field = record { place = codes "m"; field = field; type = of_function no_type }
+key field = record { module_name = codes "m"; field = field; type = of_function no_type }
 
 -- one that an input refers to, with these flags, by an import
-abbrev pub wanted : ℕ → ℕ → List ℕ → Entry
+abbrev pub wanted : ℕ → ℕ → List ℕ → InputSymbol
 wanted input flags field = record (defined input 0) { symbol = symbol Function flags; import = Some (key field); defines = false }
 
 -- ---- winners
 
-abbrev pub winning : List Entry → Option ℕ
+abbrev pub winning : List InputSymbol → Option ℕ
 winning all = option_map (λ e. e.input) (winner all f)
 
 strong_wins : winning (defined 1 1 ∷ defined 2 0 ∷ []) ≡ Some 2
@@ -47,7 +47,7 @@ references_win_nothing = refl
 
 -- ---- meanings, without and with `--allow-undefined`
 
-abbrev pub meant : Bool → List Entry → Entry → Meaning
+abbrev pub meant : Bool → List InputSymbol → InputSymbol → Meaning
 meant allow all e = meaning Plain no_uses allow all e
 
 strong_is_nothing : meant false (wanted 1 0x10 (codes "a") ∷ []) (wanted 1 0x10 (codes "a")) ≡ nothing

@@ -5,7 +5,7 @@ use Rattle.std.specs.Option.{IsSome}
 use Rattle.name_entries.specs.linking_section.declared.symbol.Symbol.{Symbol}
 use Rattle.name_entries.specs.made_symbols.declared.mode.Mode.{Mode}
 use Rattle.name_entries.specs.object_file.declared.object.Object.{Object}
-use Rattle.name_entries.specs.name_rules.Entries.{Entry, symbols_of, entries_from}
+use Rattle.name_entries.specs.name_rules.Entries.{InputSymbol, symbols_of, entries_from}
 use Rattle.name_entries.specs.name_rules.Meanings.{meaning, resolve, resolved_in, uses_of, Resolved}
 use Rattle.name_meanings.specs.Means.{Means, Answers, row_of, IsResolution}
 use Rattle.name_unresolved.specs.Unresolved.{AreMeant}
@@ -38,7 +38,7 @@ map_at f [] k d = refl
 map_at f (x ∷ xs) zero d = refl
 map_at f (x ∷ xs) (suc k) d = map_at f xs k d
 
-pub are_meant : (mode : Mode) (allow : Bool) (all : List Entry) (objects : List Object) (r : Answers)
+pub are_meant : (mode : Mode) (allow : Bool) (all : List InputSymbol) (objects : List Object) (r : Answers)
     → IsResolution r (resolve mode allow all objects) → AreMeant r.rows objects
 unfolding resolve
 are_meant mode allow all objects r is k d below =

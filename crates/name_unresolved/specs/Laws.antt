@@ -2,7 +2,7 @@
 use Rattle.std.specs.Prelude.{Bool, List}
 use Rattle.name_entries.specs.made_symbols.declared.mode.Mode.{Mode}
 use Rattle.name_entries.specs.object_file.declared.object.Object.{Object}
-use Rattle.name_entries.specs.name_rules.Entries.{Entry}
+use Rattle.name_entries.specs.name_rules.Entries.{InputSymbol}
 use Rattle.name_entries.specs.name_rules.Meanings.{resolve}
 use Rattle.name_meanings.specs.Means.{Answers, IsResolution}
 use Rattle.name_unresolved.specs.Unresolved.{AreMeant}
@@ -10,5 +10,5 @@ use Rattle.name_unresolved.specs.Unresolved.{AreMeant}
 -- In a resolution of the objects each of their symbols has a meaning.
 abbrev pub ResolvedIsMeant : Type 0
 ResolvedIsMeant =
-    (mode : Mode) (allow : Bool) (all : List Entry) (objects : List Object) (r : Answers)
+    (mode : Mode) (allow : Bool) (all : List InputSymbol) (objects : List Object) (r : Answers)
     → IsResolution r (resolve mode allow all objects) → AreMeant r.rows objects

@@ -8,7 +8,7 @@ use Rattle.name_entries.specs.body_windows.declared.operand.Operand.{Operand}
 use Rattle.name_entries.specs.object_columns.declared.functions.FunctionDef.{FunctionDef}
 use Rattle.name_entries.specs.object_columns.declared.segments.SegmentDef.{SegmentDef}
 use Rattle.name_entries.specs.object_file.declared.object.Object.{Object}
-use Rattle.name_entries.specs.name_rules.Entries.{Entry, is_kind}
+use Rattle.name_entries.specs.name_rules.Entries.{InputSymbol, is_kind}
 use Rattle.name_entries.specs.name_rules.Meanings.{Use, use_of, operand_use, is_init_use}
 use Rattle.name_entries.specs.View.{rows_of, entry_number}
 use Rattle.name_entries.specs.Parts.{has_flag}
@@ -31,13 +31,13 @@ told_use names (Some u) = if is_kind Function u.entry then option_map (numbered 
 abbrev pub use_seen : EntryRef → ℕ → Option NameUse
 use_seen r kind = if kind_code r.symbol.kind == kind_code Function then option_map (numbered kind) r.number else None
 
-abbrev pub row_of : Entries → ℕ → List Entry
+abbrev pub row_of : Entries → ℕ → List InputSymbol
 row_of es object = slice_index_or (rows_of es.objects.now) object []
 
-abbrev pub told_operand : List (List ℕ) → List Entry → Operand → Option NameUse
+abbrev pub told_operand : List (List ℕ) → List InputSymbol → Operand → Option NameUse
 told_operand names row operand = told_use names (operand_use row operand)
 
-abbrev pub told_window : List (List ℕ) → List Entry → Reloc → Option NameUse
+abbrev pub told_window : List (List ℕ) → List InputSymbol → Reloc → Option NameUse
 told_window names row w = told_use names (use_of w.kind (slice_get row w.index))
 
 -- An init entry that is skipped calls nothing.
@@ -45,15 +45,15 @@ abbrev pub kept_init : Option Use → Option Use
 kept_init None = None
 kept_init (Some u) = if is_init_use u.entry then Some u else None
 
-abbrev pub told_init : List (List ℕ) → List Entry → InitFunc → Option NameUse
+abbrev pub told_init : List (List ℕ) → List InputSymbol → InitFunc → Option NameUse
 told_init names row i = told_use names (kept_init (use_of 0 (slice_get row i.symbol)))
 
 -- ---- the uses of an object
 
-abbrev pub operands_told : List (List ℕ) → List Entry → FunctionDef → List NameUse
+abbrev pub operands_told : List (List ℕ) → List InputSymbol → FunctionDef → List NameUse
 operands_told names row f = filter_map (told_operand names row) f.operands
 
-abbrev pub windows_told : List (List ℕ) → List Entry → SegmentDef → List NameUse
+abbrev pub windows_told : List (List ℕ) → List InputSymbol → SegmentDef → List NameUse
 windows_told names row g = filter_map (told_window names row) g.windows
 
 -- Those of the parts that have no flag, from an index on.
@@ -61,7 +61,7 @@ abbrev pub kept_told : List Bool → ℕ → List (List NameUse) → List NameUs
 kept_told flags index [] = []
 kept_told flags index (us ∷ uss) = (if has_flag flags index then [] else us) ++ kept_told flags (index + 1) uss
 
-abbrev pub told_in : List (List ℕ) → List Entry → Object → ObjectParts → List NameUse
+abbrev pub told_in : List (List ℕ) → List InputSymbol → Object → ObjectParts → List NameUse
 told_in names row o p =
     kept_told p.dropped_functions (length p.imports.functions) (map (operands_told names row) o.functions)
     ++ kept_told p.dropped_segments 0 (map (windows_told names row) o.segments)

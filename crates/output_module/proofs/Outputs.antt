@@ -15,7 +15,7 @@ use Rattle.wasm_module.specs.Modules.{placeless}
 use Rattle.wasm_module.specs.ModuleReading.{module_of}
 use Rattle.ctor_call.specs.Body.{ctor_body}
 use Rattle.made_symbols.specs.declared.mode.Mode.TheVariants.{Plain}
-use Rattle.name_rules.specs.Entries.{Entry}
+use Rattle.name_rules.specs.Entries.{InputSymbol}
 use Rattle.reloc_apply.specs.declared.window.Patch.{Patch}
 use Rattle.reloc_apply.specs.declared.window.Window.{Window}
 use Rattle.reloc_apply.specs.Windows.{filled, patch_of}
@@ -43,7 +43,7 @@ map_twice : {A B C : Type 0} (f : B → C) (g : A → B) (xs : List A) → map f
 map_twice f g [] = refl
 map_twice f g (x ∷ xs) = ap (λ ys. f (g x) ∷ ys) (map_twice f g xs)
 
-module _ (filled_body : FilledBody) (p : Program) (exports : List Entry) (w : IsWritten p exports (layout_of p exports)) where
+module _ (filled_body : FilledBody) (p : Program) (exports : List InputSymbol) (w : IsWritten p exports (layout_of p exports)) where
   abbrev parts : List Part
   parts = live p exports
 

@@ -7,7 +7,7 @@ use Rattle.wasm_module.specs.declared.structure.Module.{Module}
 use Rattle.wasm_module.specs.ModuleReading.{module_of}
 use Rattle.body_windows.specs.Immediates.{immediates}
 use Rattle.made_symbols.specs.declared.mode.Mode.TheVariants.{Plain}
-use Rattle.name_rules.specs.Entries.{Entry}
+use Rattle.name_rules.specs.Entries.{InputSymbol}
 use Rattle.image_emit.specs.Spelled.{IsSpellable}
 use Rattle.run_rules.specs.declared.session.Session.{Session}
 use Rattle.run_rules.specs.Modules.{module_trace}
@@ -31,7 +31,7 @@ pub record IsCoded (p : Program) (part : Part) : Type 0 where
   pub named : part.named ≡ names_in stands
 
 -- What is asked of an output to be read.
-pub record IsWritten (p : Program) (exports : List Entry) (l : Layout) : Type 0 where
+pub record IsWritten (p : Program) (exports : List InputSymbol) (l : Layout) : Type 0 where
   pub sound : Sound p
   pub coded : (part : Part) → Has (live p exports) part → part.chunk.kind ≡ 0 → (part.chunk.input ≡ 0 → ⊥) → IsCoded p part
   -- of the linker's functions a plain output has the one that calls the init functions
@@ -40,11 +40,11 @@ pub record IsWritten (p : Program) (exports : List Entry) (l : Layout) : Type 0 
   pub spellable : IsSpellable (linked_tree p (live p exports) exports l)
 
 -- The module that the output's bytes are read as gives the traces of the output as a tree.
-pub record IsRead (p : Program) (exports : List Entry) (bytes : List ℕ) : Type 0 where
+pub record IsRead (p : Program) (exports : List InputSymbol) (bytes : List ℕ) : Type 0 where
   pub is : Module
   pub read : module_of bytes ≡ Ok is
   pub runs : (s : Session) (n : ℕ) → module_trace s is n ≡ module_trace s (linked_module p exports) n
 
 abbrev pub OutputIsRead : Type 0
-OutputIsRead = (p : Program) (exports : List Entry) → IsWritten p exports (layout_of p exports)
+OutputIsRead = (p : Program) (exports : List InputSymbol) → IsWritten p exports (layout_of p exports)
     → IsRead p exports (output_bytes Plain p (image Plain p (live p exports) exports (layout_of p exports)) (source_windows Plain p (live p exports) exports (layout_of p exports)))

@@ -8,7 +8,7 @@ use Rattle.object_file.specs.wl_base.Choice.{first_some, given, has_name}
 use Rattle.object_file.specs.wl_base.declared.fault.Fault.TheVariants.{Unresolved}
 use Rattle.object_file.specs.linking_section.Flags.{has_bit}
 use Rattle.made_symbols.specs.declared.mode.Mode.TheVariants.{Plain}
-use Rattle.name_rules.specs.Entries.{Entry, is_named, name_of, same_entry}
+use Rattle.name_rules.specs.Entries.{InputSymbol, is_named, name_of, same_entry}
 use Rattle.name_rules.specs.Meanings.{Meaning, here, imported, null, nothing, is_nothing}
 use Rattle.mark_bits.specs.declared.chunk.Chunk.{Chunk}
 use Rattle.link_rules.specs.Program.{Program, Part, Ref}
@@ -18,11 +18,11 @@ use Rattle.partial_rules.specs.Moving.{Moving, IsMoving, moved_meaning, AlikePar
 use Rattle.partial_rules.proofs.Lists.{filter_moved, map_map, map_where, map_same, any_map, filter_all}
 use Rattle.partial_rules.proofs.AlikeRefs.{any_refs}
 
-module _ (m : Moving) (C : Chunk → Type 0) (K : Entry → Type 0) (is : IsMoving m C K) (p q : Program) where
+module _ (m : Moving) (C : Chunk → Type 0) (K : InputSymbol → Type 0) (is : IsMoving m C K) (p q : Program) where
   -- ---- exports
 
   module _ (words : AlikeWords p q) (winners : AlikeWinners m K p q) where
-    exported_alike : (e : Entry) → K e → is_exported_by q.plan (m.entry e) ≡ is_exported_by p.plan e
+    exported_alike : (e : InputSymbol) → K e → is_exported_by q.plan (m.entry e) ≡ is_exported_by p.plan e
     exported_alike e k = λ i.
         has_name (words.asked i ++ words.asked_if i) (is.entry_name e k i)
         || (not (is.entry_made e k i) && (has_bit 0x20 (is.entry_flags e k i) || (words.dynamic i && not (has_bit 0x04 (is.entry_flags e k i)))))
@@ -116,7 +116,7 @@ module _ (m : Moving) (C : Chunk → Type 0) (K : Entry → Type 0) (is : IsMovi
     winner_named : (name : List ℕ) → list_any (is_named name) q.winners ≡ list_any (is_named name) p.winners
     winner_named name = ap (list_any (is_named name)) winners.are ∙ (any_map (is_named name) m.entry p.winners ∙ same p.winners winners.held)
       where
-        same : (es : List Entry) → All K es → list_any (λ e. is_named name (m.entry e)) es ≡ list_any (is_named name) es
+        same : (es : List InputSymbol) → All K es → list_any (λ e. is_named name (m.entry e)) es ≡ list_any (is_named name) es
         same [] all = refl
         same (e ∷ es) all =
             ap (λ n. bytes_eq n name || list_any (λ e. is_named name (m.entry e)) es) (is.entry_name e (All-head K e es all))
@@ -131,7 +131,7 @@ module _ (m : Moving) (C : Chunk → Type 0) (K : Entry → Type 0) (is : IsMovi
     nothing_moves null = refl
     nothing_moves nothing = refl
 
-    none_open : (refs : List Ref) (e : Entry) → list_any (λ (ref : Ref). is_nothing ref.meaning) refs ≡ false → is_open refs e ≡ false
+    none_open : (refs : List Ref) (e : InputSymbol) → list_any (λ (ref : Ref). is_nothing ref.meaning) refs ≡ false → is_open refs e ≡ false
     none_open [] e none = refl
     none_open (r ∷ refs) e none = by_test (is_nothing r.meaning) none (none_open refs e)
       where
@@ -140,7 +140,7 @@ module _ (m : Moving) (C : Chunk → Type 0) (K : Entry → Type 0) (is : IsMovi
         by_test true none again = absurd cc
         by_test false none again = again none
 
-    none_found : (refs : List Ref) → list_any (λ (ref : Ref). is_nothing ref.meaning) refs ≡ false → (es : List Entry) → find (is_open refs) es ≡ None
+    none_found : (refs : List Ref) → list_any (λ (ref : Ref). is_nothing ref.meaning) refs ≡ false → (es : List InputSymbol) → find (is_open refs) es ≡ None
     none_found refs none [] = refl
     none_found refs none (e ∷ es) = rw (none_open refs e none) (none_found refs none es)
 

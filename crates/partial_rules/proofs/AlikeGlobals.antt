@@ -9,7 +9,7 @@ use Rattle.object_file.specs.wl_base.Choice.{given, distinct}
 use Rattle.object_file.specs.linking_section.declared.symbol.SymbolKind.TheVariants.{Datum, GlobalVar}
 use Rattle.object_file.specs.linking_section.Flags.{kind_code}
 use Rattle.made_symbols.specs.declared.mode.Mode.TheVariants.{Plain}
-use Rattle.name_rules.specs.Entries.{Entry, ImportKey, is_kind}
+use Rattle.name_rules.specs.Entries.{InputSymbol, ImportKey, is_kind}
 use Rattle.name_rules.specs.Meanings.{Meaning, here, imported, null, nothing}
 use Rattle.mark_bits.specs.declared.chunk.Chunk.{Chunk}
 use Rattle.link_rules.specs.Program.{Program, Part, Ref, refs, chunk_at}
@@ -24,10 +24,10 @@ use Rattle.partial_rules.proofs.AlikeNumbers.{used_alike, given_none, is_zero}
 is_that : (n k : ℕ) → (n == k) ≡ true → n ≡ k
 is_that n k e = grind (arith, nat_tests, e)
 
-module _ (m : Moving) (C : Chunk → Type 0) (K : Entry → Type 0) (is : IsMoving m C K) (p q : Program) where
+module _ (m : Moving) (C : Chunk → Type 0) (K : InputSymbol → Type 0) (is : IsMoving m C K) (p q : Program) where
   -- ---- imports
 
-  global_imports_alike : (xs ys : List Part) (ep eq : List Entry) → AlikeStage m C K p q xs ys ep eq → used_globals Plain q (refs_of ys) ≡ used_globals Plain p (refs_of xs)
+  global_imports_alike : (xs ys : List Part) (ep eq : List InputSymbol) → AlikeStage m C K p q xs ys ep eq → used_globals Plain q (refs_of ys) ≡ used_globals Plain p (refs_of xs)
   global_imports_alike xs ys ep eq s =
       filter_same (λ k. is_global_type k.type && has_import (used_imports (filter (imports_by Plain) (refs_of ys))) k) (λ k. is_global_type k.type && has_import (used_imports (filter (imports_by Plain) (refs_of xs))) k)
       (λ k. ap (λ b. is_global_type k.type && b) (used_alike m C K is p q xs ys s.parts k)) (imports_in_order q)
@@ -110,7 +110,7 @@ module _ (m : Moving) (C : Chunk → Type 0) (K : Entry → Type 0) (is : IsMovi
 
   -- ---- exported data
 
-  datum_alike : (e : Entry) → K e → datum_key (m.entry e) ≡ option_map (moved_global m) (datum_key e)
+  datum_alike : (e : InputSymbol) → K e → datum_key (m.entry e) ≡ option_map (moved_global m) (datum_key e)
   datum_alike e k = ap (λ kind. given (kind_code kind == kind_code Datum) (exported_datum (m.entry e))) (is.entry_kind e k) ∙ by_test (is_kind Datum e)
     where
       by_test : (r : Bool) → given r (exported_datum (m.entry e)) ≡ option_map (moved_global m) (given r (exported_datum e))
@@ -118,7 +118,7 @@ module _ (m : Moving) (C : Chunk → Type 0) (K : Entry → Type 0) (is : IsMovi
       by_test false = refl
 
   -- The globals of the other program are the moved ones.
-  pub globals_alike : (xs ys : List Part) (ep eq : List Entry) → AlikeStage m C K p q xs ys ep eq → globals Plain q ys eq ≡ map (moved_global m) (globals Plain p xs ep)
+  pub globals_alike : (xs ys : List Part) (ep eq : List InputSymbol) → AlikeStage m C K p q xs ys ep eq → globals Plain q ys eq ≡ map (moved_global m) (globals Plain p xs ep)
   unfolding globals
   globals_alike xs ys ep eq s =
       let f : GlobalKey → GlobalKey = moved_global m in
@@ -174,7 +174,7 @@ module _ (m : Moving) (C : Chunk → Type 0) (K : Entry → Type 0) (is : IsMovi
     all_outside [] = λ k d below. absurd (omega (arith, below))
     all_outside (k ∷ ks) = All-cons P (outside_global k) (map outside_global ks) (of_outside k) (all_outside ks)
 
-    pub globals_all : (xs ys : List Part) (ep eq : List Entry) → AlikeStage m C K p q xs ys ep eq → All P (map got (got_entries Plain xs)) → All P (filter_map datum_key ep) → All P (globals Plain p xs ep)
+    pub globals_all : (xs ys : List Part) (ep eq : List InputSymbol) → AlikeStage m C K p q xs ys ep eq → All P (map got (got_entries Plain xs)) → All P (filter_map datum_key ep) → All P (globals Plain p xs ep)
     unfolding globals
     globals_all xs ys ep eq s cells last =
         let made = holds_of made_global_key (λ x e. given_none (x.chunk.input == 0) (x.chunk.kind == 2) (linker_global x.chunk.index) e) made_holds xs ys s.parts in
@@ -200,17 +200,17 @@ module _ (m : Moving) (C : Chunk → Type 0) (K : Entry → Type 0) (is : IsMovi
   cells_all Q each xs ys alike =
       distinct_all Q same_got (map ref_got (filter (needs_got Plain) (refs_of (parts_of_kind 0 xs)))) (all_cells Q each (refs_of (parts_of_kind 0 xs)) (refs_of (parts_of_kind 0 ys)) (code_refs xs ys alike))
 
-  datum_holds : (P : GlobalKey → Type 0) → ((e : Entry) → K e → is_kind Datum e ≡ true → P (exported_datum e)) → (e : Entry) (g : GlobalKey) → K e → datum_key e ≡ Some g → P g
+  datum_holds : (P : GlobalKey → Type 0) → ((e : InputSymbol) → K e → is_kind Datum e ≡ true → P (exported_datum e)) → (e : InputSymbol) (g : GlobalKey) → K e → datum_key e ≡ Some g → P g
   datum_holds P each e g k some = by_test (is_kind Datum e) refl some
     where
       by_test : (r : Bool) → is_kind Datum e ≡ r → given r (exported_datum e) ≡ Some g → P g
       by_test true is some = subst P (same_some (exported_datum e) g some) (each e k is)
       by_test false is none = absurd cc
 
-  pub data_all : (P : GlobalKey → Type 0) → ((e : Entry) → K e → is_kind Datum e ≡ true → P (exported_datum e)) → (ep : List Entry) → All K ep → All P (filter_map datum_key ep)
+  pub data_all : (P : GlobalKey → Type 0) → ((e : InputSymbol) → K e → is_kind Datum e ≡ true → P (exported_datum e)) → (ep : List InputSymbol) → All K ep → All P (filter_map datum_key ep)
   data_all P each ep held = filter_map_all K P datum_key (datum_holds P each) ep held
 
-  pub globals_known : (xs ys : List Part) (ep eq : List Entry) → AlikeStage m C K p q xs ys ep eq → All (KnowsGlobal m C K is) (globals Plain p xs ep)
+  pub globals_known : (xs ys : List Part) (ep eq : List InputSymbol) → AlikeStage m C K p q xs ys ep eq → All (KnowsGlobal m C K is) (globals Plain p xs ep)
   globals_known xs ys ep eq s =
       globals_all (KnowsGlobal m C K is) (λ k. tt) (λ n. tt) (λ input index c. c) xs ys ep eq s
       (map_all (KnowsGot m C K is) (KnowsGlobal m C K is) got (λ g k. k) (got_entries Plain xs) (cells_all (KnowsGot m C K is) (λ a b r needs. got_known a b r) xs ys s.parts))

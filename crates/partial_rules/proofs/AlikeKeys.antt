@@ -6,7 +6,7 @@ use Rattle.object_file.specs.linking_section.declared.symbol.SymbolKind.{SymbolK
 use Rattle.object_file.specs.linking_section.declared.symbol.SymbolKind.TheVariants.{Function, GlobalVar}
 use Rattle.object_file.specs.linking_section.Flags.{kind_code}
 use Rattle.made_symbols.specs.declared.mode.Mode.TheVariants.{Plain}
-use Rattle.name_rules.specs.Entries.{Entry, name_of}
+use Rattle.name_rules.specs.Entries.{InputSymbol, name_of}
 use Rattle.name_rules.specs.Meanings.{Meaning, here, imported, null, nothing}
 use Rattle.mark_bits.specs.declared.chunk.Chunk.{Chunk}
 use Rattle.link_rules.specs.Program.{Ref, chunk_at, chunk_by}
@@ -20,7 +20,7 @@ without false k y is = refl
 both_kinds : (a b n : ℕ) → a ≡ n → b ≡ n → (n == n) ≡ true → (a == b) ≡ true
 both_kinds a b n x y is = rw (x, y) is
 
-module _ (m : Moving) (C : Chunk → Type 0) (K : Entry → Type 0) (is : IsMoving m C K) where
+module _ (m : Moving) (C : Chunk → Type 0) (K : InputSymbol → Type 0) (is : IsMoving m C K) where
   -- ---- equal keys stay equal
 
   abbrev pub KnowsFunction : FunctionKey → Type 0
@@ -109,20 +109,20 @@ module _ (m : Moving) (C : Chunk → Type 0) (K : Entry → Type 0) (is : IsMovi
   -- ---- what a definition's key becomes
 
   -- the chunk of the moved definition, by its kind
-  pub chunk_moves : (e : Entry) (kind : SymbolKind) → K e → e.symbol.kind ≡ kind → chunk_by (m.entry e) kind ≡ option_map m.chunk (chunk_by e kind)
+  pub chunk_moves : (e : InputSymbol) (kind : SymbolKind) → K e → e.symbol.kind ≡ kind → chunk_by (m.entry e) kind ≡ option_map m.chunk (chunk_by e kind)
   chunk_moves e kind k of =
       ap (chunk_by (m.entry e)) (sym (is.entry_kind e k ∙ of)) ∙ (is.entry_chunk e k ∙ ap (λ n. option_map m.chunk (chunk_by e n)) of)
 
   same_some : (a b : Chunk) → (let o : Option Chunk = Some a in o ≡ Some b) → a ≡ b
   same_some a b e = cc
 
-  own_moves : (e : Entry) → K e → e.symbol.kind ≡ Function → own (m.entry e).input (m.entry e).index ≡ moved_function m (own e.input e.index)
+  own_moves : (e : InputSymbol) → K e → e.symbol.kind ≡ Function → own (m.entry e).input (m.entry e).index ≡ moved_function m (own e.input e.index)
   own_moves e k of =
       let at : chunk_at (m.entry e).input 0 (m.entry e).index ≡ m.chunk (chunk_at e.input 0 e.index) =
       same_some (chunk_at (m.entry e).input 0 (m.entry e).index) (m.chunk (chunk_at e.input 0 e.index)) (chunk_moves e Function k of) in
       ap (λ (c : Chunk). own c.input c.index) at
 
-  global_moves : (e : Entry) → K e → e.symbol.kind ≡ GlobalVar → own_global (m.entry e).input (m.entry e).index ≡ moved_global m (own_global e.input e.index)
+  global_moves : (e : InputSymbol) → K e → e.symbol.kind ≡ GlobalVar → own_global (m.entry e).input (m.entry e).index ≡ moved_global m (own_global e.input e.index)
   global_moves e k of =
       let at : chunk_at (m.entry e).input 2 (m.entry e).index ≡ m.chunk (chunk_at e.input 2 e.index) =
       same_some (chunk_at (m.entry e).input 2 (m.entry e).index) (m.chunk (chunk_at e.input 2 e.index)) (chunk_moves e GlobalVar k of) in
@@ -132,14 +132,14 @@ module _ (m : Moving) (C : Chunk → Type 0) (K : Entry → Type 0) (is : IsMovi
   is_zero n e = grind (arith, nat_tests, e)
 
   -- The key of a moved function is the moved key.
-  pub function_moves : (e : Entry) → K e → e.symbol.kind ≡ Function → function_of (m.entry e) ≡ moved_function m (function_of e)
+  pub function_moves : (e : InputSymbol) → K e → e.symbol.kind ≡ Function → function_of (m.entry e) ≡ moved_function m (function_of e)
   function_moves e k of = by_made (e.input == 0) refl
     where
       by_made : (r : Bool) → (e.input == 0) ≡ r → function_of (m.entry e) ≡ moved_function m (if r then linker_function e.place else own e.input e.index)
       by_made true made = ap function_of (is.entry_stays e k (is_zero e.input made)) ∙ rw made refl
       by_made false own_one = rw (is.entry_made e k ∙ own_one) (own_moves e k of)
 
-  pub global_key_moves : (e : Entry) → K e → e.symbol.kind ≡ GlobalVar → global_of Plain (m.entry e) ≡ moved_global m (global_of Plain e)
+  pub global_key_moves : (e : InputSymbol) → K e → e.symbol.kind ≡ GlobalVar → global_of Plain (m.entry e) ≡ moved_global m (global_of Plain e)
   global_key_moves e k of = by_made (e.input == 0) refl
     where
       by_made : (r : Bool) → (e.input == 0) ≡ r → global_of Plain (m.entry e) ≡ moved_global m (if r then linker_global e.place else own_global e.input e.index)

@@ -7,7 +7,7 @@ use Rattle.object_file.specs.wl_base.declared.fault.Fault.TheVariants.{Overflow}
 use Rattle.object_file.specs.wl_base.declared.fault.What.TheVariants.{TableSize}
 use Rattle.table_layout.specs.Slots.{table_overflow}
 use Rattle.made_symbols.specs.declared.mode.Mode.TheVariants.{Plain}
-use Rattle.name_rules.specs.Entries.{Entry}
+use Rattle.name_rules.specs.Entries.{InputSymbol}
 use Rattle.mark_bits.specs.declared.chunk.Chunk.{Chunk}
 use Rattle.memory_layout.specs.Memory.{memory_overflow}
 use Rattle.reloc_apply.specs.declared.window.Window.{Window}
@@ -26,7 +26,7 @@ use Rattle.partial_rules.proofs.AlikeSections.{defined_alike, count_same, IsGlob
 use Rattle.partial_rules.proofs.AlikeSources.{IsBody, found_alike, solid_alike}
 use Rattle.partial_rules.proofs.AlikeOutput.{outputs_same}
 
-module _ (m : Moving) (C : Chunk → Type 0) (K : Entry → Type 0) (is : IsMoving m C K) (p q : Program) (xs ys : List Part) (ep eq : List Entry) (s : AlikeStage m C K p q xs ys ep eq) where
+module _ (m : Moving) (C : Chunk → Type 0) (K : InputSymbol → Type 0) (is : IsMoving m C K) (p q : Program) (xs ys : List Part) (ep eq : List InputSymbol) (s : AlikeStage m C K p q xs ys ep eq) where
   pub memory_fault_same : memory_fault Plain q ys ≡ memory_fault Plain p xs
   unfolding memory_fault
   memory_fault_same =

@@ -2,7 +2,7 @@
 use Rattle.std.proofs.Common.{◌≡◌, ℕ, Bool, List, map, refl, sym, ap, ◌∙◌}
 use Rattle.std.specs.Prelude.{All}
 use Rattle.made_symbols.specs.declared.mode.Mode.TheVariants.{Plain}
-use Rattle.name_rules.specs.Entries.{Entry}
+use Rattle.name_rules.specs.Entries.{InputSymbol}
 use Rattle.mark_bits.specs.declared.chunk.Chunk.{Chunk}
 use Rattle.memory_layout.specs.declared.rules.SegmentShape.{SegmentShape}
 use Rattle.memory_layout.specs.Memory.{places}
@@ -19,7 +19,7 @@ use Rattle.partial_rules.proofs.AlikeGlobals.{globals_alike, globals_known}
 use Rattle.partial_rules.proofs.AlikeTypes.{types_alike}
 use Rattle.partial_rules.proofs.AlikeWindows.{AlikeLayout}
 
-module _ (m : Moving) (C : Chunk → Type 0) (K : Entry → Type 0) (is : IsMoving m C K) (p q : Program) where
+module _ (m : Moving) (C : Chunk → Type 0) (K : InputSymbol → Type 0) (is : IsMoving m C K) (p q : Program) where
   shape_alike : (x y : Part) → AlikePart m C K p q x y → shape_of q y ≡ shape_of p x
   shape_alike x y a =
       ap (λ (n : ℕ). shape n (content_align y.content) (is_zero q y)) a.len
@@ -36,7 +36,7 @@ module _ (m : Moving) (C : Chunk → Type 0) (K : Entry → Type 0) (is : IsMovi
   unfolding slots
   slots_known xs fs known = filter_all (KnowsFunction m C K is) _ fs known
 
-  pub layouts_alike : (xs ys : List Part) (ep eq : List Entry) → AlikeStage m C K p q xs ys ep eq → AlikeLayout m C K is (layout Plain p xs ep) (layout Plain q ys eq)
+  pub layouts_alike : (xs ys : List Part) (ep eq : List InputSymbol) → AlikeStage m C K p q xs ys ep eq → AlikeLayout m C K is (layout Plain p xs ep) (layout Plain q ys eq)
   unfolding layout
   layouts_alike xs ys ep eq s =
       let fs : List FunctionKey = functions Plain p xs in

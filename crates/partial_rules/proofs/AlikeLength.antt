@@ -8,7 +8,7 @@ use Rattle.std.proofs.lemmas.List.Elements.{All-head, All-tail}
 use Rattle.object_file.specs.leb_codec.Shortest.{u32}
 use Rattle.object_file.specs.wasm_types.declared.const_expr.ConstExpr.{ConstExpr}
 use Rattle.made_symbols.specs.declared.mode.Mode.TheVariants.{Plain}
-use Rattle.name_rules.specs.Entries.{Entry}
+use Rattle.name_rules.specs.Entries.{InputSymbol}
 use Rattle.mark_bits.specs.declared.chunk.Chunk.{Chunk}
 use Rattle.ctor_call.specs.Body.{ctor_body}
 use Rattle.image_emit.specs.Bytes.{Block, section, sized, vector, const_expr, laid, data_section, source_bytes, block_of, tree_of, bytes_of}
@@ -90,8 +90,8 @@ data_len offset (b ∷ bs) (c ∷ cs) z =
 
 -- ---- the two outputs
 
-module _ (m : Moving) (C : Chunk → Type 0) (K : Entry → Type 0) (is : IsMoving m C K) (p q : Program) (xs ys : List Part) (ep eq : List Entry) (l o : Layout) (s : AlikeStage m C K p q xs ys ep eq) (t : AlikeLayout m C K is l o) where
-  abbrev raw_body : Program → List Part → List Entry → Layout → FunctionKey → List ℕ
+module _ (m : Moving) (C : Chunk → Type 0) (K : InputSymbol → Type 0) (is : IsMoving m C K) (p q : Program) (xs ys : List Part) (ep eq : List InputSymbol) (l o : Layout) (s : AlikeStage m C K p q xs ys ep eq) (t : AlikeLayout m C K is l o) where
+  abbrev raw_body : Program → List Part → List InputSymbol → Layout → FunctionKey → List ℕ
   raw_body r parts es z f = source_bytes r.files (body_of Plain r parts es z f)
 
   raw_len : (f : FunctionKey) → IsBody m C K is p q xs ys ep eq l o s t f → length (raw_body q ys eq o (moved_function m f)) ≡ length (raw_body p xs ep l f)

@@ -8,7 +8,7 @@ use Rattle.object_file.specs.linking_section.declared.symbol.SymbolKind.TheVaria
 use Rattle.object_file.specs.linking_section.Flags.{kind_code}
 use Rattle.object_rules.specs.Relocs.{may_name}
 use Rattle.made_symbols.specs.declared.mode.Mode.TheVariants.{Plain}
-use Rattle.name_rules.specs.Entries.{Entry, is_kind}
+use Rattle.name_rules.specs.Entries.{InputSymbol, is_kind}
 use Rattle.name_rules.specs.Meanings.{Meaning, here, imported, null, nothing}
 use Rattle.mark_bits.specs.declared.chunk.Chunk.{Chunk}
 use Rattle.link_rules.specs.Program.{Program, Part, Ref}
@@ -48,7 +48,7 @@ cell_kind GlobalVar a may b = absurd cc
 cell_kind Section a may b = absurd cc
 cell_kind Table a may b = absurd cc
 
-module _ (m : Moving) (C : Chunk → Type 0) (K : Entry → Type 0) (is : IsMoving m C K) (p q : Program) (xs ys : List Part) (ep eq : List Entry) (s : AlikeStage m C K p q xs ys ep eq) where
+module _ (m : Moving) (C : Chunk → Type 0) (K : InputSymbol → Type 0) (is : IsMoving m C K) (p q : Program) (xs ys : List Part) (ep eq : List InputSymbol) (s : AlikeStage m C K p q xs ys ep eq) where
   module _ (l o : Layout) (t : AlikeLayout m C K is l o) where
     body_stubs : (names : List (List ℕ)) → All (IsBody m C K is p q xs ys ep eq l o s t) (map stub names)
     body_stubs [] = λ k d below. absurd (omega (arith, below))

@@ -7,7 +7,7 @@ use Rattle.std.proofs.lemmas.List.{map-append}
 use Rattle.std.proofs.lemmas.List.Elements.{All-append, All-cons}
 use Rattle.object_file.specs.wl_base.Choice.{given}
 use Rattle.made_symbols.specs.declared.mode.Mode.TheVariants.{Plain}
-use Rattle.name_rules.specs.Entries.{Entry, ImportKey, same_import}
+use Rattle.name_rules.specs.Entries.{InputSymbol, ImportKey, same_import}
 use Rattle.name_rules.specs.Meanings.{Meaning, here, imported, null, nothing}
 use Rattle.mark_bits.specs.declared.chunk.Chunk.{Chunk}
 use Rattle.link_rules.specs.Program.{Program, Part, Ref, chunk_at}
@@ -42,7 +42,7 @@ used_is : (k : ImportKey) (refs : List Ref) → has_import (used_imports (filter
 used_is k refs =
     any_filter_map (same_import k) (λ (ref : Ref). import_of ref.meaning) (filter (imports_by Plain) refs) ∙ any_filter (means_import k) (imports_by Plain) refs
 
-module _ (m : Moving) (C : Chunk → Type 0) (K : Entry → Type 0) (is : IsMoving m C K) (p q : Program) where
+module _ (m : Moving) (C : Chunk → Type 0) (K : InputSymbol → Type 0) (is : IsMoving m C K) (p q : Program) where
   -- ---- imports
 
   import_alike : (k : ImportKey) (a b : Ref) → AlikeRef m C K a b → means_import k b ≡ means_import k a
@@ -53,7 +53,7 @@ module _ (m : Moving) (C : Chunk → Type 0) (K : Entry → Type 0) (is : IsMovi
   used_alike xs ys alike k =
       used_is k (refs_of ys) ∙ (any_refs m C K p q (means_import k) (means_import k) (import_alike k) xs ys alike ∙ sym (used_is k (refs_of xs)))
 
-  pub function_imports_alike : (xs ys : List Part) (ep eq : List Entry) → AlikeStage m C K p q xs ys ep eq → function_imports_of Plain q (refs_of ys) ≡ function_imports_of Plain p (refs_of xs)
+  pub function_imports_alike : (xs ys : List Part) (ep eq : List InputSymbol) → AlikeStage m C K p q xs ys ep eq → function_imports_of Plain q (refs_of ys) ≡ function_imports_of Plain p (refs_of xs)
   function_imports_alike xs ys ep eq s =
       filter_same (λ k. is_function_type k.type && has_import (used_imports (filter (imports_by Plain) (refs_of ys))) k) (λ k. is_function_type k.type && has_import (used_imports (filter (imports_by Plain) (refs_of xs))) k)
       (λ k. ap (λ b. is_function_type k.type && b) (used_alike xs ys s.parts k)) (imports_in_order q)
@@ -107,7 +107,7 @@ module _ (m : Moving) (C : Chunk → Type 0) (K : Entry → Type 0) (is : IsMovi
   imports_stay ks = map_map outside (moved_function m) ks
 
   -- The functions of the other program are the moved ones.
-  pub functions_alike : (xs ys : List Part) (ep eq : List Entry) → AlikeStage m C K p q xs ys ep eq → functions Plain q ys ≡ map (moved_function m) (functions Plain p xs)
+  pub functions_alike : (xs ys : List Part) (ep eq : List InputSymbol) → AlikeStage m C K p q xs ys ep eq → functions Plain q ys ≡ map (moved_function m) (functions Plain p xs)
   unfolding functions
   functions_alike xs ys ep eq s =
       let made = of_code made_function_key (λ x e. given_none (x.chunk.input == 0) (x.chunk.kind == 0) (linker_function x.chunk.index) e) made_alike xs ys s.parts in

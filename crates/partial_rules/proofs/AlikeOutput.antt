@@ -12,7 +12,7 @@ use Rattle.object_file.specs.wasm_module.declared.parts.Export.{Export}
 use Rattle.object_file.specs.wasm_module.declared.parts.ModuleGlobal.{ModuleGlobal}
 use Rattle.object_file.specs.wasm_module.declared.parts.Element.{Element}
 use Rattle.made_symbols.specs.declared.mode.Mode.TheVariants.{Plain}
-use Rattle.name_rules.specs.Entries.{Entry}
+use Rattle.name_rules.specs.Entries.{InputSymbol}
 use Rattle.mark_bits.specs.declared.chunk.Chunk.{Chunk}
 use Rattle.reloc_apply.specs.declared.window.Patch.{Patch}
 use Rattle.reloc_apply.specs.Windows.{patch_of, signed32}
@@ -54,20 +54,20 @@ tree_with types imports functions tables memories globals exports elements bodie
 
 -- ---- the output as a tree with windows written
 
-module _ (m : Moving) (C : Chunk → Type 0) (K : Entry → Type 0) (is : IsMoving m C K) (p q : Program) (xs ys : List Part) (ep eq : List Entry) (l o : Layout) (s : AlikeStage m C K p q xs ys ep eq) (t : AlikeLayout m C K is l o) where
-  bodied : Program → List Part → List Entry → Layout → FunctionKey → List ℕ
+module _ (m : Moving) (C : Chunk → Type 0) (K : InputSymbol → Type 0) (is : IsMoving m C K) (p q : Program) (xs ys : List Part) (ep eq : List InputSymbol) (l o : Layout) (s : AlikeStage m C K p q xs ys ep eq) (t : AlikeLayout m C K is l o) where
+  bodied : Program → List Part → List InputSymbol → Layout → FunctionKey → List ℕ
   bodied r parts es z f = written_body m C K is p q xs ys ep eq l o s t r parts es z f
 
   blocked : Program → Layout → Part → Block
   blocked r z part = written_block m C K is p q xs ys ep eq l o s t r z part
 
-  abbrev written_tree : Program → List Part → List Entry → Layout → Tree
+  abbrev written_tree : Program → List Part → List InputSymbol → Layout → Tree
   written_tree r parts es z = tree_with z.numbers.types (imports Plain r parts es z) (map (λ f. type_place z.numbers (type_of r parts f)) (defined Plain r parts es z))
       (table Plain r parts es z ∷ []) (if imports_memory Plain r then [] else memory Plain r parts es z ∷ []) (filter_map (global_for Plain r parts es z) z.numbers.globals)
       (memory_export Plain r parts es z ++ map (λ e. export_of Plain r parts es z e e.symbol.kind) es) (elements Plain r parts es z)
       (map (bodied r parts es z) (defined Plain r parts es z)) (constants.I32 (signed32 (first_address Plain r parts es z (solid_segments r parts)))) (map (blocked r z) (solid_segments r parts))
 
-  filled_tree : (r : Program) (parts : List Part) (es : List Entry) (z : Layout)
+  filled_tree : (r : Program) (parts : List Part) (es : List InputSymbol) (z : Layout)
       → tree_filled (map (map patch_of) (source_windows Plain r parts es z)) (tree_of r.files (image Plain r parts es z)) ≡ written_tree r parts es z
   unfolding image source_windows bodied blocked
   filled_tree r parts es z =
@@ -152,13 +152,13 @@ module _ (m : Moving) (C : Chunk → Type 0) (K : Entry → Type 0) (is : IsMovi
   -- ---- before windows are written
 
   -- the image's tree, with these bodies and blocks
-  abbrev pub unwritten : Program → List Part → List Entry → Layout → List (List ℕ) → List Block → Tree
+  abbrev pub unwritten : Program → List Part → List InputSymbol → Layout → List (List ℕ) → List Block → Tree
   unwritten r parts es z bodies blocks = tree_with z.numbers.types (imports Plain r parts es z) (map (λ f. type_place z.numbers (type_of r parts f)) (defined Plain r parts es z))
       (table Plain r parts es z ∷ []) (if imports_memory Plain r then [] else memory Plain r parts es z ∷ []) (filter_map (global_for Plain r parts es z) z.numbers.globals)
       (memory_export Plain r parts es z ++ map (λ e. export_of Plain r parts es z e e.symbol.kind) es) (elements Plain r parts es z)
       bodies (constants.I32 (signed32 (first_address Plain r parts es z (solid_segments r parts)))) blocks
 
-  pub unwritten_is : (r : Program) (parts : List Part) (es : List Entry) (z : Layout) → tree_of r.files (image Plain r parts es z)
+  pub unwritten_is : (r : Program) (parts : List Part) (es : List InputSymbol) (z : Layout) → tree_of r.files (image Plain r parts es z)
       ≡ unwritten r parts es z (map (source_bytes r.files) (map (body_of Plain r parts es z) (defined Plain r parts es z))) (map (block_of r.files) (map (placed_source Plain r parts es z) (solid_segments r parts)))
   unfolding image
   unwritten_is r parts es z = refl

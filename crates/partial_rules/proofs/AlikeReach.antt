@@ -5,7 +5,7 @@ use Rattle.std.specs.List.{AllZip}
 use Rattle.std.proofs.lemmas.Bool.{lt-ltb, ltb-true}
 use Rattle.std.proofs.lemmas.Bool.Decides.{nat_tests}
 use Rattle.std.proofs.lemmas.List.Elements.{All-head, All-tail}
-use Rattle.name_rules.specs.Entries.{Entry}
+use Rattle.name_rules.specs.Entries.{InputSymbol}
 use Rattle.name_rules.specs.Meanings.{Meaning, here, imported, null, nothing}
 use Rattle.mark_bits.specs.declared.chunk.Chunk.{Chunk}
 use Rattle.mark_bits.specs.Words.{times, Among}
@@ -86,7 +86,7 @@ all_at P [] i x all at = absurd at
 all_at P (y ∷ ys) zero x all at = subst P at (All-head P y ys all)
 all_at P (y ∷ ys) (suc i) x all at = all_at P ys i x (All-tail P y ys all) at
 
-module _ (m : Moving) (C : Chunk → Type 0) (K : Entry → Type 0) (is : IsMoving m C K) (p q : Program) (alike : AlikeParts m C K p q p.parts q.parts)
+module _ (m : Moving) (C : Chunk → Type 0) (K : InputSymbol → Type 0) (is : IsMoving m C K) (p q : Program) (alike : AlikeParts m C K p q p.parts q.parts)
     (one_p : OnePlace (table_of p)) (one_q : OnePlace (table_of q)) (there : (c : Chunk) → C c → In c (table_of p)) where
   -- ---- counterparts
 
@@ -235,12 +235,12 @@ module _ (m : Moving) (C : Chunk → Type 0) (K : Entry → Type 0) (is : IsMovi
   -- ---- what is reached
 
   -- The roots are moved, and there are no others.
-  pub record AlikeRoots (ep eq : List Entry) : Type 0 where
+  pub record AlikeRoots (ep eq : List InputSymbol) : Type 0 where
     pub held : (c : Chunk) → In c (roots p ep) → C c
     pub moved : (c : Chunk) → In c (roots p ep) → In (m.chunk c) (roots q eq)
     pub from : (d : Chunk) → In d (roots q eq) → (c : Chunk) × In c (roots p ep) × (d ≡ m.chunk c)
 
-  module _ (ep eq : List Entry) (rooted : AlikeRoots ep eq) where
+  module _ (ep eq : List InputSymbol) (rooted : AlikeRoots ep eq) where
     root : (a : ℕ) → Among a (root_places p ep) → (a' : ℕ) × Pair a a' × Among a' (root_places q eq)
     root a among =
         let found = among_from (λ c. position (same_chunk c) (table_of p)) (roots p ep) a among in

@@ -2,7 +2,7 @@
 use Rattle.std.proofs.Common.{◌≡◌, ℕ, Bool, List, [], ◌∷◌, refl, sym, ◌∙◌}
 use Rattle.std.specs.Prelude.{filter_map}
 use Rattle.std.specs.List.{list_any, AllZip}
-use Rattle.name_rules.specs.Entries.{Entry}
+use Rattle.name_rules.specs.Entries.{InputSymbol}
 use Rattle.mark_bits.specs.declared.chunk.Chunk.{Chunk}
 use Rattle.link_rules.specs.Program.{Program, Part, Named, a_symbol, a_type, Ref, refs, named_ref}
 use Rattle.link_rules.specs.Marks.{refs_of}
@@ -10,7 +10,7 @@ use Rattle.link_rules.specs.Keys.{parts_of_kind}
 use Rattle.partial_rules.specs.Moving.{Moving, AlikeRef, AlikeNamed, AlikePart, AlikeParts}
 use Rattle.partial_rules.proofs.Lists.{zip_any, any_flat_map, any_by_kinds}
 
-module _ (m : Moving) (C : Chunk → Type 0) (K : Entry → Type 0) where
+module _ (m : Moving) (C : Chunk → Type 0) (K : InputSymbol → Type 0) where
   -- the references of two parts that have the same windows
   pub refs_zip : (xs ys : List Named) → AllZip (AlikeNamed m C K) xs ys → AllZip (AlikeRef m C K) (filter_map named_ref xs) (filter_map named_ref ys)
   refs_zip [] [] z = tt

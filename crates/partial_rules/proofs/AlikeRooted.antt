@@ -4,7 +4,7 @@ use Rattle.std.specs.Prelude.{Option, Some, None, option_map, filter_map, All, i
 use Rattle.std.specs.List.{cons_option}
 use Rattle.object_file.specs.linking_section.Flags.{has_bit}
 use Rattle.made_symbols.specs.declared.mode.Mode.TheVariants.{Plain}
-use Rattle.name_rules.specs.Entries.{Entry}
+use Rattle.name_rules.specs.Entries.{InputSymbol}
 use Rattle.mark_bits.specs.declared.chunk.Chunk.{Chunk}
 use Rattle.link_rules.specs.Program.{Program, Part, chunk_of}
 use Rattle.link_rules.specs.Marks.{exported, is_no_strip_winner, is_retained, is_object_part, table_of}
@@ -67,7 +67,7 @@ filter_test {A} t (y ∷ ys) i x at = by_test (t y) refl i at (filter_test t ys)
     by_test true is (suc k) at again = again k x at
     by_test false is k at again = again k x at
 
-module _ (m : Moving) (C : Chunk → Type 0) (K : Entry → Type 0) (is : IsMoving m C K) (p q : Program) (alike : AlikeParts m C K p q p.parts q.parts)
+module _ (m : Moving) (C : Chunk → Type 0) (K : InputSymbol → Type 0) (is : IsMoving m C K) (p q : Program) (alike : AlikeParts m C K p q p.parts q.parts)
     (one_p : OnePlace (table_of p)) (one_q : OnePlace (table_of q)) (there : (c : Chunk) → C c → In c (table_of p)) where
   -- Two lists of chunks, the second of which has the moved ones of the first and no others.
   pub record AlikeChunks (cs ds : List Chunk) : Type 0 where
@@ -89,7 +89,7 @@ module _ (m : Moving) (C : Chunk → Type 0) (K : Entry → Type 0) (is : IsMovi
   none = record { held = λ c found. absurd found.1; moved = λ c found. absurd found.1; from = λ d found. absurd found.1 }
 
   -- of definitions and the moved ones
-  of_entries : (es fs : List Entry) → fs ≡ map m.entry es → All K es → AlikeChunks (filter_map chunk_of es) (filter_map chunk_of fs)
+  of_entries : (es fs : List InputSymbol) → fs ≡ map m.entry es → All K es → AlikeChunks (filter_map chunk_of es) (filter_map chunk_of fs)
   of_entries es fs are held = record {
     held = λ c found. let e = of_filter_map chunk_of es found.0 c found.1 in is.entry_held e.0 c (all_at K es e.1.0 e.0 held e.1.1) e.2;
     moved = λ c found.
@@ -107,7 +107,7 @@ module _ (m : Moving) (C : Chunk → Type 0) (K : Entry → Type 0) (is : IsMovi
       same_some : (a b : Chunk) → (let o : Option Chunk = Some a in o ≡ Some b) → a ≡ b
       same_some a b e = cc
 
-      by_chunk : {d : Chunk} (e : Entry) (i : ℕ) → At es i e → K e → (o : Option Chunk) → chunk_of e ≡ o → option_map m.chunk (chunk_of e) ≡ Some d → (c : Chunk) × In c (filter_map chunk_of es) × (d ≡ m.chunk c)
+      by_chunk : {d : Chunk} (e : InputSymbol) (i : ℕ) → At es i e → K e → (o : Option Chunk) → chunk_of e ≡ o → option_map m.chunk (chunk_of e) ≡ Some d → (c : Chunk) × In c (filter_map chunk_of es) × (d ≡ m.chunk c)
       by_chunk {d} e i at k None absent some = absurd (let f : None ≡ Some d = ap (option_map m.chunk) (sym absent) ∙ some in cc)
       by_chunk {d} e i at k (Some c) given_one some = (c, to_filter_map chunk_of es i e c at given_one, sym (same_some (m.chunk c) d (ap (option_map m.chunk) (sym given_one) ∙ some)))
 
@@ -135,7 +135,7 @@ module _ (m : Moving) (C : Chunk → Type 0) (K : Entry → Type 0) (is : IsMovi
         (x.0.chunk, (other.0, at_map (λ part. part.chunk) (filter t p.parts) other.0 x.0 other.1), sym y.2 ∙ x.1.chunk);
   }
 
-  no_strip_alike : (e : Entry) → K e → is_no_strip_winner (m.entry e) ≡ is_no_strip_winner e
+  no_strip_alike : (e : InputSymbol) → K e → is_no_strip_winner (m.entry e) ≡ is_no_strip_winner e
   no_strip_alike e k = λ i. not (is.entry_made e k i) && has_bit 0x80 (is.entry_flags e k i)
 
   object_alike : (x y : Part) → AlikePart m C K p q x y → is_object_part y ≡ is_object_part x

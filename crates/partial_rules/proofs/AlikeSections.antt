@@ -10,7 +10,7 @@ use Rattle.object_file.specs.wasm_module.declared.parts.ModuleGlobal.{ModuleGlob
 use Rattle.object_file.specs.linking_section.declared.symbol.SymbolKind.{SymbolKind}
 use Rattle.object_file.specs.linking_section.declared.symbol.SymbolKind.TheVariants.{Function, Datum, GlobalVar, Section, Table}
 use Rattle.made_symbols.specs.declared.mode.Mode.TheVariants.{Plain}
-use Rattle.name_rules.specs.Entries.{Entry, ImportKey, SymbolType, of_function, of_global, untyped, is_kind}
+use Rattle.name_rules.specs.Entries.{InputSymbol, ImportKey, SymbolType, of_function, of_global, untyped, is_kind}
 use Rattle.mark_bits.specs.declared.chunk.Chunk.{Chunk}
 use Rattle.memory_layout.specs.declared.rules.Places.{Places}
 use Rattle.index_layout.specs.Numbers.{number_by}
@@ -35,7 +35,7 @@ same_map : {A : Type 0} (xs : List A) → map (λ x. x) xs ≡ xs
 same_map [] = refl
 same_map (x ∷ xs) = ap (λ ys. x ∷ ys) (same_map xs)
 
-module _ (m : Moving) (C : Chunk → Type 0) (K : Entry → Type 0) (is : IsMoving m C K) (p q : Program) (xs ys : List Part) (ep eq : List Entry) (l o : Layout) (s : AlikeStage m C K p q xs ys ep eq) (t : AlikeLayout m C K is l o) where
+module _ (m : Moving) (C : Chunk → Type 0) (K : InputSymbol → Type 0) (is : IsMoving m C K) (p q : Program) (xs ys : List Part) (ep eq : List InputSymbol) (l o : Layout) (s : AlikeStage m C K p q xs ys ep eq) (t : AlikeLayout m C K is l o) where
   -- ---- imports
 
   kind_alike : (x : SymbolType) → imported_kind Plain q ys eq o x ≡ imported_kind Plain p xs ep l x
@@ -44,7 +44,7 @@ module _ (m : Moving) (C : Chunk → Type 0) (K : Entry → Type 0) (is : IsMovi
   kind_alike untyped = refl
 
   import_alike : (k : ImportKey) → import_for Plain q ys eq o k ≡ import_for Plain p xs ep l k
-  import_alike k = ap (λ kind. record { «module» = k.place; field = k.field; kind = kind }) (kind_alike k.type)
+  import_alike k = ap (λ kind. record { «module» = k.module_name; field = k.field; kind = kind }) (kind_alike k.type)
 
   function_import_alike : (f : FunctionKey) → Unit {0} → function_import Plain q ys eq o (moved_function m f) ≡ option_map (λ i. i) (function_import Plain p xs ep l f)
   function_import_alike (outside k) u = ap Some (import_alike k)
@@ -185,7 +185,7 @@ module _ (m : Moving) (C : Chunk → Type 0) (K : Entry → Type 0) (is : IsMovi
 
   -- ---- exports
 
-  export_alike : (e : Entry) → K e × (export_name q (m.entry e) ≡ export_name p e) → export_of Plain q ys eq o (m.entry e) (m.entry e).symbol.kind ≡ export_of Plain p xs ep l e e.symbol.kind
+  export_alike : (e : InputSymbol) → K e × (export_name q (m.entry e) ≡ export_name p e) → export_of Plain q ys eq o (m.entry e) (m.entry e).symbol.kind ≡ export_of Plain p xs ep l e e.symbol.kind
   export_alike e known = ap (export_of Plain q ys eq o (m.entry e)) (is.entry_kind e known.0) ∙ by_kind e.symbol.kind refl
     where
       by_kind : (kind : SymbolKind) → e.symbol.kind ≡ kind → export_of Plain q ys eq o (m.entry e) kind ≡ export_of Plain p xs ep l e kind
@@ -203,7 +203,7 @@ module _ (m : Moving) (C : Chunk → Type 0) (K : Entry → Type 0) (is : IsMovi
       by_kind Section of = ap (λ name. record { name = name; kind = 1; index = 0 }) known.1
       by_kind Table of = ap (λ name. record { name = name; kind = 1; index = 0 }) known.1
 
-  both_known : (es : List Entry) → All K es → All (λ e. export_name q (m.entry e) ≡ export_name p e) es → All (λ e. K e × (export_name q (m.entry e) ≡ export_name p e)) es
+  both_known : (es : List InputSymbol) → All K es → All (λ e. export_name q (m.entry e) ≡ export_name p e) es → All (λ e. K e × (export_name q (m.entry e) ≡ export_name p e)) es
   both_known [] a b = λ k d below. absurd (omega (arith, below))
   both_known (e ∷ es) a b =
       All-cons (λ e. K e × (export_name q (m.entry e) ≡ export_name p e)) e es (All-head K e es a, All-head (λ e. export_name q (m.entry e) ≡ export_name p e) e es b)

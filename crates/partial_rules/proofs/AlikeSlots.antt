@@ -8,7 +8,7 @@ use Rattle.object_file.specs.linking_section.declared.symbol.SymbolKind.TheVaria
 use Rattle.object_file.specs.linking_section.Flags.{kind_code}
 use Rattle.object_rules.specs.Relocs.{may_name}
 use Rattle.made_symbols.specs.declared.mode.Mode.TheVariants.{Plain}
-use Rattle.name_rules.specs.Entries.{Entry, is_kind, name_of}
+use Rattle.name_rules.specs.Entries.{InputSymbol, is_kind, name_of}
 use Rattle.name_rules.specs.Meanings.{Meaning, here, imported, null, nothing}
 use Rattle.mark_bits.specs.declared.chunk.Chunk.{Chunk}
 use Rattle.link_rules.specs.Program.{Program, Part, Ref, chunk_at, chunk_of}
@@ -57,17 +57,17 @@ takes_function x n Table may e = four (Table ≡ Function) (not (is_null x)) (n 
     (λ is. no_way (subst (λ k. IsTrue (may_name k Table)) (is_that n 1 is) may)) (λ is. no_way (subst (λ k. IsTrue (may_name k Table)) (is_that n 2 is) may))
     (λ is. no_way (subst (λ k. IsTrue (may_name k Table)) (is_that n 12 is) may)) (λ is. no_and (Table ≡ Function) (n == 7) is)
 
-module _ (m : Moving) (C : Chunk → Type 0) (K : Entry → Type 0) (is : IsMoving m C K) where
+module _ (m : Moving) (C : Chunk → Type 0) (K : InputSymbol → Type 0) (is : IsMoving m C K) where
   -- ---- what a reference to a function names is known
 
-  pub of_entry : (e : Entry) → K e → e.symbol.kind ≡ Function → KnowsFunction m C K is (function_of e)
+  pub of_entry : (e : InputSymbol) → K e → e.symbol.kind ≡ Function → KnowsFunction m C K is (function_of e)
   of_entry e k of = by_made (e.input == 0)
     where
       by_made : (r : Bool) → KnowsFunction m C K is (if r then linker_function e.place else own e.input e.index)
       by_made true = tt
       by_made false = is.entry_held e (chunk_at e.input 0 e.index) k (chunk_is e of)
         where
-          chunk_is : (e : Entry) → e.symbol.kind ≡ Function → chunk_of e ≡ Some (chunk_at e.input 0 e.index)
+          chunk_is : (e : InputSymbol) → e.symbol.kind ≡ Function → chunk_of e ≡ Some (chunk_at e.input 0 e.index)
           chunk_is e of = rw of refl
 
   pub ref_known : (a b : Ref) → AlikeRef m C K a b → a.entry.symbol.kind ≡ Function → KnowsFunction m C K is (ref_function a)
@@ -79,7 +79,7 @@ module _ (m : Moving) (C : Chunk → Type 0) (K : Entry → Type 0) (is : IsMovi
       by_meaning null held = tt
       by_meaning nothing held = tt
 
-module _ (m : Moving) (C : Chunk → Type 0) (K : Entry → Type 0) (is : IsMoving m C K) (p q : Program) where
+module _ (m : Moving) (C : Chunk → Type 0) (K : InputSymbol → Type 0) (is : IsMoving m C K) (p q : Program) where
   takes_alike : (a b : Ref) → AlikeRef m C K a b → takes_slot Plain b ≡ takes_slot Plain a
   takes_alike a b r =
       ap (λ x. takes_by x b.kind b.entry.symbol.kind) r.meaning

@@ -7,7 +7,7 @@ use Rattle.std.proofs.lemmas.List.Elements.{All-head, All-tail}
 use Rattle.object_file.specs.linking_section.declared.symbol.SymbolKind.TheVariants.{Function}
 use Rattle.object_rules.specs.Relocs.{may_name}
 use Rattle.made_symbols.specs.declared.mode.Mode.TheVariants.{Plain}
-use Rattle.name_rules.specs.Entries.{Entry}
+use Rattle.name_rules.specs.Entries.{InputSymbol}
 use Rattle.mark_bits.specs.declared.chunk.Chunk.{Chunk}
 use Rattle.ctor_call.specs.Body.{ctor_body}
 use Rattle.reloc_apply.specs.declared.window.Patch.{Patch}
@@ -54,7 +54,7 @@ second true true c e = refl
 second true false c e = absurd cc
 second false b c e = absurd cc
 
-module _ (m : Moving) (C : Chunk → Type 0) (K : Entry → Type 0) (is : IsMoving m C K) (p q : Program) (xs ys : List Part) (ep eq : List Entry) (l o : Layout) (s : AlikeStage m C K p q xs ys ep eq) (t : AlikeLayout m C K is l o) where
+module _ (m : Moving) (C : Chunk → Type 0) (K : InputSymbol → Type 0) (is : IsMoving m C K) (p q : Program) (xs ys : List Part) (ep eq : List InputSymbol) (l o : Layout) (s : AlikeStage m C K p q xs ys ep eq) (t : AlikeLayout m C K is l o) where
   -- the bytes of a part with its windows written
   abbrev pub written_part : Program → Layout → Part → List ℕ
   written_part r z part = filled (map patch_of (windows Plain z part)) (part_bytes r part)
@@ -67,7 +67,7 @@ module _ (m : Moving) (C : Chunk → Type 0) (K : Entry → Type 0) (is : IsMovi
 
   -- ---- bodies
 
-  abbrev pub written_body : Program → List Part → List Entry → Layout → FunctionKey → List ℕ
+  abbrev pub written_body : Program → List Part → List InputSymbol → Layout → FunctionKey → List ℕ
   written_body r parts es z f = filled (map patch_of (body_windows Plain r parts es z f)) (source_bytes r.files (body_of Plain r parts es z f))
 
   abbrev pub IsBody : FunctionKey → Type 0
@@ -88,7 +88,7 @@ module _ (m : Moving) (C : Chunk → Type 0) (K : Entry → Type 0) (is : IsMovi
       (at_alike m C K is p q input index held) (parts_of_kind 0 xs) (parts_of_kind 0 ys) s.parts.functions
       ∙ ap f (sym (find_of (is_function_at input index) code (λ x e. no_kind (x.chunk.kind == 0) (x.chunk.input == input) (x.chunk.index == index) e) xs)))
 
-  part_body : Program → List Part → List Entry → Layout → Option Part → List ℕ
+  part_body : Program → List Part → List InputSymbol → Layout → Option Part → List ℕ
   part_body r parts es z found = filled (map patch_of (windows_in Plain r parts es z found)) (source_bytes r.files (source_of Plain r parts es z found))
 
   -- the calls of the linker's function

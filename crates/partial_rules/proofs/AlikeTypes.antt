@@ -4,7 +4,7 @@ use Rattle.std.specs.Prelude.{filter_map, All}
 use Rattle.std.specs.List.{AllZip}
 use Rattle.std.proofs.lemmas.List.Elements.{All-cons, All-head, All-tail}
 use Rattle.made_symbols.specs.declared.mode.Mode.TheVariants.{Plain}
-use Rattle.name_rules.specs.Entries.{Entry}
+use Rattle.name_rules.specs.Entries.{InputSymbol}
 use Rattle.name_rules.specs.Cases.{first_entry}
 use Rattle.mark_bits.specs.declared.chunk.Chunk.{Chunk}
 use Rattle.type_merge.specs.Types.{merged}
@@ -24,7 +24,7 @@ shuffle false false c = refl
 pub no_kind : (a b c : Bool) → a ≡ false → (a && b && c) ≡ false
 no_kind a b c e = rw e refl
 
-module _ (m : Moving) (C : Chunk → Type 0) (K : Entry → Type 0) (is : IsMoving m C K) (p q : Program) where
+module _ (m : Moving) (C : Chunk → Type 0) (K : InputSymbol → Type 0) (is : IsMoving m C K) (p q : Program) where
   pub at_alike : (input index : ℕ) → C (chunk_at input 0 index) → (x y : Part) → AlikePart m C K p q x y
       → is_function_at (m.chunk (chunk_at input 0 index)).input (m.chunk (chunk_at input 0 index)).index y ≡ is_function_at input index x
   at_alike input index held x y alike =
@@ -83,11 +83,11 @@ module _ (m : Moving) (C : Chunk → Type 0) (K : Entry → Type 0) (is : IsMovi
       All-cons IsTyped (stub n) (map stub names) (All-head (λ name. entry_type (first_entry q.entries name) ≡ entry_type (first_entry p.entries name)) n names all)
       (stubs_typed names (All-tail (λ name. entry_type (first_entry q.entries name) ≡ entry_type (first_entry p.entries name)) n names all))
 
-  pub functions_typed : (xs ys : List Part) (ep eq : List Entry) → AlikeStage m C K p q xs ys ep eq → All IsTyped (functions Plain p xs)
+  pub functions_typed : (xs ys : List Part) (ep eq : List InputSymbol) → AlikeStage m C K p q xs ys ep eq → All IsTyped (functions Plain p xs)
   functions_typed xs ys ep eq s =
       functions_all m C K is p q IsTyped (λ k. tt) (λ c. tt) (λ input index c. c) xs ys s.parts (stubs_typed (stub_names p (refs_of xs)) s.stub_types)
 
-  pub types_alike : (xs ys : List Part) (ep eq : List Entry) → AlikeStage m C K p q xs ys ep eq → types q ys (map (moved_function m) (functions Plain p xs)) ≡ types p xs (functions Plain p xs)
+  pub types_alike : (xs ys : List Part) (ep eq : List InputSymbol) → AlikeStage m C K p q xs ys ep eq → types q ys (map (moved_function m) (functions Plain p xs)) ≡ types p xs (functions Plain p xs)
   unfolding types
   types_alike xs ys ep eq s =
       let fs : List FunctionKey = functions Plain p xs in

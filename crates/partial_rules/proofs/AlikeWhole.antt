@@ -3,7 +3,7 @@ use Rattle.std.proofs.Common.{◌≡◌, ℕ, List, refl}
 use Rattle.std.specs.Prelude.{None, Ok}
 use Rattle.object_file.specs.wl_base.Choice.{unless, ◌>>=◌}
 use Rattle.made_symbols.specs.declared.mode.Mode.TheVariants.{Plain}
-use Rattle.name_rules.specs.Entries.{Entry}
+use Rattle.name_rules.specs.Entries.{InputSymbol}
 use Rattle.mark_bits.specs.declared.chunk.Chunk.{Chunk}
 use Rattle.live_mark.specs.Live.{ReachedLaw}
 use Rattle.link_rules.specs.Program.{Program, Part}
@@ -17,12 +17,12 @@ use Rattle.partial_rules.proofs.AlikeExports.{exports_are, exports_held, export_
 use Rattle.partial_rules.proofs.AlikeLinks.{laid_out_alike}
 use Rattle.partial_rules.proofs.AlikeLaidOut.{no_fault, goes_on}
 
-module _ (m : Moving) (C : Chunk → Type 0) (K : Entry → Type 0) (is : IsMoving m C K) (p q : Program) where
+module _ (m : Moving) (C : Chunk → Type 0) (K : InputSymbol → Type 0) (is : IsMoving m C K) (p q : Program) where
   pub exporting_alike : ReachedLaw → AlikePrograms m C K p q → LiveMeant p → (bytes : List ℕ) → exporting Plain p (exported Plain p) ≡ Ok bytes → exporting Plain q (exported Plain q) ≡ Ok bytes
   unfolding marked pic_fault
   exporting_alike law s meant bytes e =
-      let ep : List Entry = exported Plain p in
-      let eq : List Entry = exported Plain q in
+      let ep : List InputSymbol = exported Plain p in
+      let eq : List InputSymbol = exported Plain q in
       let xs : List Part = live p ep in
       let ys : List Part = live q eq in
       let rooted = roots_alike m C K is p q s.parts s.one_place s.one_place_too s.there s.words s.winners s.gc in

@@ -7,7 +7,7 @@ use Rattle.object_file.specs.linking_section.declared.symbol.SymbolKind.TheVaria
 use Rattle.object_file.specs.linking_section.Flags.{kind_code}
 use Rattle.object_rules.specs.Relocs.{may_name}
 use Rattle.made_symbols.specs.declared.mode.Mode.TheVariants.{Plain}
-use Rattle.name_rules.specs.Entries.{Entry, is_kind}
+use Rattle.name_rules.specs.Entries.{InputSymbol, is_kind}
 use Rattle.name_rules.specs.Meanings.{Meaning, here, imported, null, nothing}
 use Rattle.mark_bits.specs.declared.chunk.Chunk.{Chunk}
 use Rattle.memory_layout.specs.declared.rules.Places.{Places}
@@ -112,7 +112,7 @@ address_asked n kind e may =
 
 -- ---- two layouts
 
-module _ (m : Moving) (C : Chunk → Type 0) (K : Entry → Type 0) (is : IsMoving m C K) where
+module _ (m : Moving) (C : Chunk → Type 0) (K : InputSymbol → Type 0) (is : IsMoving m C K) where
   pub record AlikeLayout (l o : Layout) : Type 0 where
     pub segments : o.segments ≡ map m.chunk l.segments
     pub held : All C l.segments
@@ -126,10 +126,10 @@ module _ (m : Moving) (C : Chunk → Type 0) (K : Entry → Type 0) (is : IsMovi
     pub globals_known : All (KnowsGlobal m C K is) l.numbers.globals
     pub types : o.numbers.types ≡ l.numbers.types
 
-  global_chunk : (e : Entry) → e.symbol.kind ≡ GlobalVar → chunk_of e ≡ Some (chunk_at e.input 2 e.index)
+  global_chunk : (e : InputSymbol) → e.symbol.kind ≡ GlobalVar → chunk_of e ≡ Some (chunk_at e.input 2 e.index)
   global_chunk e of = rw of refl
 
-  pub global_entry : (e : Entry) → K e → e.symbol.kind ≡ GlobalVar → KnowsGlobal m C K is (global_of Plain e)
+  pub global_entry : (e : InputSymbol) → K e → e.symbol.kind ≡ GlobalVar → KnowsGlobal m C K is (global_of Plain e)
   global_entry e k of = by_made (e.input == 0)
     where
       by_made : (r : Bool) → KnowsGlobal m C K is (if r then linker_global e.place else own_global e.input e.index)
@@ -166,16 +166,16 @@ module _ (m : Moving) (C : Chunk → Type 0) (K : Entry → Type 0) (is : IsMovi
     same_some : (a b : Chunk) → (let r : Option Chunk = Some a in r ≡ Some b) → a ≡ b
     same_some a b e = cc
 
-    address_by : Layout → Entry → Bool → ℕ
+    address_by : Layout → InputSymbol → Bool → ℕ
     address_by z e true = slice_index_or (made_data z.places) e.place 0
     address_by z e false = segment_address z (chunk_at e.input 1 e.index) + e.symbol.offset
 
-    address_is : (z : Layout) (e : Entry) (r : Bool) → (e.input == 0) ≡ r → address_of Plain z e ≡ address_by z e r
+    address_is : (z : Layout) (e : InputSymbol) (r : Bool) → (e.input == 0) ≡ r → address_of Plain z e ≡ address_by z e r
     unfolding address_by
     address_is z e true made = rw made refl
     address_is z e false made = rw made refl
 
-    pub address_alike : (e : Entry) → K e → e.symbol.kind ≡ Datum → address_of Plain o (m.entry e) ≡ address_of Plain l e
+    pub address_alike : (e : InputSymbol) → K e → e.symbol.kind ≡ Datum → address_of Plain o (m.entry e) ≡ address_of Plain l e
     unfolding address_by
     address_alike e k of = by_made (e.input == 0) refl
       where
@@ -190,7 +190,7 @@ module _ (m : Moving) (C : Chunk → Type 0) (K : Entry → Type 0) (is : IsMovi
             ∙ (ap (λ n. segment_address o (m.chunk (chunk_at e.input 1 e.index)) + n) (is.entry_offset e k)
             ∙ (ap (λ n. n + e.symbol.offset) (segment_alike (chunk_at e.input 1 e.index) (datum_held other)) ∙ sym (address_is l e false other))))
           where
-            chunk_is : (f : Entry) → (f.input == 0) ≡ false → chunk_by f Datum ≡ Some (chunk_at f.input 1 f.index)
+            chunk_is : (f : InputSymbol) → (f.input == 0) ≡ false → chunk_by f Datum ≡ Some (chunk_at f.input 1 f.index)
             chunk_is f other = rw other refl
 
             datum_moves : (e.input == 0) ≡ false → chunk_at (m.entry e).input 1 (m.entry e).index ≡ m.chunk (chunk_at e.input 1 e.index)
@@ -265,10 +265,10 @@ module _ (m : Moving) (C : Chunk → Type 0) (K : Entry → Type 0) (is : IsMovi
             by_meaning null held = tt
             by_meaning nothing held = tt
 
-        chunk_is : (e : Entry) → e.symbol.kind ≡ GlobalVar → chunk_of e ≡ Some (chunk_at e.input 2 e.index)
+        chunk_is : (e : InputSymbol) → e.symbol.kind ≡ GlobalVar → chunk_of e ≡ Some (chunk_at e.input 2 e.index)
         chunk_is e of = rw of refl
 
-        of_entry : (e : Entry) → K e → e.symbol.kind ≡ GlobalVar → KnowsGlobal m C K is (global_of Plain e)
+        of_entry : (e : InputSymbol) → K e → e.symbol.kind ≡ GlobalVar → KnowsGlobal m C K is (global_of Plain e)
         of_entry e k of = by_made (e.input == 0)
           where
             by_made : (r : Bool) → KnowsGlobal m C K is (if r then linker_global e.place else own_global e.input e.index)

@@ -1,7 +1,7 @@
 -- Two programs that are one but for where symbols and parts stand: what is asked of them, so that they give the same output.
 use Rattle.std.specs.Prelude.{◌≡◌, ℕ, zero, suc, false, List, [], ◌∷◌, map, position, Some, All}
 use Rattle.made_symbols.specs.declared.mode.Mode.TheVariants.{Plain}
-use Rattle.name_rules.specs.Entries.{Entry}
+use Rattle.name_rules.specs.Entries.{InputSymbol}
 use Rattle.name_rules.specs.Meanings.{is_nothing}
 use Rattle.name_rules.specs.Cases.{first_entry}
 use Rattle.mark_bits.specs.declared.chunk.Chunk.{Chunk}
@@ -35,13 +35,13 @@ pub record AlikeWords (p q : Program) : Type 0 where
   pub memory : q.plan.import_memory ≡ p.plan.import_memory
 
 -- The winners are the moved ones, in one order, and are exported under the same names.
-pub record AlikeWinners (m : Moving) (K : Entry → Type 0) (p q : Program) : Type 0 where
+pub record AlikeWinners (m : Moving) (K : InputSymbol → Type 0) (p q : Program) : Type 0 where
   pub are : q.winners ≡ map m.entry p.winners
   pub held : All K p.winners
   pub names : All (λ e. export_name q (m.entry e) ≡ export_name p e) p.winners
 
 -- The two are one but for the moving.
-pub record AlikePrograms (m : Moving) (C : Chunk → Type 0) (K : Entry → Type 0) (p q : Program) : Type 0 where
+pub record AlikePrograms (m : Moving) (C : Chunk → Type 0) (K : InputSymbol → Type 0) (p q : Program) : Type 0 where
   pub words : AlikeWords p q
   pub rules : rules_of Plain q.plan ≡ rules_of Plain p.plan
   pub most : q.plan.max_memory ≡ p.plan.max_memory

@@ -4,7 +4,7 @@ use Rattle.std.specs.Prelude.{◌≡◌, ◌==◌, ◌<◌, false, List, [], ◌
 use Rattle.std.specs.List.{AllZip}
 use Rattle.object_file.specs.linking_section.declared.symbol.SymbolKind.{SymbolKind}
 use Rattle.object_rules.specs.Relocs.{may_name}
-use Rattle.name_rules.specs.Entries.{Entry, name_of, same_entry}
+use Rattle.name_rules.specs.Entries.{InputSymbol, name_of, same_entry}
 use Rattle.name_rules.specs.Meanings.{Meaning, here, imported, null, nothing}
 use Rattle.mark_bits.specs.declared.chunk.Chunk.{Chunk}
 use Rattle.reloc_apply.specs.declared.window.Patch.{Patch}
@@ -27,7 +27,7 @@ SameWindows (p ∷ ps) (q ∷ qs) = (p.place ≡ q.place) × (p.form ≡ q.form)
 -- Where a chunk stands in the other program, and which symbol stands for a definition.
 pub record Moving : Type 0 where
   pub chunk : Chunk → Chunk
-  pub entry : Entry → Entry
+  pub entry : InputSymbol → InputSymbol
 
 module _ (m : Moving) where
   abbrev pub moved_meaning : Meaning → Meaning
@@ -56,21 +56,21 @@ module _ (m : Moving) where
 
   -- ---- what is asked of it: of the chunks of kept parts, and of the definitions that something means
 
-  module _ (C : Chunk → Type 0) (K : Entry → Type 0) where
+  module _ (C : Chunk → Type 0) (K : InputSymbol → Type 0) where
     pub record IsMoving : Type 0 where
       pub chunks_apart : (a b : Chunk) → C a → C b → same_chunk (m.chunk a) (m.chunk b) ≡ same_chunk a b
       pub chunk_kind : (c : Chunk) → C c → (m.chunk c).kind ≡ c.kind
       pub chunk_made : (c : Chunk) → C c → ((m.chunk c).input == 0) ≡ (c.input == 0)
       pub chunk_stays : (c : Chunk) → C c → c.input ≡ 0 → m.chunk c ≡ c
-      pub entries_apart : (a b : Entry) → K a → K b → same_entry (m.entry a) (m.entry b) ≡ same_entry a b
-      pub entry_kind : (e : Entry) → K e → (m.entry e).symbol.kind ≡ e.symbol.kind
-      pub entry_name : (e : Entry) → K e → name_of (m.entry e) ≡ name_of e
-      pub entry_flags : (e : Entry) → K e → (m.entry e).symbol.flags ≡ e.symbol.flags
-      pub entry_offset : (e : Entry) → K e → (m.entry e).symbol.offset ≡ e.symbol.offset
-      pub entry_made : (e : Entry) → K e → ((m.entry e).input == 0) ≡ (e.input == 0)
-      pub entry_stays : (e : Entry) → K e → e.input ≡ 0 → m.entry e ≡ e
-      pub entry_chunk : (e : Entry) → K e → chunk_of (m.entry e) ≡ option_map m.chunk (chunk_of e)
-      pub entry_held : (e : Entry) (c : Chunk) → K e → chunk_of e ≡ Some c → C c
+      pub entries_apart : (a b : InputSymbol) → K a → K b → same_entry (m.entry a) (m.entry b) ≡ same_entry a b
+      pub entry_kind : (e : InputSymbol) → K e → (m.entry e).symbol.kind ≡ e.symbol.kind
+      pub entry_name : (e : InputSymbol) → K e → name_of (m.entry e) ≡ name_of e
+      pub entry_flags : (e : InputSymbol) → K e → (m.entry e).symbol.flags ≡ e.symbol.flags
+      pub entry_offset : (e : InputSymbol) → K e → (m.entry e).symbol.offset ≡ e.symbol.offset
+      pub entry_made : (e : InputSymbol) → K e → ((m.entry e).input == 0) ≡ (e.input == 0)
+      pub entry_stays : (e : InputSymbol) → K e → e.input ≡ 0 → m.entry e ≡ e
+      pub entry_chunk : (e : InputSymbol) → K e → chunk_of (m.entry e) ≡ option_map m.chunk (chunk_of e)
+      pub entry_held : (e : InputSymbol) (c : Chunk) → K e → chunk_of e ≡ Some c → C c
 
     -- ---- references and parts
 
@@ -125,7 +125,7 @@ module _ (m : Moving) where
 
     -- ---- what is live, with what is exported
 
-    pub record AlikeStage (p q : Program) (xs ys : List Part) (exports exports_too : List Entry) : Type 0 where
+    pub record AlikeStage (p q : Program) (xs ys : List Part) (exports exports_too : List InputSymbol) : Type 0 where
       -- the words say the same of memory
       pub rules : rules_of Plain q.plan ≡ rules_of Plain p.plan
       pub imports : imports_in_order q ≡ imports_in_order p

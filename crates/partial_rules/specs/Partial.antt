@@ -24,7 +24,7 @@ use Rattle.object_file.specs.object_columns.declared.functions.FunctionDef.{Func
 use Rattle.object_file.specs.declared.object.Object.{Object}
 use Rattle.object_file.specs.Objects.{no_info}
 use Rattle.object_file.specs.Spaces.{function_imports}
-use Rattle.name_rules.specs.Entries.{Entry, ImportKey, SymbolType, of_function, of_global, untyped, is_kind, is_entry, is_named, name_of, named, same_entry, group_winner, is_input}
+use Rattle.name_rules.specs.Entries.{InputSymbol, ImportKey, SymbolType, of_function, of_global, untyped, is_kind, is_entry, is_named, name_of, named, same_entry, group_winner, is_input}
 use Rattle.name_rules.specs.Meanings.{Resolved, references, least_import}
 use Rattle.mark_bits.specs.declared.chunk.Chunk.{Chunk}
 use Rattle.type_merge.specs.Types.{merged}
@@ -67,15 +67,15 @@ module _ (p : Program) where
   -- ---- which symbols stand there
 
   -- The winner of a name, where an object defines it.
-  abbrev pub object_winner : List ℕ → Option Entry
+  abbrev pub object_winner : List ℕ → Option InputSymbol
   object_winner name = find (λ w. not (w.input == 0) && is_named name w) p.winners
 
   -- The least entry of a name in an object.
-  abbrev pub least_in_object : List ℕ → Option Entry
+  abbrev pub least_in_object : List ℕ → Option InputSymbol
   least_in_object name = find (λ e. not (e.input == 0) && is_named name e) p.entries
 
   -- The references of a name: its entries that define nothing.
-  abbrev pub name_references : List ℕ → List Entry
+  abbrev pub name_references : List ℕ → List InputSymbol
   name_references name = references (named p.entries name)
 
   abbrev pub names_it : List ℕ → Ref → Bool
@@ -86,48 +86,48 @@ module _ (p : Program) where
   is_referenced name = not (length (name_references name) == 0) || list_any (names_it name) (refs_of p.parts)
 
   -- An entry stands for its name: the winner, where an object has it, else the least entry, where the name is referenced.
-  abbrev pub stands_for_name : Entry → Option Entry → Bool
+  abbrev pub stands_for_name : InputSymbol → Option InputSymbol → Bool
   stands_for_name e (Some w) = same_entry e w
   stands_for_name e None = is_that e (least_in_object (name_of e)) && is_referenced (name_of e)
 
-  abbrev pub stands : Entry → Bool
+  abbrev pub stands : InputSymbol → Bool
   stands e = if is_entry e then stands_for_name e (object_winner (name_of e)) else e.defines && not (is_kind Section e)
 
   -- The symbols by input and place: kept local definitions, and one for each name.
-  abbrev pub standing : List Entry
+  abbrev pub standing : List InputSymbol
   standing = filter stands (all_symbols p)
 
   -- A name that no object defines is open.
-  abbrev pub is_open : Entry → Bool
+  abbrev pub is_open : InputSymbol → Bool
   is_open e = is_entry e && is_none (object_winner (name_of e))
 
-  abbrev pub open_of : SymbolKind → List Entry
+  abbrev pub open_of : SymbolKind → List InputSymbol
   open_of kind = filter (λ e. is_open e && is_kind kind e) standing
 
   -- The number of the symbol that stands for an entry: of its name, or of itself where it is local.
-  abbrev pub is_for : Entry → Entry → Bool
+  abbrev pub is_for : InputSymbol → InputSymbol → Bool
   is_for e s = if is_entry e then is_entry s && is_named (name_of e) s else same_entry e s
 
-  abbrev pub symbol_number : Entry → ℕ
+  abbrev pub symbol_number : InputSymbol → ℕ
   symbol_number e = unwrap_or (position (is_for e) standing) 0
 
   -- ---- imports: the memory, then one for each open function and global and one for all open tables, in the order of symbols
 
   -- The import of the least EXPLICIT_NAME reference that stands on one, else of the least reference that stands on one, else `env`
   -- and the name.
-  abbrev pub open_import : Entry → ImportKey
+  abbrev pub open_import : InputSymbol → ImportKey
   open_import e = unwrap_or
       (first_some (least_import (filter (λ r. is_explicit r.symbol) (name_references (name_of e))) ∷ least_import (name_references (name_of e)) ∷ []))
-      (record { place = codes "env"; field = name_of e; type = e.type })
+      (record { module_name = codes "env"; field = name_of e; type = e.type })
 
-  abbrev pub has_import : Entry → SymbolKind → Bool
+  abbrev pub has_import : InputSymbol → SymbolKind → Bool
   has_import e Function = true
   has_import e Datum = false
   has_import e GlobalVar = true
   has_import e Section = false
   has_import e Table = is_that e (find (is_kind Table) standing)
 
-  abbrev pub importing : List Entry
+  abbrev pub importing : List InputSymbol
   importing = filter (λ e. is_open e && has_import e e.symbol.kind) standing
 
   abbrev pub import_types : List FuncType
@@ -147,7 +147,7 @@ module _ (p : Program) where
   import_kind untyped = kinds.Table (record { funcref = true; limits = record { min = 0; max = None } })
 
   abbrev pub import_for : ImportKey → Import
-  import_for k = record { «module» = k.place; field = k.field; kind = import_kind k.type }
+  import_for k = record { «module» = k.module_name; field = k.field; kind = import_kind k.type }
 
   abbrev pub imports : List Import
   imports = memory_import ∷ map (λ e. import_for (open_import e)) importing
@@ -166,26 +166,26 @@ module _ (p : Program) where
   bit_where bit test = if test then bit else 0
 
   -- An open symbol is WEAK where all references of its name are, and EXPLICIT_NAME where one is.
-  abbrev pub flags_by : List Entry → ℕ → ℕ
+  abbrev pub flags_by : List InputSymbol → ℕ → ℕ
   flags_by refs flags =
       bit_and flags other_flags + 0x10
       + bit_where 0x01 (list_all (λ r. is_weak r.symbol) refs) + bit_where 0x40 (list_any (λ r. is_explicit r.symbol) refs)
 
-  abbrev pub open_index : Entry → SymbolKind → ℕ
+  abbrev pub open_index : InputSymbol → SymbolKind → ℕ
   open_index e Function = number_by same_entry (open_of Function) e
   open_index e Datum = 0
   open_index e GlobalVar = number_by same_entry (open_of GlobalVar) e
   open_index e Section = 0
   open_index e Table = 0
 
-  abbrev pub defined_index : Entry → SymbolKind → ℕ
+  abbrev pub defined_index : InputSymbol → SymbolKind → ℕ
   defined_index e Function = function_number (chunk_at e.input 0 e.index)
   defined_index e Datum = place_of 1 (chunk_at e.input 1 e.index)
   defined_index e GlobalVar = global_number (chunk_at e.input 2 e.index)
   defined_index e Section = 0
   defined_index e Table = 0
 
-  abbrev pub open_symbol : Entry → Symbol
+  abbrev pub open_symbol : InputSymbol → Symbol
   open_symbol e = record {
     kind = e.symbol.kind;
     flags = flags_by (name_references (name_of e)) e.symbol.flags;
@@ -195,7 +195,7 @@ module _ (p : Program) where
     size = 0;
   }
 
-  abbrev pub symbol_for : Entry → Symbol
+  abbrev pub symbol_for : InputSymbol → Symbol
   symbol_for e = if is_open e then open_symbol e else record e.symbol { index = defined_index e e.symbol.kind }
 
   -- ---- functions, segments and globals
@@ -268,10 +268,10 @@ module _ (p : Program) where
 
   -- ---- what is refused: a reference to a local symbol of a part that isn't kept
 
-  abbrev pub is_lost : Entry → Bool
+  abbrev pub is_lost : InputSymbol → Bool
   is_lost e = is_local_definition e.symbol && not e.defines
 
-  abbrev pub is_lost_there : Entry → Bool
+  abbrev pub is_lost_there : InputSymbol → Bool
   is_lost_there e = is_lost e && list_any (λ (ref : Ref). same_entry ref.entry e) (refs_of p.parts)
 
   -- The least such symbol, by input and place.

@@ -5,7 +5,7 @@ ghost use Rattle.object_file.specs.Objects.{object_from};
 ghost use Rattle.object_rules.specs.Rules.{broken_rule};
 ghost use Rattle.made_symbols.specs.declared.mode.Mode.TheVariants.{Plain};
 ghost use Rattle.mark_bits.specs.declared.chunk.Chunk.{Chunk};
-ghost use Rattle.name_rules.specs.Entries.{Entry};
+ghost use Rattle.name_rules.specs.Entries.{InputSymbol};
 ghost use Rattle.link_rules.specs.Program.{Program};
 ghost use Rattle.link_rules.specs.Marks.{exported};
 ghost use Rattle.link_rules.specs.LinkOf.{exporting};
@@ -24,7 +24,7 @@ use live_mark::reached_exactly;
 /// It asks for a moving of the one to the other, for these chunks and definitions, that the two are alike under it, and that something is
 /// meant by all that live parts of the first refer to.
 pub fn alike_programs_give_the_same_output()
-    ensures { (m : Moving) (chunks : Chunk → Bool) (definitions : Entry → Bool) (p q : Program) (bytes : List ℕ)
+    ensures { (m : Moving) (chunks : Chunk → Bool) (definitions : InputSymbol → Bool) (p q : Program) (bytes : List ℕ)
         → IsMoving m (λ c. IsTrue (chunks c)) (λ e. IsTrue (definitions e))
         → AlikePrograms m (λ c. IsTrue (chunks c)) (λ e. IsTrue (definitions e)) p q → LiveMeant p
         → exporting Plain p (exported Plain p) ≡ Ok bytes → exporting Plain q (exported Plain q) ≡ Ok bytes }

@@ -10,7 +10,7 @@ use Rattle.link_program.specs.linking_section.declared.symbol.Symbol.{Symbol}
 use Rattle.link_program.specs.object_file.declared.object.Object.{Object}
 use Rattle.link_program.specs.made_symbols.declared.mode.Mode.{Mode}
 use Rattle.link_program.specs.made_symbols.Made.{made, MadeSymbol}
-use Rattle.link_program.specs.name_rules.Entries.{Entry, entries, entries_from, entry_in, made_from, made_entry, symbols_of, is_entry, name_of}
+use Rattle.link_program.specs.name_rules.Entries.{InputSymbol, entries, entries_from, entry_in, made_from, made_entry, symbols_of, is_entry, name_of}
 use Rattle.link_program.specs.link_names.Numbered.{different_names, is_entry_symbol, symbol_name, entry_names, group_names}
 use Rattle.link_program.specs.link_names.Numbered as numbered
 use Rattle.link_program.specs.link_rules.Program.{Program}

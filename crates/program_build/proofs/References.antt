@@ -6,7 +6,7 @@ use Rattle.link_program.specs.reloc_section.declared.entry.Reloc.{Reloc}
 use Rattle.link_program.specs.body_windows.declared.operand.Operand.{Operand}
 use Rattle.link_program.specs.body_windows.declared.operand.Operand.TheVariants as operands
 use Rattle.link_program.specs.linking_section.declared.init.InitFunc.{InitFunc}
-use Rattle.link_program.specs.name_rules.Entries.{Entry}
+use Rattle.link_program.specs.name_rules.Entries.{InputSymbol}
 use Rattle.link_program.specs.name_rules.Meanings.{Meaning, Resolved}
 use Rattle.link_program.specs.link_rules.Program.{Ref, Named, a_symbol, a_type, named_ref, ref_to, ref_in, operand_named, window_named, InitCall, init_call, is_skipped, init_calls_in, init_calls, by_priority}
 use Rattle.link_program.specs.Stand.{IsSymbolOf}
@@ -23,7 +23,7 @@ module _ (resolved : List Resolved) where
   pub ref_is : (i : ℕ) (r : Resolved) → slice_get resolved i ≡ Some r → (place kind symbol : ℕ) (addend : ℤ) → IfSome (ref_in r place kind symbol addend) (IsAt place kind)
   ref_is i r at place kind symbol addend = by (slice_get r.symbols symbol) (slice_get r.meanings symbol) refl refl
     where
-      by : (e : Option Entry) (m : Option Meaning) → slice_get r.symbols symbol ≡ e → slice_get r.meanings symbol ≡ m → IfSome (ref_to place kind addend e m) (IsAt place kind)
+      by : (e : Option InputSymbol) (m : Option Meaning) → slice_get r.symbols symbol ≡ e → slice_get r.meanings symbol ≡ m → IfSome (ref_to place kind addend e m) (IsAt place kind)
       by (Some e) (Some m) has means = ((i, symbol, r, at, has, means), refl, refl)
       by (Some e) None has means = tt
       by None m has means = tt

@@ -16,7 +16,7 @@ use Rattle.link_program.specs.object_file.Sound.{Sound, WindowNames, WindowsStan
 use Rattle.link_program.specs.made_symbols.declared.mode.Mode.{Mode}
 use Rattle.link_program.specs.made_symbols.Made.{made, MadeSymbol}
 use Rattle.link_program.specs.round_rules.Rounds.{Candidate}
-use Rattle.link_program.specs.name_rules.Entries.{Entry, entries, made_entry}
+use Rattle.link_program.specs.name_rules.Entries.{InputSymbol, entries, made_entry}
 use Rattle.link_program.specs.name_rules.Meanings.{Resolved, resolve, resolved_in, uses_of}
 use Rattle.link_program.specs.link_plan.declared.plan.Plan.{Plan}
 use Rattle.link_program.specs.link_rules.Program.{Program, program_of, Part, Ref, parts_of, parts_in, made_parts_from, made_part, made_kind, linker_made, no_source, a_symbol, init_calls, indexed, function_part, segment_part, global_part, is_part_kept, span_in, option_onto, operand_named, window_named}
@@ -83,7 +83,7 @@ module _ (p : Program) (all : List Candidate) (i : ℕ) (r : Resolved) (at : sli
 -- ---- the linker's own
 
 module _ (p : Program) (calls : List Ref) (meant : All (IsMeant p.resolved) calls) where
-  made_stands : (e : Entry) (m : MadeSymbol) → IfSome (made_part calls e m) (PartStands p)
+  made_stands : (e : InputSymbol) (m : MadeSymbol) → IfSome (made_part calls e m) (PartStands p)
   made_stands e m = by m.kind
     where
       by : (kind : SymbolKind) → IfSome (option_map (λ kind. let part : Part = record {
@@ -127,7 +127,7 @@ all_parts p mode all homes =
     (all_flat_map (PartStands p) (parts_in all p.objects) p.resolved
     (each_there (λ r. All (PartStands p) (parts_in all p.objects r)) p.resolved (λ i r at. object_stands p all i r at (homes i r at).0 (homes i r at).1)))
 
-resolved_object : (mode : Mode) (allow : Bool) (es : List Entry) (objects : List Object) (i : ℕ) (r : Resolved) → slice_get (resolve mode allow es objects) i ≡ Some r
+resolved_object : (mode : Mode) (allow : Bool) (es : List InputSymbol) (objects : List Object) (i : ℕ) (r : Resolved) → slice_get (resolve mode allow es objects) i ≡ Some r
     → slice_get objects i ≡ Some r.object
 unfolding resolve
 resolved_object mode allow es objects i r at =

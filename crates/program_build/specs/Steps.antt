@@ -7,7 +7,7 @@ use Rattle.link_program.specs.object_file.declared.object.Object.{Object}
 use Rattle.link_program.specs.made_symbols.declared.mode.Mode.{Mode}
 use Rattle.link_program.specs.link_names.Numbered as names
 use Rattle.link_program.specs.link_names.Numbered.{AreNumbers, different_names}
-use Rattle.link_program.specs.name_rules.Entries.{Entry, entries}
+use Rattle.link_program.specs.name_rules.Entries.{InputSymbol, entries}
 use Rattle.link_program.specs.name_rules.Meanings.{resolve}
 use Rattle.link_program.specs.name_rules.Cases.{clash, duplicate}
 use Rattle.link_program.specs.name_entries.View.{WinnersAre}
@@ -36,7 +36,7 @@ Numbered mode (Err OutOfMemory) plan objects = Unit {0}
 -- ---- cases
 
 -- The least clash, else the least duplicate.
-abbrev pub case_of : List Entry → Option Fault
+abbrev pub case_of : List InputSymbol → Option Fault
 case_of es = first_some (clash es ∷ duplicate es ∷ [])
 
 -- ---- meanings

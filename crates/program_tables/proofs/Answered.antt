@@ -10,7 +10,7 @@ use Rattle.link_program.specs.made_symbols.declared.mode.Mode.TheVariants.{Plain
 use Rattle.link_program.specs.made_symbols.Made.{made, made_at}
 use Rattle.link_program.specs.name_rules.declared.meaning.Meaning.{Meaning as Answer}
 use Rattle.link_program.specs.name_rules.declared.meaning.Meaning.TheVariants.{Here, Made, Import, Null, Nothing}
-use Rattle.link_program.specs.name_rules.Entries.{Entry, ImportKey, symbols_of, entry_in, entries_from, entries, made_entry}
+use Rattle.link_program.specs.name_rules.Entries.{InputSymbol, ImportKey, symbols_of, entry_in, entries_from, entries, made_entry}
 use Rattle.link_program.specs.name_rules.Meanings.{Meaning, here, imported, null, nothing, Resolved, resolve, resolved_in, meaning, no_uses}
 use Rattle.link_program.specs.name_entries.View.{InputsRise, entry_at}
 use Rattle.link_program.proofs.name_entries_lemmas.Found.{mapped}
@@ -34,7 +34,7 @@ pub record LeadsTo (objects : List Object) (imports : List ImportKey) (answer : 
   pub lead : lead_from objects answer ≡ told_lead imports m
   pub there : IsThere objects answer
 
-here_leads : (objects : List Object) (imports : List ImportKey) (input place : ℕ) (d : Entry) → InputsRise 0 objects → d.input ≡ input → d.place ≡ place → 0 < input → Stands objects d
+here_leads : (objects : List Object) (imports : List ImportKey) (input place : ℕ) (d : InputSymbol) → InputsRise 0 objects → d.input ≡ input → d.place ≡ place → 0 < input → Stands objects d
     → LeadsTo objects imports (Here input place) (here d)
 here_leads objects imports input place d rise is_input is_place some (inl a) = let none = linker_input d a in absurd (omega arith)
 here_leads objects imports input place d rise is_input is_place some (inr a) =
@@ -45,7 +45,7 @@ here_leads objects imports input place d rise is_input is_place some (inr a) =
       there = (a.place, a.object, a.at, sym a.input ∙ is_input, ap is_some (ap (entry_at objects a.place) (sym is_place) ∙ a.there));
     }
 
-made_leads : (objects : List Object) (imports : List ImportKey) (number : ℕ) (d : Entry) → InputsRise 0 objects → d.input ≡ 0 → d.place ≡ number → Stands objects d
+made_leads : (objects : List Object) (imports : List ImportKey) (number : ℕ) (d : InputSymbol) → InputsRise 0 objects → d.input ≡ 0 → d.place ≡ number → Stands objects d
     → LeadsTo objects imports (Made number) (here d)
 made_leads objects imports number d rise is_input is_place (inr a) = let some = no_input objects d rise a in absurd (omega arith)
 made_leads objects imports number d rise is_input is_place (inl a) =
@@ -83,7 +83,7 @@ leads_to objects imports metas Nothing null rise are means stands = absurd means
 
 -- ---- the answers of all symbols
 
-abbrev pub meant : List Object → Bool → Entry → Meaning
+abbrev pub meant : List Object → Bool → InputSymbol → Meaning
 meant objects allow e = meaning Plain no_uses allow (entries Plain objects) e
 
 abbrev pub resolved_of : List Object → Bool → Object → Resolved
@@ -102,23 +102,23 @@ row_means objects allow r i o is at =
     subst (λ (x : Resolved). AllZip (Means r.imports) (row_of r.rows x.object.input) x.meanings) (mapped (resolved_of objects allow) objects i o d at)
     (is.meanings i d (omega arith))
 
-each_place : (objects : List Object) (o : Object) (start : ℕ) (ss : List SymbolOf) (k : ℕ) (e : Entry) → slice_get (entries_from objects o start ss) k ≡ Some e
+each_place : (objects : List Object) (o : Object) (start : ℕ) (ss : List SymbolOf) (k : ℕ) (e : InputSymbol) → slice_get (entries_from objects o start ss) k ≡ Some e
     → (e.place ≡ start + k) × (e.input ≡ o.input)
 each_place objects o start [] k e at = let lt = slice_get_within [] k e at in absurd (omega arith)
 each_place objects o start (s ∷ ss) zero e at =
     let same : entry_in objects o start s ≡ e = same_Some (entry_in objects o start s) e at in
     let z : start ≡ start + 0 = omega arith in
-    (ap (λ (x : Entry). x.place) (sym same) ∙ z, ap (λ (x : Entry). x.input) (sym same))
+    (ap (λ (x : InputSymbol). x.place) (sym same) ∙ z, ap (λ (x : InputSymbol). x.input) (sym same))
 each_place objects o start (s ∷ ss) (suc k) e at =
     let rest = each_place objects o (start + 1) ss k e at in
     let z : start + 1 + k ≡ start + suc k = omega arith in
     (rest.0 ∙ z, rest.1)
 
-placed : (objects : List Object) (o : Object) (k : ℕ) (e : Entry) → slice_get (symbols_of objects o) k ≡ Some e → (e.place ≡ k) × (e.input ≡ o.input)
+placed : (objects : List Object) (o : Object) (k : ℕ) (e : InputSymbol) → slice_get (symbols_of objects o) k ≡ Some e → (e.place ≡ k) × (e.input ≡ o.input)
 placed objects o k e there = let both = each_place objects o 0 o.symbols k e there in let z : 0 + k ≡ k = omega arith in (both.0 ∙ z, both.1)
 
 -- What is answered for a symbol.
-pub record Answered (objects : List Object) (r : Answers) (m : Meaning) (e : Entry) : Type 0 where
+pub record Answered (objects : List Object) (r : Answers) (m : Meaning) (e : InputSymbol) : Type 0 where
   pub answer : Answer
   pub at : answer_at r e.input e.place ≡ Some answer
   pub leads : LeadsTo objects r.imports answer m
@@ -126,7 +126,7 @@ pub record Answered (objects : List Object) (r : Answers) (m : Meaning) (e : Ent
 imports_are : (objects : List Object) (allow : Bool) (r : Answers) → IsMeant objects allow r → (metas : List Meaning) × (r.imports ≡ imports_meant metas)
 imports_are objects allow r is = (flat_map (λ (x : Resolved). x.meanings) (resolve Plain allow (entries Plain objects) objects), is.imports)
 
-pub symbol_answered : (objects : List Object) (allow : Bool) (r : Answers) (i k : ℕ) (o : Object) (e : Entry) → InputsRise 0 objects → IsMeant objects allow r → slice_get objects i ≡ Some o
+pub symbol_answered : (objects : List Object) (allow : Bool) (r : Answers) (i k : ℕ) (o : Object) (e : InputSymbol) → InputsRise 0 objects → IsMeant objects allow r → slice_get objects i ≡ Some o
     → slice_get (symbols_of objects o) k ≡ Some e → Answered objects r (meant objects allow e) e
 symbol_answered objects allow r i k o e rise is at there =
     let stands = each_at (OfObject objects) (symbols_of objects o) k e (object_stands objects i o at) there in
@@ -153,7 +153,7 @@ are_answered objects allow r rise is i k e at = by (slice_get objects i) refl
         let a = symbol_answered objects allow r i k o e rise is there (ap (λ l. slice_get l k) (sym (row_at objects i o there)) ∙ at) in
         (a.answer, a.at, a.leads.there)
 
-told_row : (names : List (List ℕ)) (imports : List ImportKey) (m : Entry → Meaning) (f : Entry → Symbol) (es : List Entry) → Each (λ e. f e ≡ told_symbol names imports e (m e)) es
+told_row : (names : List (List ℕ)) (imports : List ImportKey) (m : InputSymbol → Meaning) (f : InputSymbol → Symbol) (es : List InputSymbol) → Each (λ e. f e ≡ told_symbol names imports e (m e)) es
     → map f es ≡ told_all names imports es (map m es)
 told_row names imports m f [] all = refl
 told_row names imports m f (e ∷ es) all = rw (all.0, told_row names imports m f es all.1) refl

@@ -11,7 +11,7 @@ use Rattle.link_program.specs.object_file.declared.object.Object.{Object}
 use Rattle.link_program.specs.made_symbols.declared.mode.Mode.TheVariants.{Plain}
 use Rattle.link_program.specs.made_symbols.Made.{MadeSymbol, made, made_at}
 use Rattle.link_program.specs.link_names.Numbered.{Numbered, AreNumbers}
-use Rattle.link_program.specs.name_rules.Entries.{Entry, entry_in, index_in, made_entry}
+use Rattle.link_program.specs.name_rules.Entries.{InputSymbol, entry_in, index_in, made_entry}
 use Rattle.link_program.specs.name_rules.Meanings.{entry_rank}
 use Rattle.link_program.specs.name_entries.View.{InputsRise, entry_at, entry_number}
 use Rattle.link_program.specs.name_entries.Shown.{Shows, AreShown}
@@ -41,12 +41,12 @@ an_entry None some = absurd (let x : false ≡ true = some in cc)
 an_entry (Some e) some = (e, refl)
 
 -- An entry of an object, by the places.
-pub record IsEntry (objects : List Object) (object place : ℕ) (o : Object) (e : Entry) : Type 0 where
+pub record IsEntry (objects : List Object) (object place : ℕ) (o : Object) (e : InputSymbol) : Type 0 where
   pub symbol : Symbol
   pub at : slice_get o.symbols place ≡ Some symbol
   pub is : e ≡ entry_in objects o place symbol
 
-pub entry_is : (objects : List Object) (object place : ℕ) (o : Object) (e : Entry) → slice_get objects object ≡ Some o → entry_at objects object place ≡ Some e → IsEntry objects object place o e
+pub entry_is : (objects : List Object) (object place : ℕ) (o : Object) (e : InputSymbol) → slice_get objects object ≡ Some o → entry_at objects object place ≡ Some e → IsEntry objects object place o e
 entry_is objects object place o e at there = by (slice_get o.symbols place) refl
   where
     by : (s : Option Symbol) → slice_get o.symbols place ≡ s → IsEntry objects object place o e
@@ -57,7 +57,7 @@ entry_is objects object place o e at there = by (slice_get o.symbols place) refl
         let found = entry_of objects object place o at ∙ ap (option_map (entry_in objects o place)) is in
         record { symbol = s; at = is; is = same_Some e (entry_in objects o place s) (sym there ∙ found) }
 
-pub object_at : (objects : List Object) (object place : ℕ) (e : Entry) → entry_at objects object place ≡ Some e → (o : Object) × (slice_get objects object ≡ Some o)
+pub object_at : (objects : List Object) (object place : ℕ) (e : InputSymbol) → entry_at objects object place ≡ Some e → (o : Object) × (slice_get objects object ≡ Some o)
 object_at objects object place e there =
     let within = within_objects objects object place (ap is_some there) in
     by (slice_get objects object) refl within
@@ -66,13 +66,13 @@ object_at objects object place e there =
     by None none lt = absurd (let x : None ≡ Some e = sym (no_entry objects object place none) ∙ there in cc)
     by (Some o) at lt = (o, at)
 
-pub placed_at : (objects : List Object) (object place : ℕ) (e : Entry) → entry_at objects object place ≡ Some e → e.place ≡ place
+pub placed_at : (objects : List Object) (object place : ℕ) (e : InputSymbol) → entry_at objects object place ≡ Some e → e.place ≡ place
 placed_at objects object place e there =
     let (o, at) = object_at objects object place e there in
     let is = entry_is objects object place o e at there in
-    ap (λ (x : Entry). x.place) is.is
+    ap (λ (x : InputSymbol). x.place) is.is
 
-pub symbol_within : (objects : List Object) (object place : ℕ) (o : Object) (e : Entry) → slice_get objects object ≡ Some o → entry_at objects object place ≡ Some e → place < length o.symbols
+pub symbol_within : (objects : List Object) (object place : ℕ) (o : Object) (e : InputSymbol) → slice_get objects object ≡ Some o → entry_at objects object place ≡ Some e → place < length o.symbols
 symbol_within objects object place o e at there = let is = entry_is objects object place o e at there in slice_get_within o.symbols place is.symbol is.at
 
 small : (weak : Bool) → (if weak then 1 else 0) < 3
@@ -84,29 +84,29 @@ input_below last [] i o rise at = let lt = slice_get_within [] i o at in absurd 
 input_below last (x ∷ xs) zero o rise at = subst (λ (y : Object). y.input < 2 ^ 20) (get_or_from_slice_get (x ∷ xs) zero o o at) rise.1
 input_below last (x ∷ xs) (suc i) o rise at = input_below x.input xs i o rise.2 at
 
-pub small_class : (objects : List Object) (object place : ℕ) (e : Entry) → entry_at objects object place ≡ Some e → e.class < 3
+pub small_class : (objects : List Object) (object place : ℕ) (e : InputSymbol) → entry_at objects object place ≡ Some e → e.class < 3
 small_class objects object place e there =
     let (o, at) = object_at objects object place e there in
     let is = entry_is objects object place o e at there in
-    subst (λ (x : Entry). x.class < 3) (sym is.is) (small (is_weak is.symbol))
+    subst (λ (x : InputSymbol). x.class < 3) (sym is.is) (small (is_weak is.symbol))
 
-pub small_input : (objects : List Object) (object place : ℕ) (e : Entry) → InputsRise 0 objects → entry_at objects object place ≡ Some e → e.input < 2 ^ 20
+pub small_input : (objects : List Object) (object place : ℕ) (e : InputSymbol) → InputsRise 0 objects → entry_at objects object place ≡ Some e → e.input < 2 ^ 20
 small_input objects object place e rise there =
     let (o, at) = object_at objects object place e there in
     let is = entry_is objects object place o e at there in
-    subst (λ (x : Entry). x.input < 2 ^ 20) (sym is.is) (input_below 0 objects object o rise at)
+    subst (λ (x : InputSymbol). x.input < 2 ^ 20) (sym is.is) (input_below 0 objects object o rise at)
 
 -- ---- definitions
 
 pub definition_is : (objects : List Object) (object place index : ℕ) (o : Object) (s : Symbol) → slice_get objects object ≡ Some o → slice_get o.symbols place ≡ Some s → index ≡ index_in o s s.kind
-    → (e : Entry) → entry_at objects object place ≡ Some e
+    → (e : InputSymbol) → entry_at objects object place ≡ Some e
     → record { input = o.input; place = place; kind = s.kind; index = index; offset = s.offset } ≡ told_definition e
 definition_is objects object place index o s at symbol is e there =
     let same : entry_in objects o place s ≡ e = same_Some (entry_in objects o place s) e (sym (the_entry objects object place o s at (sym symbol)) ∙ there) in
     ap (λ i. record { input = o.input; place = place; kind = s.kind; index = i; offset = s.offset }) is ∙ ap told_definition same
 
 pub lead_is : (objects : List Object) (input symbol i : ℕ) (o : Object) (d : Definition) → InputsRise 0 objects → slice_get objects i ≡ Some o → o.input ≡ input → IsSome (entry_at objects i symbol)
-    → ((e : Entry) → entry_at objects i symbol ≡ Some e → d ≡ told_definition e) → d ≡ definition_of objects input symbol
+    → ((e : InputSymbol) → entry_at objects i symbol ≡ Some e → d ≡ told_definition e) → d ≡ definition_of objects input symbol
 lead_is objects input symbol i o d rise at is some told =
     let (e, there) = an_entry (entry_at objects i symbol) some in
     told e there
@@ -114,16 +114,16 @@ lead_is objects input symbol i o d rise at is some told =
 
 -- ---- lent entries
 
-pub shown_entry : (names : List (List ℕ)) (r : EntryRef) (o : Option Entry) → AreShown names (Some r) o → (e : Entry) × (o ≡ Some e) × Shows names r e
+pub shown_entry : (names : List (List ℕ)) (r : EntryRef) (o : Option InputSymbol) → AreShown names (Some r) o → (e : InputSymbol) × (o ≡ Some e) × Shows names r e
 shown_entry names r None shown = absurd shown
 shown_entry names r (Some e) shown = (e, refl, shown)
 
-pub shown_as : (names : List (List ℕ)) (r : EntryRef) (o : Option Entry) (e : Entry) → AreShown names (Some r) o → o ≡ Some e → Shows names r e
+pub shown_as : (names : List (List ℕ)) (r : EntryRef) (o : Option InputSymbol) (e : InputSymbol) → AreShown names (Some r) o → o ≡ Some e → Shows names r e
 shown_as names r o e shown is = subst (AreShown names (Some r)) is shown
 
 -- ---- winners
 
-pub wins_is : (names : List (List ℕ)) (ranks : List (Option ℕ)) (e : Entry) (name rank : ℕ) (best : Option ℕ) (won : Bool) → entry_number names e ≡ Some name → rank ≡ entry_rank e
+pub wins_is : (names : List (List ℕ)) (ranks : List (Option ℕ)) (e : InputSymbol) (name rank : ℕ) (best : Option ℕ) (won : Bool) → entry_number names e ≡ Some name → rank ≡ entry_rank e
     → best ≡ get_or ranks name None → won ≡ is_rank rank best → winner_of names ranks e ≡ given won (record { definition = told_definition e; name = name; flags = e.symbol.flags })
 wins_is names ranks e name rank best won number rank_is best_is won_is =
     ap (option_and_then (winner_by ranks e)) number
@@ -132,7 +132,7 @@ wins_is names ranks e name rank best won number rank_is best_is won_is =
 
 pub lent_wins : (names : List (List ℕ)) (ranks : List (Option ℕ)) (objects : List Object) (object place : ℕ) (r : EntryRef) (name rank : ℕ) (best : Option ℕ) (won : Bool)
     → AreShown names (Some r) (entry_at objects object place) → r.number ≡ Some name → rank ≡ rank_of r.class r.input place → best ≡ get_or ranks name None → won ≡ is_rank rank best
-    → (e : Entry) → entry_at objects object place ≡ Some e → winner_of names ranks e ≡ given won (record { definition = told_definition e; name = name; flags = e.symbol.flags })
+    → (e : InputSymbol) → entry_at objects object place ≡ Some e → winner_of names ranks e ≡ given won (record { definition = told_definition e; name = name; flags = e.symbol.flags })
 lent_wins names ranks objects object place r name rank best won shown number rank_is best_is won_is e there =
     let shows = shown_as names r (entry_at objects object place) e shown there in
     let place_is = placed_at objects object place e there in

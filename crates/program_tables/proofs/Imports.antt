@@ -18,7 +18,7 @@ symbol_type_same (of_global a) = (same_global_type_is a a).1 refl
 symbol_type_same untyped = refl
 
 import_itself : (a : ImportKey) → same_import a a ≡ true
-import_itself a = rw ((bytes_eq-Decides a.place a.place).1 refl, (bytes_eq-Decides a.field a.field).1 refl) (symbol_type_same a.type)
+import_itself a = rw ((bytes_eq-Decides a.module_name a.module_name).1 refl, (bytes_eq-Decides a.field a.field).1 refl) (symbol_type_same a.type)
 
 -- ---- different items
 

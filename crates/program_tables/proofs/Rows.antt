@@ -19,7 +19,7 @@ use Rattle.link_program.specs.object_columns.declared.segments.SegmentDef.{Segme
 use Rattle.link_program.specs.object_file.declared.object.Object.{Object}
 use Rattle.link_program.specs.object_file.Spaces.{written_type, function_imports}
 use Rattle.link_program.specs.mark_bits.declared.chunk.Chunk.{Chunk}
-use Rattle.link_program.specs.name_rules.Entries.{Entry, ImportKey, is_kept, symbols_of}
+use Rattle.link_program.specs.name_rules.Entries.{InputSymbol, ImportKey, is_kept, symbols_of}
 use Rattle.link_program.specs.name_rules.Meanings.{Meaning, Resolved, is_init_use}
 use Rattle.link_program.specs.name_entries.Parts.{has_flag, ArePartsOf}
 use Rattle.link_program.specs.round_rules.Rounds.{Candidate}
@@ -45,7 +45,7 @@ pub record IsView (names : List (List ℕ)) (imports : List ImportKey) (symbols 
   pub row : r.symbols ≡ symbols_of objects v.object
   pub entries : length r.symbols ≡ length v.object.symbols
   pub meanings : length r.meanings ≡ length v.object.symbols
-  pub told : (k : ℕ) (e : Entry) (m : Meaning) → slice_get r.symbols k ≡ Some e → slice_get r.meanings k ≡ Some m
+  pub told : (k : ℕ) (e : InputSymbol) (m : Meaning) → slice_get r.symbols k ≡ Some e → slice_get r.meanings k ≡ Some m
       → slice_get symbols (v.first + k) ≡ Some (told_symbol names imports e m)
   pub typed : (index : ℕ) → IsNumberOf types (type_from v index) (written_type v.object index)
   pub source : (s : Span) → source_from v.home s ≡ span_of all v.object.input s
@@ -94,7 +94,7 @@ pub record ShowsCall (symbols : List Symbol) (types : List FuncType) (names : Li
 
 module _ (names : List (List ℕ)) (imports : List ImportKey) (symbols : List Symbol) (types : List FuncType) (all : List Candidate) (objects : List Object) (r : Resolved) (v : View)
     (is : IsView names imports symbols types all objects r v) where
-  there_named : (place kind : ℕ) (addend : ℤ) (s : ℕ) (e : Entry) (m : Meaning) → slice_get r.symbols s ≡ Some e → slice_get r.meanings s ≡ Some m
+  there_named : (place kind : ℕ) (addend : ℤ) (s : ℕ) (e : InputSymbol) (m : Meaning) → slice_get r.symbols s ≡ Some e → slice_get r.meanings s ≡ Some m
       → ShowsNamed symbols types names imports (items.Symbol kind place addend (v.first + s)) (a_symbol (record { place = place; kind = kind; addend = addend; entry = e; meaning = m }))
   there_named place kind addend s e m at_e at_m =
       let at = is.told s e m at_e at_m in
@@ -103,7 +103,7 @@ module _ (names : List (List ℕ)) (imports : List ImportKey) (symbols : List Sy
         there = slice_get_within symbols (v.first + s) (told_symbol names imports e m) at;
       }
 
-  symbol_shown : (place kind : ℕ) (addend : ℤ) (s : ℕ) (inside : Bool) (e : Option Entry) (m : Option Meaning) → nat_lt s (length v.object.symbols) ≡ inside
+  symbol_shown : (place kind : ℕ) (addend : ℤ) (s : ℕ) (inside : Bool) (e : Option InputSymbol) (m : Option Meaning) → nat_lt s (length v.object.symbols) ≡ inside
       → slice_get r.symbols s ≡ e → slice_get r.meanings s ≡ m
       → BothNamed symbols types names imports (given inside (items.Symbol kind place addend (v.first + s))) (option_map a_symbol (ref_to place kind addend e m))
   symbol_shown place kind addend s true (Some e) (Some m) lt at_e at_m = there_named place kind addend s e m at_e at_m
@@ -241,7 +241,7 @@ module _ (names : List (List ℕ)) (imports : List ImportKey) (symbols : List Sy
   used_call true false a b rest others same first all = absurd cc
   used_call false true a b rest others same first all = absurd cc
 
-  one_call : (i : InitFunc) (e : Option Entry) (m : Option Meaning) (rest : List InitCall) (others : List rules.InitCall) → slice_get r.symbols i.symbol ≡ e → slice_get r.meanings i.symbol ≡ m
+  one_call : (i : InitFunc) (e : Option InputSymbol) (m : Option Meaning) (rest : List InitCall) (others : List rules.InitCall) → slice_get r.symbols i.symbol ≡ e → slice_get r.meanings i.symbol ≡ m
       → AllZip (ShowsCall symbols types names imports) rest (filter (λ c. not (is_skipped c)) others)
       → AllZip (ShowsCall symbols types names imports) (cons_option (option_and_then (call_by v i) e) rest)
       (filter (λ c. not (is_skipped c)) (cons_option (option_map (λ ref. record { priority = i.priority; ref = ref }) (ref_to 0 0 (pos 0) e m)) others))

@@ -9,7 +9,7 @@ use Rattle.link_program.specs.linking_section.declared.symbol.Symbol.{Symbol}
 use Rattle.link_program.specs.object_file.declared.object.Object.{Object}
 use Rattle.link_program.specs.made_symbols.declared.mode.Mode.TheVariants.{Plain}
 use Rattle.link_program.specs.made_symbols.Made.{MadeSymbol, made, made_at}
-use Rattle.link_program.specs.name_rules.Entries.{Entry, ImportKey, entries_from, symbols_of, made_entry, made_from, is_entry, entries, name_of, is_named, named}
+use Rattle.link_program.specs.name_rules.Entries.{InputSymbol, ImportKey, entries_from, symbols_of, made_entry, made_from, is_entry, entries, name_of, is_named, named}
 use Rattle.link_program.specs.name_rules.Meanings.{Meaning, here, imported, null, nothing, entry_rank, lesser, least, meaning, no_uses, by_rules, own_meaning, references, least_import, may_import, may_be_null, where_given}
 use Rattle.link_program.specs.linking_section.Flags.{is_explicit}
 use Rattle.link_program.specs.name_entries.View.{InputsRise, rows_of, entry_at}
@@ -43,7 +43,7 @@ object_found last (x ∷ xs) (suc i) o rise at =
 pub row_at : (objects : List Object) (i : ℕ) (o : Object) → slice_get objects i ≡ Some o → get_or (rows_of objects) i [] ≡ symbols_of objects o
 row_at objects i o at = mapped (symbols_of objects) objects i o [] at
 
-pub symbol_found : (objects : List Object) (i k : ℕ) (o : Object) (e : Entry) → InputsRise 0 objects → slice_get objects i ≡ Some o → entry_at objects i k ≡ Some e
+pub symbol_found : (objects : List Object) (i k : ℕ) (o : Object) (e : InputSymbol) → InputsRise 0 objects → slice_get objects i ≡ Some o → entry_at objects i k ≡ Some e
     → symbol_of objects o.input k ≡ Some e
 symbol_found objects i k o e rise at there =
     ap (option_and_then (λ (x : Object). slice_get (symbols_of objects x) k)) (object_found 0 objects i o rise at)
@@ -51,18 +51,18 @@ symbol_found objects i k o e rise at there =
 
 -- ---- where an entry stands
 
-pub record OfObject (objects : List Object) (e : Entry) : Type 0 where
+pub record OfObject (objects : List Object) (e : InputSymbol) : Type 0 where
   pub place : ℕ
   pub object : Object
   pub at : slice_get objects place ≡ Some object
   pub input : e.input ≡ object.input
   pub there : entry_at objects place e.place ≡ Some e
 
-pub record OfLinker (e : Entry) : Type 0 where
+pub record OfLinker (e : InputSymbol) : Type 0 where
   pub below : e.place < length (made Plain)
   pub is : e ≡ made_entry e.place (made_at Plain e.place)
 
-abbrev pub Stands : List Object → Entry → Type 0
+abbrev pub Stands : List Object → InputSymbol → Type 0
 Stands objects e = OfLinker e ⊎ OfObject objects e
 
 row_stands : (objects : List Object) (i k : ℕ) (o : Object) (ss : List Symbol) → slice_get objects i ≡ Some o → ((j : ℕ) → slice_get ss j ≡ slice_get o.symbols (k + j))
@@ -107,11 +107,11 @@ linkers_stand =
     made_stand 0 (made Plain) refl
     (λ j d lt. let e : j ≡ 0 + j = omega arith in same_default (made Plain) j d _ lt ∙ ap (made_at Plain) e)
 
-stands_linker : (objects : List Object) (es : List Entry) → Each OfLinker es → Each (Stands objects) es
+stands_linker : (objects : List Object) (es : List InputSymbol) → Each OfLinker es → Each (Stands objects) es
 stands_linker objects [] all = tt
 stands_linker objects (e ∷ es) all = (inl all.0, stands_linker objects es all.1)
 
-stands_object : (objects : List Object) (es : List Entry) → Each (OfObject objects) es → Each (Stands objects) es
+stands_object : (objects : List Object) (es : List InputSymbol) → Each (OfObject objects) es → Each (Stands objects) es
 stands_object objects [] all = tt
 stands_object objects (e ∷ es) all = (inr all.0, stands_object objects es all.1)
 
@@ -124,17 +124,17 @@ entries_stand objects =
 
 -- ---- one entry an input and a place
 
-pub no_input : (objects : List Object) (e : Entry) → InputsRise 0 objects → OfObject objects e → 0 < e.input
+pub no_input : (objects : List Object) (e : InputSymbol) → InputsRise 0 objects → OfObject objects e → 0 < e.input
 no_input objects e rise stands = subst (λ n. 0 < n) (sym stands.input) (above 0 objects stands.place stands.object rise stands.at)
 
-pub found_there : (objects : List Object) (e : Entry) → InputsRise 0 objects → OfObject objects e → symbol_of objects e.input e.place ≡ Some e
+pub found_there : (objects : List Object) (e : InputSymbol) → InputsRise 0 objects → OfObject objects e → symbol_of objects e.input e.place ≡ Some e
 found_there objects e rise stands =
     ap (λ n. symbol_of objects n e.place) stands.input ∙ symbol_found objects stands.place e.place stands.object e rise stands.at stands.there
 
-pub linker_input : (e : Entry) → OfLinker e → e.input ≡ 0
-linker_input e stands = ap (λ (x : Entry). x.input) stands.is
+pub linker_input : (e : InputSymbol) → OfLinker e → e.input ≡ 0
+linker_input e stands = ap (λ (x : InputSymbol). x.input) stands.is
 
-pub one_entry : (objects : List Object) (e f : Entry) → InputsRise 0 objects → Stands objects e → Stands objects f → e.input ≡ f.input → e.place ≡ f.place → e ≡ f
+pub one_entry : (objects : List Object) (e f : InputSymbol) → InputsRise 0 objects → Stands objects e → Stands objects f → e.input ≡ f.input → e.place ≡ f.place → e ≡ f
 one_entry objects e f rise (inl a) (inl b) input place = a.is ∙ ap (λ k. made_entry k (made_at Plain k)) place ∙ sym b.is
 one_entry objects e f rise (inl a) (inr b) input place =
     let none = linker_input e a in let some = no_input objects f rise b in absurd (omega arith)
@@ -145,15 +145,15 @@ one_entry objects e f rise (inr a) (inr b) input place =
 
 -- ---- the least entry
 
-lesser_is : (P : Entry → Type 0) (e f d : Entry) (second : Bool) → P e → P f → (if second then Some f else Some e) ≡ Some d → P d
+lesser_is : (P : InputSymbol → Type 0) (e f d : InputSymbol) (second : Bool) → P e → P f → (if second then Some f else Some e) ≡ Some d → P d
 lesser_is P e f d true first holds same = subst P (ap (λ o. unwrap_or o e) same) holds
 lesser_is P e f d false first holds same = subst P (ap (λ o. unwrap_or o e) same) first
 
-lesser_holds : (P : Entry → Type 0) (e : Entry) (rest : Option Entry) (d : Entry) → P e → ((f : Entry) → rest ≡ Some f → P f) → lesser e rest ≡ Some d → P d
+lesser_holds : (P : InputSymbol → Type 0) (e : InputSymbol) (rest : Option InputSymbol) (d : InputSymbol) → P e → ((f : InputSymbol) → rest ≡ Some f → P f) → lesser e rest ≡ Some d → P d
 lesser_holds P e None d first others same = subst P (ap (λ o. unwrap_or o e) same) first
 lesser_holds P e (Some f) d first others same = lesser_is P e f d (nat_lt (entry_rank f) (entry_rank e)) first (others f refl) same
 
-pub each_least : (P : Entry → Type 0) (es : List Entry) (d : Entry) → Each P es → least es ≡ Some d → P d
+pub each_least : (P : InputSymbol → Type 0) (es : List InputSymbol) (d : InputSymbol) → Each P es → least es ≡ Some d → P d
 each_least P [] d all is = absurd cc
 each_least P (e ∷ es) d all is = lesser_holds P e (least es) d all.0 (λ f found. each_least P es f all.1 found) is
 
@@ -165,7 +165,7 @@ MeansThere objects (imported key) = Unit {0}
 MeansThere objects null = Unit {0}
 MeansThere objects nothing = Unit {0}
 
-ruled : (objects : List Object) (wins : Option Entry) (explicit other : Option ImportKey) (absent : Bool) → ((d : Entry) → wins ≡ Some d → Stands objects d)
+ruled : (objects : List Object) (wins : Option InputSymbol) (explicit other : Option ImportKey) (absent : Bool) → ((d : InputSymbol) → wins ≡ Some d → Stands objects d)
     → MeansThere objects (unwrap_or (first_some (option_map here wins ∷ option_map imported explicit ∷ option_map imported other ∷ given absent null ∷ [])) nothing)
 ruled objects (Some d) explicit other absent there = there d refl
 ruled objects None (Some k) other absent there = tt
@@ -173,19 +173,19 @@ ruled objects None None (Some k) absent there = tt
 ruled objects None None None true there = tt
 ruled objects None None None false there = tt
 
-own : (objects : List Object) (e : Entry) (defines : Bool) → Stands objects e → MeansThere objects (if defines then here e else nothing)
+own : (objects : List Object) (e : InputSymbol) (defines : Bool) → Stands objects e → MeansThere objects (if defines then here e else nothing)
 own objects e true stands = stands
 own objects e false stands = tt
 
-by_entry : (objects : List Object) (allow : Bool) (e : Entry) (entry : Bool) → Stands objects e
+by_entry : (objects : List Object) (allow : Bool) (e : InputSymbol) (entry : Bool) → Stands objects e
     → MeansThere objects (if entry then by_rules Plain no_uses allow (named (entries Plain objects) (name_of e)) e else own_meaning e)
 by_entry objects allow e true stands =
     let es = named (entries Plain objects) (name_of e) in
-    ruled objects (least (filter (λ (d : Entry). d.defines) es)) (least_import (filter (λ (r : Entry). is_explicit r.symbol) (references es)))
+    ruled objects (least (filter (λ (d : InputSymbol). d.defines) es)) (least_import (filter (λ (r : InputSymbol). is_explicit r.symbol) (references es)))
     (where_given (allow && may_import es e) (least_import (references es))) (may_be_null e)
-    (λ d is. each_least (Stands objects) (filter (λ (d : Entry). d.defines) es) d
-    (each_filter (Stands objects) (λ (d : Entry). d.defines) es (each_filter (Stands objects) (is_named (name_of e)) (entries Plain objects) (entries_stand objects))) is)
+    (λ d is. each_least (Stands objects) (filter (λ (d : InputSymbol). d.defines) es) d
+    (each_filter (Stands objects) (λ (d : InputSymbol). d.defines) es (each_filter (Stands objects) (is_named (name_of e)) (entries Plain objects) (entries_stand objects))) is)
 by_entry objects allow e false stands = own objects e e.defines stands
 
-pub meaning_stands : (objects : List Object) (allow : Bool) (e : Entry) → OfObject objects e → MeansThere objects (meaning Plain no_uses allow (entries Plain objects) e)
+pub meaning_stands : (objects : List Object) (allow : Bool) (e : InputSymbol) → OfObject objects e → MeansThere objects (meaning Plain no_uses allow (entries Plain objects) e)
 meaning_stands objects allow e stands = by_entry objects allow e (is_entry e) (inr stands)

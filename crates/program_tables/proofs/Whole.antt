@@ -12,7 +12,7 @@ use Rattle.link_program.specs.object_file.declared.object.Object.{Object}
 use Rattle.link_program.specs.object_file.Spaces.{function_imports}
 use Rattle.link_program.specs.made_symbols.declared.mode.Mode.TheVariants.{Plain}
 use Rattle.link_program.specs.made_symbols.Made.{MadeSymbol, made}
-use Rattle.link_program.specs.name_rules.Entries.{Entry, symbols_of, entries, entries_from}
+use Rattle.link_program.specs.name_rules.Entries.{InputSymbol, symbols_of, entries, entries_from}
 use Rattle.link_program.specs.name_rules.Meanings.{Meaning, Resolved, resolve}
 use Rattle.link_program.specs.name_entries.View.{InputsRise, rows_of}
 use Rattle.link_program.specs.name_entries.Parts.{AreParts}
@@ -65,7 +65,7 @@ flat_rows : {A B : Type 0} (f : A → B) (rows : List (List A)) → flat_map (λ
 flat_rows f [] = refl
 flat_rows f (row ∷ rows) = ap (λ l. map f row ++ l) (flat_rows f rows)
 
-symbol_at : (s : Sources) (i k : ℕ) (o : Object) (e : Entry) → slice_get s.entries.objects.now i ≡ Some o → slice_get (symbols_of s.entries.objects.now o) k ≡ Some e
+symbol_at : (s : Sources) (i k : ℕ) (o : Object) (e : InputSymbol) → slice_get s.entries.objects.now i ≡ Some o → slice_get (symbols_of s.entries.objects.now o) k ≡ Some e
     → slice_get (all_symbols s) (get_or (starts 0 (rows_of s.entries.objects.now)) i 0 + k) ≡ Some (source_symbol s e)
 symbol_at s i k o e at there =
     let objects = s.entries.objects.now in
@@ -78,7 +78,7 @@ symbol_at s i k o e at there =
     ∙ ap (λ l. slice_get (flat_map (λ r. r) rows) (get_or l i 0 + k)) (sym (starts_map (source_symbol s) 0 (rows_of objects)))
     ∙ in_rows rows i k (map (source_symbol s) (symbols_of objects o)) (source_symbol s e) row item
 
-told_there : (s : Sources) (allow : Bool) (i k : ℕ) (o : Object) (e : Entry) (m : Meaning) → InputsRise 0 s.entries.objects.now → IsMeant s.entries.objects.now allow s.resolution.now
+told_there : (s : Sources) (allow : Bool) (i k : ℕ) (o : Object) (e : InputSymbol) (m : Meaning) → InputsRise 0 s.entries.objects.now → IsMeant s.entries.objects.now allow s.resolution.now
     → slice_get s.entries.objects.now i ≡ Some o → slice_get (symbols_of s.entries.objects.now o) k ≡ Some e
     → slice_get (map (meant s.entries.objects.now allow) (symbols_of s.entries.objects.now o)) k ≡ Some m
     → slice_get (all_symbols s) (get_or (starts 0 (rows_of s.entries.objects.now)) i 0 + k) ≡ Some (told_symbol s.entries.names.now.names s.resolution.now.imports e m)

@@ -14,7 +14,7 @@ use Rattle.link_program.specs.object_file.declared.object.Object.{Object}
 use Rattle.link_program.specs.made_symbols.declared.mode.Mode.TheVariants.{Plain}
 use Rattle.link_program.specs.made_symbols.Made.{MadeSymbol, made}
 use Rattle.link_program.specs.link_names.Numbered.{Numbered, AreNumbers, is_entry_symbol, symbol_name, symbol_number, entry_names, Held, Short}
-use Rattle.link_program.specs.name_rules.Entries.{Entry, entries_from, made_from, is_entry, is_named, entries, name_of, symbols_of, named, same_entry}
+use Rattle.link_program.specs.name_rules.Entries.{InputSymbol, entries_from, made_from, is_entry, is_named, entries, name_of, symbols_of, named, same_entry}
 use Rattle.link_program.specs.name_rules.Meanings.{entry_rank, winner, definitions}
 use Rattle.link_program.specs.name_entries.View.{InputsRise, WinnersAre}
 use Rattle.link_program.proofs.name_entries_lemmas.Numbered.{named_by}
@@ -27,7 +27,7 @@ use Rattle.program_tables.proofs.There.{Stands, entries_stand, one_entry, each_l
 
 -- ---- the parts of ranks
 
-abbrev pub HasParts : Entry → Type 0
+abbrev pub HasParts : InputSymbol → Type 0
 HasParts e = IsParts e.class e.input e.place
 
 small_class : (weak : Bool) → (if weak then 1 else 0) < 3
@@ -82,7 +82,7 @@ rank_parts a i s b j t ca ci cs cb cj ct same = (omega arith, omega arith)
 
 -- ---- names that are held
 
-abbrev IsHeld : List (List ℕ) → Entry → Type 0
+abbrev IsHeld : List (List ℕ) → InputSymbol → Type 0
 IsHeld names e = is_entry e ≡ true → IsSome (number_of names (name_of e))
 
 held_split : (names : List (List ℕ)) (s : Symbol) (kept : Bool) (rest : List Symbol) → All (Held names) (map symbol_name (if kept then s ∷ rest else rest))
@@ -118,7 +118,7 @@ bool_same false false a b = refl
 bool_same true false a b = sym (a refl)
 bool_same false true a b = b refl
 
-same_by_rank : (objects : List Object) (e f : Entry) → InputsRise 0 objects → Stands objects e → Stands objects f → HasParts e → HasParts f
+same_by_rank : (objects : List Object) (e f : InputSymbol) → InputsRise 0 objects → Stands objects e → Stands objects f → HasParts e → HasParts f
     → (entry_rank e == entry_rank f) ≡ same_entry e f
 same_by_rank objects e f rise se sf pe pf =
     bool_same (entry_rank e == entry_rank f) (same_entry e f)
@@ -128,7 +128,7 @@ same_by_rank objects e f rise se sf pe pf =
     let same : e ≡ f = one_entry objects e f rise se sf (eqb-true e.input f.input two.0) (eqb-true e.place f.place two.1) in
     eq-eqb (entry_rank e) (entry_rank f) (ap entry_rank same))
 
-that_by_rank : (objects : List Object) (e : Entry) (w : Option Entry) → InputsRise 0 objects → Stands objects e → HasParts e → ((f : Entry) → w ≡ Some f → Stands objects f × HasParts f)
+that_by_rank : (objects : List Object) (e : InputSymbol) (w : Option InputSymbol) → InputsRise 0 objects → Stands objects e → HasParts e → ((f : InputSymbol) → w ≡ Some f → Stands objects f × HasParts f)
     → is_rank (entry_rank e) (option_map entry_rank w) ≡ is_that e w
 that_by_rank objects e None rise se pe found = refl
 that_by_rank objects e (Some f) rise se pe found = let two = found f refl in same_by_rank objects e f rise se two.0 pe two.1
@@ -139,14 +139,14 @@ pub record IsRanked (objects : List Object) (n : Numbered) (ranks : List (Option
   pub rise : InputsRise 0 objects
   pub winners : WinnersAre n.names (entries Plain objects) ranks
 
-winner_known : (objects : List Object) (n : Numbered) (ranks : List (Option ℕ)) → IsRanked objects n ranks → (name : List ℕ) (f : Entry) → winner (entries Plain objects) name ≡ Some f
+winner_known : (objects : List Object) (n : Numbered) (ranks : List (Option ℕ)) → IsRanked objects n ranks → (name : List ℕ) (f : InputSymbol) → winner (entries Plain objects) name ≡ Some f
     → Stands objects f × HasParts f
 winner_known objects n ranks known name f wins =
-    let P = λ (e : Entry). Stands objects e × HasParts e in
+    let P = λ (e : InputSymbol). Stands objects e × HasParts e in
     let all : Each P (entries Plain objects) = each_both (Stands objects) HasParts (entries Plain objects) (entries_stand objects) (entries_have_parts objects n known.numbers known.rise) in
-    each_least P (definitions (entries Plain objects) name) f (each_filter P (λ (e : Entry). e.defines) (named (entries Plain objects) name) (each_filter P (is_named name) (entries Plain objects) all)) wins
+    each_least P (definitions (entries Plain objects) name) f (each_filter P (λ (e : InputSymbol). e.defines) (named (entries Plain objects) name) (each_filter P (is_named name) (entries Plain objects) all)) wins
 
-by_number : (objects : List Object) (n : Numbered) (ranks : List (Option ℕ)) (e : Entry) (number : Option ℕ) → IsRanked objects n ranks → Stands objects e → HasParts e
+by_number : (objects : List Object) (n : Numbered) (ranks : List (Option ℕ)) (e : InputSymbol) (number : Option ℕ) → IsRanked objects n ranks → Stands objects e → HasParts e
     → number_of n.names (name_of e) ≡ number → IsSome number
     → option_and_then (winner_by ranks e) number ≡ given (is_winner (entries Plain objects) e) (record { definition = told_definition e; name = unwrap_or number 0; flags = e.symbol.flags })
 by_number objects n ranks e None known se pe is some = absurd (let x : false ≡ true = some in cc)
@@ -157,13 +157,13 @@ by_number objects n ranks e (Some k) known se pe is some =
     ∙ ap (λ b. given b (record { definition = told_definition e; name = k; flags = e.symbol.flags }))
     (that_by_rank objects e (winner (entries Plain objects) (name_of e)) known.rise se pe (winner_known objects n ranks known (name_of e)))
 
-entry_wins : (objects : List Object) (n : Numbered) (ranks : List (Option ℕ)) (e : Entry) → IsRanked objects n ranks → Stands objects e → HasParts e → IsHeld n.names e → is_entry e ≡ true
+entry_wins : (objects : List Object) (n : Numbered) (ranks : List (Option ℕ)) (e : InputSymbol) → IsRanked objects n ranks → Stands objects e → HasParts e → IsHeld n.names e → is_entry e ≡ true
     → winner_of n.names ranks e ≡ given (is_winner (entries Plain objects) e) (told_winner n.names e)
 entry_wins objects n ranks e known se pe held is =
     ap (λ b. option_and_then (winner_by ranks e) (if b then number_of n.names (name_of e) else None)) is
     ∙ by_number objects n ranks e (number_of n.names (name_of e)) known se pe refl (held is)
 
-no_entry_wins : (names : List (List ℕ)) (ranks : List (Option ℕ)) (e : Entry) → is_entry e ≡ false → winner_of names ranks e ≡ None
+no_entry_wins : (names : List (List ℕ)) (ranks : List (Option ℕ)) (e : InputSymbol) → is_entry e ≡ false → winner_of names ranks e ≡ None
 no_entry_wins names ranks e not = ap (λ b. option_and_then (winner_by ranks e) (if b then number_of names (name_of e) else None)) not
 
 -- ---- all entries
@@ -180,19 +180,19 @@ made_are_entries : (k : ℕ) (ms : List MadeSymbol) → Each (λ e. is_entry e �
 made_are_entries k [] = tt
 made_are_entries k (m ∷ ms) = (refl, made_are_entries (k + 1) ms)
 
-rows_flat : (f : List (Entry) → List Winner) (objects os : List Object) → ((xs ys : List Entry) → f (xs ++ ys) ≡ f xs ++ f ys) → f [] ≡ []
+rows_flat : (f : List (InputSymbol) → List Winner) (objects os : List Object) → ((xs ys : List InputSymbol) → f (xs ++ ys) ≡ f xs ++ f ys) → f [] ≡ []
     → flat_map (λ row. f row) (map (symbols_of objects) os) ≡ f (flat_map (symbols_of objects) os)
 rows_flat f objects [] append nothing = sym nothing
 rows_flat f objects (o ∷ os) append nothing =
     ap (λ l. f (symbols_of objects o) ++ l) (rows_flat f objects os append nothing) ∙ sym (append (symbols_of objects o) (flat_map (symbols_of objects) os))
 
-all_wins : (objects : List Object) (n : Numbered) (ranks : List (Option ℕ)) (es : List Entry) → IsRanked objects n ranks → Each (Stands objects) es → Each HasParts es → Each (IsHeld n.names) es
+all_wins : (objects : List Object) (n : Numbered) (ranks : List (Option ℕ)) (es : List InputSymbol) → IsRanked objects n ranks → Each (Stands objects) es → Each HasParts es → Each (IsHeld n.names) es
     → Each (λ e. is_entry e ≡ true) es → Each (λ e. winner_of n.names ranks e ≡ given (is_winner (entries Plain objects) e) (told_winner n.names e)) es
 all_wins objects n ranks [] known stand parts held are = tt
 all_wins objects n ranks (e ∷ es) known stand parts held are =
     (entry_wins objects n ranks e known stand.0 parts.0 held.0 are.0, all_wins objects n ranks es known stand.1 parts.1 held.1 are.1)
 
-skipped : (names : List (List ℕ)) (ranks : List (Option ℕ)) (es : List Entry) → Each (λ e. is_entry e ≡ false → winner_of names ranks e ≡ None) es
+skipped : (names : List (List ℕ)) (ranks : List (Option ℕ)) (es : List InputSymbol) → Each (λ e. is_entry e ≡ false → winner_of names ranks e ≡ None) es
 skipped names ranks [] = tt
 skipped names ranks (e ∷ es) = (no_entry_wins names ranks e, skipped names ranks es)
 

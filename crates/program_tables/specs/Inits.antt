@@ -3,7 +3,7 @@ use Rattle.std.specs.Prelude.{ℕ, zero, suc, ◌+◌, nat_le, List, [], ◌∷�
 use Rattle.link_program.specs.wl_base.Choice.{given}
 use Rattle.link_program.specs.linking_section.declared.init.InitFunc.{InitFunc}
 use Rattle.link_program.specs.object_file.declared.object.Object.{Object}
-use Rattle.link_program.specs.name_rules.Entries.{Entry, symbols_of}
+use Rattle.link_program.specs.name_rules.Entries.{InputSymbol, symbols_of}
 use Rattle.link_program.specs.name_rules.Meanings.{is_init_use}
 use Rattle.link_program.specs.declared.named.Named.{Named}
 use Rattle.link_program.specs.declared.named.Named.TheVariants.{Symbol}
@@ -27,7 +27,7 @@ abbrev pub named_of : InitCall → Named
 named_of c = c.named
 
 -- The call of an init function by its symbol. There is none where the symbol is defined in a part that isn't kept.
-abbrev pub call_by : View → InitFunc → Entry → Option InitCall
+abbrev pub call_by : View → InitFunc → InputSymbol → Option InitCall
 call_by v i e = given (is_init_use e) (record { priority = i.priority; named = Symbol 0 0 (pos 0) (v.first + i.symbol) })
 
 abbrev pub call_of : List Object → View → InitFunc → Option InitCall

@@ -6,7 +6,7 @@ use Rattle.link_program.specs.made_symbols.declared.mode.Mode.TheVariants.{Plain
 use Rattle.link_program.specs.made_symbols.Made.{made, made_at}
 use Rattle.link_program.specs.name_rules.declared.meaning.Meaning.{Meaning}
 use Rattle.link_program.specs.name_rules.declared.meaning.Meaning.TheVariants as answers
-use Rattle.link_program.specs.name_rules.Entries.{Entry, made_entry}
+use Rattle.link_program.specs.name_rules.Entries.{InputSymbol, made_entry}
 use Rattle.link_program.specs.name_entries.View.{entry_at}
 use Rattle.link_program.specs.name_meanings.Means.{Answers, answer_at}
 use Rattle.link_program.specs.declared.symbol.Definition.{Definition}
@@ -50,5 +50,5 @@ IsThere objects answers.Nothing = Unit {0}
 -- Each symbol has an answer, and what it names is there.
 abbrev pub AreAnswered : List Object → Answers → Type 0
 AreAnswered objects r =
-    (i k : ℕ) (e : Entry) → entry_at objects i k ≡ Some e
+    (i k : ℕ) (e : InputSymbol) → entry_at objects i k ≡ Some e
     → (answer : Meaning) × (answer_at r e.input e.place ≡ Some answer) × IsThere objects answer

@@ -1,6 +1,6 @@
 -- The symbols of all objects, by the answers of a resolution.
 use Rattle.std.specs.Prelude.{ℕ, ◌+◌, List, [], ◌∷◌, map, flat_map, length}
-use Rattle.link_program.specs.name_rules.Entries.{Entry}
+use Rattle.link_program.specs.name_rules.Entries.{InputSymbol}
 use Rattle.link_program.specs.name_entries.View.{rows_of, entry_number}
 use Rattle.link_program.specs.name_entries.Fits.{FitsObjects}
 use Rattle.link_program.specs.name_meanings.Means.{answer_at}
@@ -15,7 +15,7 @@ pub record AreSources (s : Sources) : Type 0 where
   pub places : ArePlaces s.entries.objects.now s.places.now
   pub answers : AreAnswered s.entries.objects.now s.resolution.now
 
-abbrev pub symbol_of : Sources → Entry → Symbol
+abbrev pub symbol_of : Sources → InputSymbol → Symbol
 symbol_of s e = record {
   kind = e.symbol.kind;
   name = entry_number s.entries.names.now.names e;

@@ -4,7 +4,7 @@ use Rattle.link_program.specs.wl_base.Choice.{given}
 use Rattle.link_program.specs.object_file.declared.object.Object.{Object}
 use Rattle.link_program.specs.made_symbols.declared.mode.Mode.TheVariants.{Plain}
 use Rattle.link_program.specs.made_symbols.Made.{made}
-use Rattle.link_program.specs.name_rules.Entries.{Entry, made_from}
+use Rattle.link_program.specs.name_rules.Entries.{InputSymbol, made_from}
 use Rattle.link_program.specs.name_rules.Meanings.{entry_rank}
 use Rattle.link_program.specs.name_entries.View.{rows_of, entry_number}
 use Rattle.link_program.specs.declared.symbol.Winner.{Winner}
@@ -15,12 +15,12 @@ is_rank rank None = false
 is_rank rank (Some best) = rank == best
 
 -- The entry as the winner of the name of this number, if it has the rank of the winner.
-abbrev pub winner_by : List (Option ℕ) → Entry → ℕ → Option Winner
+abbrev pub winner_by : List (Option ℕ) → InputSymbol → ℕ → Option Winner
 winner_by ranks e name =
     given (is_rank (entry_rank e) (slice_index_or ranks name None)) (record { definition = told_definition e; name = name; flags = e.symbol.flags })
 
 -- The entry as the winner of its name, if it is that.
-abbrev pub winner_of : List (List ℕ) → List (Option ℕ) → Entry → Option Winner
+abbrev pub winner_of : List (List ℕ) → List (Option ℕ) → InputSymbol → Option Winner
 winner_of names ranks e = option_and_then (winner_by ranks e) (entry_number names e)
 
 -- The winners of all names: the linker's own, then those of objects.

@@ -4,7 +4,7 @@ ghost use Rattle.link_program.specs.made_symbols.declared.mode.Mode.TheVariants 
 ghost use Rattle.link_program.specs.made_symbols.Made.{made};
 ghost use Rattle.link_program.specs.object_columns.Seen.{symbol_seen};
 ghost use Rattle.link_program.specs.object_rules.Spaces.{ArePlaces};
-ghost use Rattle.link_program.specs.name_rules.Entries.{Entry, index_in};
+ghost use Rattle.link_program.specs.name_rules.Entries.{InputSymbol, index_in};
 ghost use Rattle.link_program.specs.name_entries.View.{entry_at};
 ghost use Rattle.link_program.specs.name_entries.Fits.{FitsObjects};
 ghost use Rattle.link_program.specs.Told.{told_definition};
@@ -37,7 +37,7 @@ fn index_of(from: &Object, imports: &ImportPlaces, symbol: SymbolRef<'_>) -> u32
 pub(crate) fn definition_at(entries: Entries<'_>, object: u32, place: u32) -> Definition
     requires fits { FitsObjects entries }
     requires there { IsSome (entry_at entries.objects.now object place) }
-    ensures { (e : Entry) → entry_at entries.entry.objects.now object place ≡ Some e → result ≡ told_definition e }
+    ensures { (e : InputSymbol) → entry_at entries.entry.objects.now object place ≡ Some e → result ≡ told_definition e }
 {
     let from = &entries.objects[object as usize];
     let parts = &entries.parts[object as usize];

@@ -1,6 +1,6 @@
 //! The symbols of all objects.
 ghost use Rattle.std.specs.Prelude.{◌≡◌, ◌++◌, ◌<◌, ◌^◌, [], Some, IsSome, length, map, flat_map, slice_index_or, OnOk, IfOk};
-ghost use Rattle.link_program.specs.name_rules.Entries.{Entry};
+ghost use Rattle.link_program.specs.name_rules.Entries.{InputSymbol};
 ghost use Rattle.link_program.specs.name_entries.View.{rows_of, entry_at};
 ghost use Rattle.link_program.specs.name_entries.Fits.{FitsObjects};
 ghost use Rattle.program_tables.specs.Leads.{lead_from, IsThere};
@@ -50,7 +50,7 @@ fn lead_of(entries: Entries<'_>, places: &[u32], meaning: Meaning) -> Lead
 fn symbol_at(sources: Sources<'_>, object: u32, place: u32) -> Symbol
     requires sources { AreSources sources }
     requires there { IsSome (entry_at sources.entries.objects.now object place) }
-    ensures { (e : Entry) → entry_at sources.entry.entries.objects.now object place ≡ Some e → result ≡ symbol_of sources.entry e }
+    ensures { (e : InputSymbol) → entry_at sources.entry.entries.objects.now object place ≡ Some e → result ≡ symbol_of sources.entry e }
 {
     let Some(entry) = sources.entries.entry(object, place) else {
         unreachable!()

@@ -2,7 +2,7 @@
 ghost use Rattle.std.specs.Prelude.{◌≡◌, ◌++◌, ◌<◌, ◌==◌, [], Some, IsSome, length, map, filter_map, flat_map, slice_index_or, OnOk, IfOk};
 ghost use Rattle.link_program.specs.made_symbols.declared.mode.Mode.TheVariants as modes;
 ghost use Rattle.link_program.specs.made_symbols.Made.{made, made_at};
-ghost use Rattle.link_program.specs.name_rules.Entries.{Entry, made_entry, made_from};
+ghost use Rattle.link_program.specs.name_rules.Entries.{InputSymbol, made_entry, made_from};
 ghost use Rattle.link_program.specs.name_entries.View.{rows_of, entry_at};
 ghost use Rattle.link_program.specs.name_entries.Fits.{Fits, FitsObjects};
 ghost use Rattle.program_tables.specs.Winners.{is_rank, winner_of, winners_in};
@@ -49,7 +49,7 @@ fn made_winner(entries: Entries<'_>, ranks: &Winners, number: u32) -> Option<Win
 fn winner_at(entries: Entries<'_>, ranks: &Winners, object: u32, place: u32) -> Option<Winner>
     requires fits { FitsObjects entries }
     requires there { IsSome (entry_at entries.objects.now object place) }
-    ensures { (e : Entry) → entry_at entries.entry.objects.now object place ≡ Some e
+    ensures { (e : InputSymbol) → entry_at entries.entry.objects.now object place ≡ Some e
         → result ≡ winner_of entries.entry.names.now.names ranks.now e }
 {
     let Some(entry) = entries.entry(object, place) else {
