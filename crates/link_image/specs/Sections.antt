@@ -7,6 +7,7 @@ use Rattle.link_program.specs.wasm_types.declared.value.ValType.TheVariants.{I32
 use Rattle.link_program.specs.wasm_types.declared.const_expr.ConstExpr.TheVariants as constants
 use Rattle.link_program.specs.wasm_types.declared.import.Import.{Import}
 use Rattle.link_program.specs.wasm_types.declared.import.ImportKind.TheVariants as kinds
+use Rattle.link_program.specs.wasm_module.declared.export_kinds.TheConstants as exported
 use Rattle.link_program.specs.wasm_module.declared.parts.Export.{Export}
 use Rattle.link_program.specs.wasm_module.declared.parts.ModuleGlobal.{ModuleGlobal}
 use Rattle.link_program.specs.wasm_module.declared.parts.Element.{Element}
@@ -14,6 +15,7 @@ use Rattle.link_program.specs.linking_section.declared.symbol.SymbolKind.{Symbol
 use Rattle.link_program.specs.linking_section.declared.symbol.SymbolKind.TheVariants.{Function, Datum, GlobalVar, Section, Table}
 use Rattle.link_program.specs.linking_section.Flags.{kind_code}
 use Rattle.link_program.specs.made_symbols.declared.mode.Mode.TheVariants.{Plain}
+use Rattle.made_symbols.specs.Made.{stack_pointer}
 use Rattle.link_program.specs.name_rules.Entries.{InputSymbol, untyped}
 use Rattle.link_program.specs.mark_bits.declared.chunk.Chunk.{Chunk}
 use Rattle.link_program.specs.reloc_apply.Windows.{signed32}
@@ -136,7 +138,7 @@ part_global k (Some n) = content_seen (part_at k.tables n).content
 abbrev pub global_made : values.Layout → Looked → GlobalKey → Option ModuleGlobal
 global_made l k (globals.Import n) = None
 global_made l k (globals.Own input index) =
-    if input == 0 then Some (constant (index == 1) (if index == 1 then k.placed.places.stack_high else 0))
+    if input == 0 then Some (constant (index == stack_pointer) (if index == stack_pointer then k.placed.places.stack_high else 0))
     else part_global k (chunk_number k.tables.chunks (chunk_at input 2 index))
 global_made l k (globals.Got key) = Some (constant false (cell_seen l k.numbers key))
 global_made l k (globals.Datum d) = Some (constant false (values.address_of Plain l (entry_of d)))
@@ -144,11 +146,11 @@ global_made l k (globals.Datum d) = Some (constant false (values.address_of Plai
 -- ---- exports
 
 abbrev pub space_of : SymbolKind → ℕ
-space_of Function = 0
-space_of Datum = 3
-space_of GlobalVar = 3
-space_of Section = 1
-space_of Table = 1
+space_of Function = exported.FUNCTION
+space_of Datum = exported.GLOBAL
+space_of GlobalVar = exported.GLOBAL
+space_of Section = exported.TABLE
+space_of Table = exported.TABLE
 
 abbrev pub index_by : Numbered → Definition → SymbolKind → ℕ
 index_by n d Function = number_by same_function_key n.functions (function_of d)
@@ -181,7 +183,7 @@ abbrev pub memory_import : Limits → Import
 memory_import memory = record { «module» = codes "env"; field = memory_name; kind = kinds.Memory memory }
 
 abbrev pub memory_export : Export
-memory_export = record { name = memory_name; kind = 2; index = 0 }
+memory_export = record { name = memory_name; kind = exported.MEMORY; index = 0 }
 
 abbrev pub table_seen : ℕ → TableType
 table_seen slots = record { funcref = true; limits = record { min = 1 + slots; max = Some (1 + slots) } }

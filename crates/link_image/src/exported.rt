@@ -16,7 +16,7 @@ use link_numbers::Numbering;
 use link_program::{Definition, GlobalKey, Program, Winner, function_of, index_of};
 use linking_section::SymbolKind;
 use std::alloc::Global;
-use wasm_module::Export;
+use wasm_module::{Export, export_kinds};
 use wl_base::{Name, OutOfMemory, Seq};
 
 // What kind of export a symbol is.
@@ -24,9 +24,9 @@ fn space_of(kind: SymbolKind) -> u8
     ensures { result ≡ space_of kind }
 {
     match kind {
-        SymbolKind::Function => 0,
-        SymbolKind::Datum | SymbolKind::GlobalVar => 3,
-        SymbolKind::Section | SymbolKind::Table => 1,
+        SymbolKind::Function => export_kinds::FUNCTION,
+        SymbolKind::Datum | SymbolKind::GlobalVar => export_kinds::GLOBAL,
+        SymbolKind::Section | SymbolKind::Table => export_kinds::TABLE,
     }
 }
 

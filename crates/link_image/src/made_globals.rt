@@ -2,6 +2,7 @@
 ghost use Rattle.std.specs.Prelude.{◌≡◌, ◌++◌, ◌==◌, if◌then◌else◌, filter_map, drop, IfOk, OnOk};
 ghost use Rattle.std.specs.Option.{option_to_list};
 ghost use Rattle.link_program.specs.made_symbols.declared.mode.Mode.TheVariants.{Plain};
+ghost use Rattle.made_symbols.specs.Made.{stack_pointer};
 ghost use Rattle.link_program.specs.reloc_apply.Windows.{signed32};
 ghost use Rattle.link_program.specs.link_rules.Program.{chunk_at};
 ghost use Rattle.link_program.specs.link_rules.Values as values;
@@ -17,6 +18,7 @@ use link_program::{
     Content, Definition, FunctionKey, GlobalKey, GotKey, Tables, chunk_number, function_of, part_at,
 };
 use linking_section::SymbolKind;
+use made_symbols::STACK_POINTER;
 use mark_bits::{Chunk, kinds as chunk_kinds};
 use std::alloc::Global;
 use wasm_module::ModuleGlobal;
@@ -97,14 +99,14 @@ fn own(tables: &Tables, chunk: Chunk) -> Option<ModuleGlobal>
 
 // The linker's global of a number: `__stack_pointer` begins at the top of the stack, the others are 0.
 fn linker_global(layout: Layout<'_>, index: u32) -> Result<ModuleGlobal, OutOfMemory>
-    ensures { IfOk result (λ g. g ≡ constant (index == 1) (if index == 1 then layout.entry.placed.now.places.stack_high else 0)) }
+    ensures { IfOk result (λ g. g ≡ constant (index == stack_pointer) (if index == stack_pointer then layout.entry.placed.now.places.stack_high else 0)) }
 {
-    let top = if index == 1 {
+    let top = if index == STACK_POINTER {
         layout.placed.places.stack_high
     } else {
         0
     };
-    let made = constant(index == 1, u64::from(top))?;
+    let made = constant(index == STACK_POINTER, u64::from(top))?;
     Ok(made)
 }
 

@@ -3,7 +3,7 @@ ghost use Rattle.std.specs.Prelude.{◌≡◌, [], ◌∷◌, if◌then◌else�
 ghost use Rattle.link_image.specs.Sections.{memory_seen, memory_import, memory_export};
 
 use std::alloc::Global;
-use wasm_module::Export;
+use wasm_module::{Export, export_kinds};
 use wasm_types::{Import, ImportKind, Limits};
 use wl_base::{OutOfMemory, Seq};
 
@@ -71,7 +71,7 @@ pub(crate) fn memory_exports(alloc: Global, imported: bool) -> Result<Seq<Export
         let name = Seq::from_slice(alloc, b"memory".as_slice())?;
         exports.push(Export {
             name,
-            kind: 2,
+            kind: export_kinds::MEMORY,
             index: 0,
         })?;
     }

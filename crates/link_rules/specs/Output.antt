@@ -7,6 +7,7 @@ use Rattle.object_file.specs.wasm_types.declared.import.Import.{Import}
 use Rattle.object_file.specs.wasm_types.declared.import.ImportKind.{ImportKind}
 use Rattle.object_file.specs.wasm_types.declared.import.ImportKind.TheVariants as kinds
 use Rattle.object_file.specs.wasm_types.declared.const_expr.ConstExpr.TheVariants as constants
+use Rattle.object_file.specs.wasm_module.declared.export_kinds.TheConstants as exported
 use Rattle.object_file.specs.wasm_module.declared.parts.Export.{Export}
 use Rattle.object_file.specs.wasm_module.declared.parts.ModuleGlobal.{ModuleGlobal}
 use Rattle.object_file.specs.wasm_module.declared.parts.Element.{Element}
@@ -172,16 +173,16 @@ module _ (mode : Mode) (p : Program) (parts : List Part) (exports : List InputSy
   global_for (got key) = Some (by_mode mode (i32_const false (got_value mode l key)) (i32_const true 0))
   global_for (exported_datum e) = Some (i32_const false (address_of mode l e))
 
-  -- An export by its kind (Core 5.5.10): 0 a function, 1 a table, 3 a global.
+  -- An export by its kind (Core 5.5.10). A datum is exported as a global that holds its address.
   abbrev pub export_of : InputSymbol → SymbolKind → Export
-  export_of e Function = record { name = export_name p e; kind = 0; index = function_number l.numbers (function_of e) }
-  export_of e Datum = record { name = export_name p e; kind = 3; index = global_number l.numbers (exported_datum e) }
-  export_of e GlobalVar = record { name = export_name p e; kind = 3; index = global_number l.numbers (global_of mode e) }
-  export_of e Section = record { name = export_name p e; kind = 1; index = 0 }
-  export_of e Table = record { name = export_name p e; kind = 1; index = 0 }
+  export_of e Function = record { name = export_name p e; kind = exported.FUNCTION; index = function_number l.numbers (function_of e) }
+  export_of e Datum = record { name = export_name p e; kind = exported.GLOBAL; index = global_number l.numbers (exported_datum e) }
+  export_of e GlobalVar = record { name = export_name p e; kind = exported.GLOBAL; index = global_number l.numbers (global_of mode e) }
+  export_of e Section = record { name = export_name p e; kind = exported.TABLE; index = 0 }
+  export_of e Table = record { name = export_name p e; kind = exported.TABLE; index = 0 }
 
   abbrev pub memory_export : List Export
-  memory_export = if imports_memory mode p then [] else record { name = memory_name; kind = 2; index = 0 } ∷ []
+  memory_export = if imports_memory mode p then [] else record { name = memory_name; kind = exported.MEMORY; index = 0 } ∷ []
 
   -- ---- the image
 

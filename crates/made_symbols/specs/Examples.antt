@@ -8,6 +8,7 @@ use Rattle.made_symbols.specs.declared.mode.Mode.TheVariants.{Plain, Shared}
 use Rattle.made_symbols.specs.declared.roles.Role.{Role}
 use Rattle.made_symbols.specs.declared.roles.Role.TheVariants.{CallCtors, ApplyDataRelocs, StackPointer, MemoryBase, TableBase, IndirectFunctionTable, HeapBase, DataEnd, GlobalBase, DsoHandle, StackLow, StackHigh, HeapEnd}
 use Rattle.made_symbols.specs.Made.{made, made_at, made_role, call_ctors, apply_data_relocs}
+use Rattle.made_symbols.specs.declared.table.TheConstants.{STACK_POINTER}
 use Rattle.made_symbols.specs.Made.{stack_pointer as stack_pointer_number}
 
 -- The stack pointer of a plain module is symbol 1, and may be written.
@@ -37,6 +38,9 @@ call_ctors_is Shared = refl
 
 stack_pointer_is : made_role Plain stack_pointer_number ≡ StackPointer
 stack_pointer_is = refl
+
+stack_pointer_in_code : STACK_POINTER ≡ stack_pointer_number
+stack_pointer_in_code = refl
 
 apply_data_relocs_is : made_role Shared apply_data_relocs ≡ ApplyDataRelocs
 apply_data_relocs_is = refl

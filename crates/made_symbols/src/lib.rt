@@ -7,4 +7,4 @@ mod table;
 
 pub use mode::Mode;
 pub use roles::Role;
-pub use table::{changes, class, count, kind, name, role};
+pub use table::{STACK_POINTER, changes, class, count, kind, name, role};

@@ -6,6 +6,9 @@ ghost use Rattle.made_symbols.specs.Shown.{shown};
 use crate::{Mode, Role};
 use linking_section::SymbolKind;
 
+/// The number of `__stack_pointer` in a plain output.
+pub const STACK_POINTER: u32 = 1;
+
 /// A linker-made symbol.
 #[derive(Clone, Copy)]
 struct Row {

@@ -1,6 +1,7 @@
 //! Which parts of an object aren't kept, since another input wins their groups.
 ghost use Rattle.std.specs.Prelude.{◌≡◌, ℕ, ◌==◌, ◌&&◌, ◌||◌, not, [], slice_get, slice_index_or, option_and_then, Some, None, OnOk, IfOk};
 ghost use Rattle.std.specs.List.{list_any};
+ghost use Rattle.object_file.specs.linking_section.declared.member_kinds.TheConstants as members;
 ghost use Rattle.name_rules.specs.Entries.{has_member, is_input};
 ghost use Rattle.name_entries.specs.View.{GroupsAre};
 ghost use Rattle.name_entries.specs.Parts.{has_flag, AreDropped};
@@ -8,6 +9,7 @@ ghost use Rattle.name_entries.specs.Fits.{GroupsAreNumbered};
 
 use comdat_pick::ComdatWinners;
 use link_names::Names;
+use linking_section::member_kinds;
 use object_file::{Group, Member, Object};
 use std::alloc::Global;
 use wl_base::{InputId, OutOfMemory};
@@ -43,16 +45,16 @@ impl Dropped {
         }
     }
 
-    /// A member isn't kept. Only segments (0) and functions (1) are dropped with groups.
+    /// A member isn't kept. Only segments and functions are dropped with groups.
     fn drop_member(&mut self, member: Member) -> Result<(), OutOfMemory>
         ensures functions { OnOk result ((k : ℕ) → has_flag self.new.functions.items k
-            ≡ (has_flag self.old.functions.items k || ((member.kind == 1) && (member.index == k)))) }
+            ≡ (has_flag self.old.functions.items k || ((member.kind == members.FUNCTION) && (member.index == k)))) }
         ensures segments { OnOk result ((k : ℕ) → has_flag self.new.segments.items k
-            ≡ (has_flag self.old.segments.items k || ((member.kind == 0) && (member.index == k)))) }
+            ≡ (has_flag self.old.segments.items k || ((member.kind == members.DATA) && (member.index == k)))) }
     {
         match member.kind {
-            0 => set_flag(&mut self.segments, member.index),
-            1 => set_flag(&mut self.functions, member.index),
+            member_kinds::DATA => set_flag(&mut self.segments, member.index),
+            member_kinds::FUNCTION => set_flag(&mut self.functions, member.index),
             _ => Ok(()),
         }
     }
@@ -60,9 +62,9 @@ impl Dropped {
     /// No member of these is kept.
     fn drop_members(&mut self, members: &[Member]) -> Result<(), OutOfMemory>
         ensures functions { OnOk result ((k : ℕ) → has_flag self.new.functions.items k
-            ≡ (has_flag self.old.functions.items k || list_any (λ m. (m.kind == 1) && (m.index == k)) members.now)) }
+            ≡ (has_flag self.old.functions.items k || list_any (λ m. (m.kind == members.FUNCTION) && (m.index == k)) members.now)) }
         ensures segments { OnOk result ((k : ℕ) → has_flag self.new.segments.items k
-            ≡ (has_flag self.old.segments.items k || list_any (λ m. (m.kind == 0) && (m.index == k)) members.now)) }
+            ≡ (has_flag self.old.segments.items k || list_any (λ m. (m.kind == members.DATA) && (m.index == k)) members.now)) }
     {
         for member in members {
             self.drop_member(*member)?;
@@ -73,9 +75,9 @@ impl Dropped {
     /// The members of a group are kept only where the object wins the group.
     pub(crate) fn drop_group(&mut self, group: &Group, wins: bool) -> Result<(), OutOfMemory>
         ensures functions { OnOk result ((k : ℕ) → has_flag self.new.functions.items k
-            ≡ (has_flag self.old.functions.items k || (has_member 1 k group.now && not wins))) }
+            ≡ (has_flag self.old.functions.items k || (has_member members.FUNCTION k group.now && not wins))) }
         ensures segments { OnOk result ((k : ℕ) → has_flag self.new.segments.items k
-            ≡ (has_flag self.old.segments.items k || (has_member 0 k group.now && not wins))) }
+            ≡ (has_flag self.old.segments.items k || (has_member members.DATA k group.now && not wins))) }
     {
         if wins {
             return Ok(());
@@ -114,8 +116,8 @@ pub(crate) fn dropped_of(
     requires place { slice_get objects.now object ≡ Some from.now }
     requires numbers { GroupsAreNumbered objects.now names.now }
     requires winners { GroupsAre names.now.names objects.now winners.now }
-    ensures functions { IfOk result (λ d. AreDropped objects.now from.now 1 d.functions.items) }
-    ensures segments { IfOk result (λ d. AreDropped objects.now from.now 0 d.segments.items) }
+    ensures functions { IfOk result (λ d. AreDropped objects.now from.now members.FUNCTION d.functions.items) }
+    ensures segments { IfOk result (λ d. AreDropped objects.now from.now members.DATA d.segments.items) }
 {
     let mut dropped = Dropped::nothing(alloc);
     for at in 0..names.groups(object) {

@@ -3,6 +3,7 @@
 
 mod codes;
 mod entries;
+pub mod export_kinds;
 mod fault;
 mod forms;
 mod laws;

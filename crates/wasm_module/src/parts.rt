@@ -17,7 +17,7 @@ pub struct ModuleGlobal {
 pub struct Export {
     /// The name that the outside knows it by. No two exports of a module have the same.
     pub name: Name,
-    /// What is exported: 0 a function, 1 a table, 2 a memory, 3 a global (Core 5.5.10).
+    /// What is exported, one of [`crate::export_kinds`].
     pub kind: u8,
     /// The place of what is exported among those of its kind, imports first.
     pub index: u32,
