@@ -1,9 +1,13 @@
 -- What is known of the loaded objects once their names are found.
 use Rattle.std.proofs.Common.{◌≡◌, ◌∙◌, ℕ, List, sym, ap, subst, Ok, Err}
 use Rattle.link_program.specs.object_file.declared.object.Object.{Object}
+use Rattle.link_program.specs.made_symbols.declared.mode.Mode.{Mode}
 use Rattle.link_program.specs.made_symbols.declared.mode.Mode.TheVariants.{Plain}
+use Rattle.link_program.specs.link_names.Numbered.{AreNumbers}
 use Rattle.link_program.specs.name_entries.declared.lookups.Entries.{Entries}
 use Rattle.link_program.specs.name_entries.Fits.{Fits}
+use Rattle.link_program.specs.name_entries.View.{InputsRise}
+use Rattle.link_program.specs.name_entries.Parts.{AreParts}
 use Rattle.link_program.specs.link_plan.declared.plan.Plan.{Plan}
 use Rattle.link_program.specs.link_plan.Plan.{IsPlan}
 use Rattle.link_program.specs.link_rules.Program.{Program, program_of}
@@ -13,7 +17,8 @@ use Rattle.link_program.specs.declared.error.LinkError.{LinkError}
 use Rattle.link_program.specs.declared.program.Program.{Program as Data}
 use Rattle.link_program.specs.Loaded.{IsLoaded}
 use Rattle.link_program.specs.Program.{IsProgram}
-use Rattle.program_build.specs.Found.{Finds, found_of}
+use Rattle.program_build.specs.Found.{Finds, IsFound, found_of}
+use Rattle.program_build.specs.declared.found.Found.{Found}
 use Rattle.program_build.specs.Standing.{LoadedPartsStand}
 use Rattle.link_core.specs.Answers.{Answers}
 use Rattle.link_core.specs.Linking.{IsLinking}
@@ -50,3 +55,13 @@ module _ (l : Loading) (plan : Plan) (loaded objects : List Object) (same : l.or
         names = named;
         files = sym held;
       })
+
+  -- What was found of the loaded objects is linked: what is known of each value that was made of it, with the values as variables.
+  pub found_is_linked : (files : List (List ℕ)) (homes : List Home) (f : Found) (d : Data) (view : Entries) → IsPlan plan → l.origin.files ≡ files
+      → IsLoaded l.origin.files l.origin.all loaded homes → LoadedPartsStand → IsFound Plain plan objects f found_program
+      → ((mode : Mode) (p : Program) → IsFound mode plan objects f p → IsProgram mode d p)
+      → ((mode : Mode) → AreNumbers mode objects f.names → InputsRise 0 objects → AreParts objects f.entries.parts → Fits mode view)
+      → view.objects.now ≡ objects → d.objects.now ≡ objects → view.names.now ≡ f.names → d.names.now ≡ f.names → IsLinking (program_in l) d view files
+  unfolding program_of
+  found_is_linked files homes f d view planned held given stand found is fits seen asked named called =
+      linking_is files homes d view planned held given stand (is Plain found_program found) (fits Plain found.numbers found.rise found.looked_up) (seen ∙ sym asked) (named ∙ sym called)

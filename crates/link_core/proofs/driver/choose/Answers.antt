@@ -2,19 +2,16 @@ use Rattle.std.proofs.Common.{rules, ◌∙◌}
 use Rattle.std.proofs.lemmas.Result.{err_from_is_err_and}
 use Rattle.link_program.specs.made_symbols.declared.mode.Mode.TheVariants.{Plain}
 use Rattle.link_program.specs.link_rules.Marks as marks
-use Rattle.link_program.specs.Program.{IsProgram}
-use Rattle.link_program.specs.Stand.{PartsStand}
 use Rattle.link_core.proofs.Answering.{exports_are_winners, export_repeats, name_left_open, all_closed}
 use Rattle.link_core.proofs.driver.choose.Goals as goal
 
 pub repeated_export-requires : goal.repeated_export-requires
 repeated_export-requires g c =
-    let program : IsProgram Plain c.args.program g.p = search rules in
-    (program, (exports_are_winners g.p, c.as_slice.ensures ∙ c.in_ok-exports.ensures))
+    (c.requires.program, (exports_are_winners g.p, c.as_slice.ensures ∙ c.in_ok-exports.ensures))
 
 pub live_parts-requires : goal.live_parts-requires
 live_parts-requires g c κs within =
-    let program : IsProgram Plain c.args.program g.p = search rules in
+    let program = c.requires.program in
     let exports = c.as_slice-2.ensures ∙ c.in_ok-exports.ensures in
     search (rules, program, exports)
 
@@ -25,7 +22,7 @@ returns-in_err-repeated_export g c =
 
 pub unresolved-requires-sync-R : goal.unresolved-requires-sync-R
 unresolved-requires-sync-R g c κs within =
-    let program : IsProgram Plain c.args.program g.p = search rules in
+    let program = c.requires.program in
     let live = c.in_ok-live.ensures in
     search (rules, program, live)
 
@@ -36,13 +33,12 @@ returns-in_err-unresolved g c =
 
 pub returns : goal.returns
 returns g c =
-    let stand : PartsStand g.p = search rules in
     let parts = marks.live g.p (marks.exported Plain g.p) in (
       all_closed g.p (marks.exported Plain g.p) c.in_ok-repeated_export.ensures c.in_ok-unresolved.ensures,
       record {
         exports = c.in_ok-exports.ensures;
         among = exports_are_winners g.p;
         live = c.in_ok-live.ensures.are;
-        meant = c.all_are_meant.ensures g.p c.in_ok-live.live.numbers parts stand c.in_ok-live.ensures.are c.in_ok-unresolved.ensures;
+        meant = c.all_are_meant.ensures g.p c.in_ok-live.live.numbers parts c.requires.stand c.in_ok-live.ensures.are c.in_ok-unresolved.ensures;
       },
     )

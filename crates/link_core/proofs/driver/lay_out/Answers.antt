@@ -1,25 +1,15 @@
-use Rattle.std.proofs.Common.{rules, ◌∙◌, ℕ, Ok, Err, ap, sym, subst}
+use Rattle.std.proofs.Common.{◌∙◌, ℕ, Ok, Err, ap, sym, subst}
 use Rattle.std.proofs.lemmas.Result.{err_from_is_err_and}
 use Rattle.link_program.specs.wl_base.Answers.{Answers}
 use Rattle.link_program.specs.reloc_apply.declared.window.Patches.{Patches}
 use Rattle.link_program.specs.reloc_apply.Windows.{patches_of, filled}
 use Rattle.link_program.specs.image_emit.Bytes.{bytes_of, tree_of}
 use Rattle.link_program.specs.Moved.{moved_windows}
-use Rattle.link_core.specs.Chosen.{IsChosen}
-use Rattle.link_core.specs.Linking.{IsLinking}
 use Rattle.link_core.proofs.Answering.{place_failed, number_failed, goes_on_placed, layout_is, the_image, the_windows, lie_there, stand_there, measure_failed, write_failed, wrote}
 use Rattle.link_core.proofs.driver.lay_out.Goals as goal
 
 pub place_segments-requires : goal.place_segments-requires
-place_segments-requires g c =
-    let is : IsLinking g.s.program c.args.program c.args.entries c.args.files.now = search rules in
-    let chosen : IsChosen g.s c.args.program c.args.exports.now c.args.live.now = search rules in
-    let program = is.program in
-    let stand = is.stand in
-    let live = chosen.live in
-    let files = is.files in
-    let plan = is.plan in
-    search (rules, program, stand, live, files, plan)
+place_segments-requires g c = (c.requires.is.program, (c.requires.is.stand, (c.requires.chosen.live, (c.requires.is.files, c.requires.is.plan))))
 
 pub returns-in_err-placed-clause-exact : goal.returns-in_err-placed-clause-exact
 returns-in_err-placed-clause-exact g c =
@@ -27,18 +17,16 @@ returns-in_err-placed-clause-exact g c =
     rw (p.1) (place_failed g.s.program g.s.exports g.s.parts c.in_err-placed.field-0.0 p.0 p.2 c.in_err-placed.ensures)
 
 pub number-requires : goal.number-requires
-number-requires g c =
-    let is : IsLinking g.s.program c.args.program c.args.entries c.args.files.now = search rules in
-    let chosen : IsChosen g.s c.args.program c.args.exports.now c.args.live.now = search rules in
-    let fits = is.fits in
-    let objects = is.objects in
-    let names = is.names in
-    let program = is.program in
-    let stand = is.stand in
-    let live = chosen.live in
-    let meant = chosen.meant in
-    let exports = chosen.exports in
-    search (rules, fits, objects, names, program, stand, live, meant, exports)
+number-requires g c = (
+      c.requires.is.fits,
+      (
+        c.requires.is.objects,
+        (
+          c.requires.is.names,
+          (c.requires.is.program, (c.requires.is.stand, (c.requires.chosen.live, (c.requires.chosen.meant, c.requires.chosen.exports)))),
+        ),
+      ),
+    )
 
 pub returns-in_err-numbering-clause-exact : goal.returns-in_err-numbering-clause-exact
 returns-in_err-numbering-clause-exact g c =
@@ -46,90 +34,69 @@ returns-in_err-numbering-clause-exact g c =
     rw (p.1) (number_failed g.s.program g.s.exports g.s.parts ℕ c.in_err-numbering.field-0.0 p.0 p.2 c.in_ok-placed.ensures.0 c.in_err-numbering.ensures.table)
 
 pub image-requires : goal.image-requires
-image-requires g c =
-    let is : IsLinking g.s.program c.args.program c.args.entries c.args.files.now = search rules in
-    let chosen : IsChosen g.s c.args.program c.args.exports.now c.args.live.now = search rules in
-    let program = is.program in
-    let stand = is.stand in
-    let live = chosen.live in
-    let meant = chosen.meant in
-    let winners = chosen.among in
-    let exports = chosen.exports in
-    let numbering = c.in_ok-numbering.ensures.numbers in
-    let placed = c.in_ok-placed.ensures.1 in
-    (layout_is g.s.program g.s.parts g.s.exports _ c.args.live.now program stand live meant numbering placed, (live, (winners, exports)))
+image-requires g c = (
+      layout_is g.s.program g.s.parts g.s.exports _ c.args.live.now c.requires.is.program c.requires.is.stand c.requires.chosen.live c.requires.chosen.meant c.in_ok-numbering.ensures.numbers
+      c.in_ok-placed.ensures.1,
+      (c.requires.chosen.live, (c.requires.chosen.among, c.requires.chosen.exports)),
+    )
 
 pub measured-requires : goal.measured-requires
 measured-requires g c =
-    let is : IsLinking g.s.program c.args.program c.args.entries c.args.files.now = search rules in
-    let chosen : IsChosen g.s c.args.program c.args.exports.now c.args.live.now = search rules in
-    lie_there c.args.files.now g.s.program.files (the_image g.s) c.in_ok-image.image is.files c.in_ok-image.ensures
-    (c.windows_stand_in_sources.ensures.lie g.s.program c.args.live.now g.s.parts g.s.exports is.stand chosen.live)
+    lie_there c.args.files.now g.s.program.files (the_image g.s) c.in_ok-image.image c.requires.is.files c.in_ok-image.ensures
+    (c.windows_stand_in_sources.ensures.lie g.s.program c.args.live.now g.s.parts g.s.exports c.requires.is.stand c.requires.chosen.live)
 
 pub returns-in_err-measured-clause-exact : goal.returns-in_err-measured-clause-exact
 returns-in_err-measured-clause-exact g c =
-    let is : IsLinking g.s.program c.args.program c.args.entries c.args.files.now = search rules in
     let p = err_from_is_err_and c.from_residual-in_err-measured.result c.from_residual-in_err-measured.ensures.1 in
     rw (p.1)
     (goes_on_placed g.s.program g.s.exports g.s.parts (Err p.0) c.in_ok-placed.ensures.0 c.in_ok-numbering.ensures.table
-    (measure_failed g.s.program (the_image g.s) (the_windows g.s) c.args.files.now c.in_ok-image.image is.files c.in_ok-image.ensures c.in_err-measured.field-0.0 p.0 p.2 c.in_err-measured.ensures))
+    (measure_failed g.s.program (the_image g.s) (the_windows g.s) c.args.files.now c.in_ok-image.image c.requires.is.files c.in_ok-image.ensures c.in_err-measured.field-0.0 p.0 p.2 c.in_err-measured.ensures))
 
 pub patches-requires : goal.patches-requires
-patches-requires g c =
-    let is : IsLinking g.s.program c.args.program c.args.entries c.args.files.now = search rules in
-    let chosen : IsChosen g.s c.args.program c.args.exports.now c.args.live.now = search rules in
-    let program = is.program in
-    let stand = is.stand in
-    let live = chosen.live in
-    let meant = chosen.meant in
-    let numbering = c.in_ok-numbering.ensures.numbers in
-    let placed = c.in_ok-placed.ensures.1 in
-    (layout_is g.s.program g.s.parts g.s.exports _ c.args.live.now program stand live meant numbering placed, live)
+patches-requires g c = (
+      layout_is g.s.program g.s.parts g.s.exports _ c.args.live.now c.requires.is.program c.requires.is.stand c.requires.chosen.live c.requires.chosen.meant c.in_ok-numbering.ensures.numbers
+      c.in_ok-placed.ensures.1,
+      c.requires.chosen.live,
+    )
 
 pub returns-in_err-patches-clause-exact : goal.returns-in_err-patches-clause-exact
 returns-in_err-patches-clause-exact g c =
-    let is : IsLinking g.s.program c.args.program c.args.entries c.args.files.now = search rules in
-    let chosen : IsChosen g.s c.args.program c.args.exports.now c.args.live.now = search rules in
     let p = err_from_is_err_and c.from_residual-in_err-patches.result c.from_residual-in_err-patches.ensures.1 in
     let files =
-    lie_there c.args.files.now g.s.program.files (the_image g.s) c.in_ok-image.image is.files c.in_ok-image.ensures
-    (c.windows_stand_in_sources.ensures.lie g.s.program c.args.live.now g.s.parts g.s.exports is.stand chosen.live) in
+    lie_there c.args.files.now g.s.program.files (the_image g.s) c.in_ok-image.image c.requires.is.files c.in_ok-image.ensures
+    (c.windows_stand_in_sources.ensures.lie g.s.program c.args.live.now g.s.parts g.s.exports c.requires.is.stand c.requires.chosen.live) in
     let stand =
-    stand_there c.args.files.now g.s.program.files (the_image g.s) c.in_ok-image.image (the_windows g.s) is.files c.in_ok-image.ensures
-    (c.windows_stand_in_sources.ensures.stand g.s.program c.args.live.now g.s.parts g.s.exports is.stand chosen.live) in
+    stand_there c.args.files.now g.s.program.files (the_image g.s) c.in_ok-image.image (the_windows g.s) c.requires.is.files c.in_ok-image.ensures
+    (c.windows_stand_in_sources.ensures.stand g.s.program c.args.live.now g.s.parts g.s.exports c.requires.is.stand c.requires.chosen.live) in
     let told = subst (λ ks. Answers {A = Patches} (Err c.in_err-patches.field-0.0) (patches_of (moved_windows ks (the_windows g.s)))) c.as_slice.ensures c.in_err-patches.ensures in
     rw (p.1)
     (goes_on_placed g.s.program g.s.exports g.s.parts (Err p.0) c.in_ok-placed.ensures.0 c.in_ok-numbering.ensures.table
-    (write_failed g.s.program (the_image g.s) (the_windows g.s) c.args.files.now c.in_ok-image.image is.files c.in_ok-image.ensures c.in_ok-measured.measured c.in_err-patches.field-0.0 p.0 p.2
+    (write_failed g.s.program (the_image g.s) (the_windows g.s) c.args.files.now c.in_ok-image.image c.requires.is.files c.in_ok-image.ensures c.in_ok-measured.measured c.in_err-patches.field-0.0 p.0 p.2
     c.in_ok-measured.ensures
     (c.values_are_judged_in_turn.ensures c.args.files.now c.in_ok-image.image c.in_ok-measured.measured (the_windows g.s) c.in_err-patches.field-0.0 files c.in_ok-measured.ensures.0 stand told)))
 
 pub returns-clause-exact : goal.returns-clause-exact
 returns-clause-exact g c =
-    let is : IsLinking g.s.program c.args.program c.args.entries c.args.files.now = search rules in
-    let chosen : IsChosen g.s c.args.program c.args.exports.now c.args.live.now = search rules in
     let files =
-    lie_there c.args.files.now g.s.program.files (the_image g.s) c.in_ok-image.image is.files c.in_ok-image.ensures
-    (c.windows_stand_in_sources.ensures.lie g.s.program c.args.live.now g.s.parts g.s.exports is.stand chosen.live) in
+    lie_there c.args.files.now g.s.program.files (the_image g.s) c.in_ok-image.image c.requires.is.files c.in_ok-image.ensures
+    (c.windows_stand_in_sources.ensures.lie g.s.program c.args.live.now g.s.parts g.s.exports c.requires.is.stand c.requires.chosen.live) in
     let stand =
-    stand_there c.args.files.now g.s.program.files (the_image g.s) c.in_ok-image.image (the_windows g.s) is.files c.in_ok-image.ensures
-    (c.windows_stand_in_sources.ensures.stand g.s.program c.args.live.now g.s.parts g.s.exports is.stand chosen.live) in
+    stand_there c.args.files.now g.s.program.files (the_image g.s) c.in_ok-image.image (the_windows g.s) c.requires.is.files c.in_ok-image.ensures
+    (c.windows_stand_in_sources.ensures.stand g.s.program c.args.live.now g.s.parts g.s.exports c.requires.is.stand c.requires.chosen.live) in
     let told = sym (ap (λ ks. patches_of (moved_windows ks (the_windows g.s))) c.as_slice.ensures) ∙ c.in_ok-patches.ensures in
     let law = c.patches_make_the_output.ensures c.args.files.now c.in_ok-image.image c.in_ok-measured.measured (the_windows g.s) c.in_ok-patches.patches files c.in_ok-measured.ensures.0 stand told in
     let made = filled c.in_ok-patches.patches.patches (bytes_of (tree_of c.args.files.now c.in_ok-image.image)) in
     goes_on_placed g.s.program g.s.exports g.s.parts (Ok made) c.in_ok-placed.ensures.0 c.in_ok-numbering.ensures.table
-    (wrote g.s.program (the_image g.s) (the_windows g.s) c.args.files.now c.in_ok-image.image is.files c.in_ok-image.ensures c.in_ok-measured.measured made c.in_ok-measured.ensures law.1)
+    (wrote g.s.program (the_image g.s) (the_windows g.s) c.args.files.now c.in_ok-image.image c.requires.is.files c.in_ok-image.ensures c.in_ok-measured.measured made c.in_ok-measured.ensures law.1)
 
 pub returns-clause-ready : goal.returns-clause-ready
 returns-clause-ready g c =
-    let is : IsLinking g.s.program c.args.program c.args.entries c.args.files.now = search rules in
-    let chosen : IsChosen g.s c.args.program c.args.exports.now c.args.live.now = search rules in
     let files =
-    lie_there c.args.files.now g.s.program.files (the_image g.s) c.in_ok-image.image is.files c.in_ok-image.ensures
-    (c.windows_stand_in_sources.ensures.lie g.s.program c.args.live.now g.s.parts g.s.exports is.stand chosen.live) in
+    lie_there c.args.files.now g.s.program.files (the_image g.s) c.in_ok-image.image c.requires.is.files c.in_ok-image.ensures
+    (c.windows_stand_in_sources.ensures.lie g.s.program c.args.live.now g.s.parts g.s.exports c.requires.is.stand c.requires.chosen.live) in
     let stand =
-    stand_there c.args.files.now g.s.program.files (the_image g.s) c.in_ok-image.image (the_windows g.s) is.files c.in_ok-image.ensures
-    (c.windows_stand_in_sources.ensures.stand g.s.program c.args.live.now g.s.parts g.s.exports is.stand chosen.live) in
+    stand_there c.args.files.now g.s.program.files (the_image g.s) c.in_ok-image.image (the_windows g.s) c.requires.is.files c.in_ok-image.ensures
+    (c.windows_stand_in_sources.ensures.stand g.s.program c.args.live.now g.s.parts g.s.exports c.requires.is.stand c.requires.chosen.live) in
     let told = sym (ap (λ ks. patches_of (moved_windows ks (the_windows g.s))) c.as_slice.ensures) ∙ c.in_ok-patches.ensures in
     let law = c.patches_make_the_output.ensures c.args.files.now c.in_ok-image.image c.in_ok-measured.measured (the_windows g.s) c.in_ok-patches.patches files c.in_ok-measured.ensures.0 stand told in
     record { measured = c.in_ok-measured.ensures.0; lie = files; apart = law.0; short = c.in_ok-measured.ensures.3 }
