@@ -4,7 +4,7 @@ use Rattle.object_file.specs.linking_section.declared.symbol.SymbolKind.{SymbolK
 use Rattle.object_file.specs.linking_section.declared.symbol.SymbolKind.TheVariants.{Function, Datum, GlobalVar, Section, Table}
 use Rattle.object_file.specs.declared.object.Object.{Object}
 use Rattle.object_file.specs.object_rules.Spaces.{ArePlaces}
-use Rattle.object_file.specs.linking_section.declared.member_kinds.TheConstants as members
+use Rattle.object_file.specs.linking_section.declared.member_kinds.TheConstants as kinds
 use Rattle.name_rules.specs.Entries.{is_kept}
 use Rattle.name_entries.specs.declared.parts.ObjectParts.{ObjectParts}
 
@@ -19,8 +19,8 @@ AreDropped objects o kind flags = (index : ℕ) → is_kept objects o kind index
 -- These are the places and the flags of an object.
 pub record ArePartsOf (objects : List Object) (o : Object) (p : ObjectParts) : Type 0 where
   pub imports : ArePlaces o.imports p.imports
-  pub functions : AreDropped objects o members.FUNCTION p.dropped_functions
-  pub segments : AreDropped objects o members.DATA p.dropped_segments
+  pub functions : AreDropped objects o kinds.FUNCTION p.dropped_functions
+  pub segments : AreDropped objects o kinds.DATA p.dropped_segments
 
 -- One for each object, in the order of the objects.
 pub record AreParts (objects : List Object) (parts : List ObjectParts) : Type 0 where

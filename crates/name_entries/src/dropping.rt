@@ -1,7 +1,7 @@
 //! Which parts of an object aren't kept, since another input wins their groups.
 ghost use Rattle.std.specs.Prelude.{◌≡◌, ℕ, ◌==◌, ◌&&◌, ◌||◌, not, [], slice_get, slice_index_or, option_and_then, Some, None, OnOk, IfOk};
 ghost use Rattle.std.specs.List.{list_any};
-ghost use Rattle.object_file.specs.linking_section.declared.member_kinds.TheConstants as members;
+ghost use Rattle.object_file.specs.linking_section.declared.member_kinds.TheConstants as kinds;
 ghost use Rattle.name_rules.specs.Entries.{has_member, is_input};
 ghost use Rattle.name_entries.specs.View.{GroupsAre};
 ghost use Rattle.name_entries.specs.Parts.{has_flag, AreDropped};
@@ -48,9 +48,9 @@ impl Dropped {
     /// A member isn't kept. Only segments and functions are dropped with groups.
     fn drop_member(&mut self, member: Member) -> Result<(), OutOfMemory>
         ensures functions { OnOk result ((k : ℕ) → has_flag self.new.functions.items k
-            ≡ (has_flag self.old.functions.items k || ((member.kind == members.FUNCTION) && (member.index == k)))) }
+            ≡ (has_flag self.old.functions.items k || ((member.kind == kinds.FUNCTION) && (member.index == k)))) }
         ensures segments { OnOk result ((k : ℕ) → has_flag self.new.segments.items k
-            ≡ (has_flag self.old.segments.items k || ((member.kind == members.DATA) && (member.index == k)))) }
+            ≡ (has_flag self.old.segments.items k || ((member.kind == kinds.DATA) && (member.index == k)))) }
     {
         match member.kind {
             member_kinds::DATA => set_flag(&mut self.segments, member.index),
@@ -62,9 +62,9 @@ impl Dropped {
     /// No member of these is kept.
     fn drop_members(&mut self, members: &[Member]) -> Result<(), OutOfMemory>
         ensures functions { OnOk result ((k : ℕ) → has_flag self.new.functions.items k
-            ≡ (has_flag self.old.functions.items k || list_any (λ m. (m.kind == members.FUNCTION) && (m.index == k)) members.now)) }
+            ≡ (has_flag self.old.functions.items k || list_any (λ m. (m.kind == kinds.FUNCTION) && (m.index == k)) members.now)) }
         ensures segments { OnOk result ((k : ℕ) → has_flag self.new.segments.items k
-            ≡ (has_flag self.old.segments.items k || list_any (λ m. (m.kind == members.DATA) && (m.index == k)) members.now)) }
+            ≡ (has_flag self.old.segments.items k || list_any (λ m. (m.kind == kinds.DATA) && (m.index == k)) members.now)) }
     {
         for member in members {
             self.drop_member(*member)?;
@@ -75,9 +75,9 @@ impl Dropped {
     /// The members of a group are kept only where the object wins the group.
     pub(crate) fn drop_group(&mut self, group: &Group, wins: bool) -> Result<(), OutOfMemory>
         ensures functions { OnOk result ((k : ℕ) → has_flag self.new.functions.items k
-            ≡ (has_flag self.old.functions.items k || (has_member members.FUNCTION k group.now && not wins))) }
+            ≡ (has_flag self.old.functions.items k || (has_member kinds.FUNCTION k group.now && not wins))) }
         ensures segments { OnOk result ((k : ℕ) → has_flag self.new.segments.items k
-            ≡ (has_flag self.old.segments.items k || (has_member members.DATA k group.now && not wins))) }
+            ≡ (has_flag self.old.segments.items k || (has_member kinds.DATA k group.now && not wins))) }
     {
         if wins {
             return Ok(());
@@ -116,8 +116,8 @@ pub(crate) fn dropped_of(
     requires place { slice_get objects.now object ≡ Some from.now }
     requires numbers { GroupsAreNumbered objects.now names.now }
     requires winners { GroupsAre names.now.names objects.now winners.now }
-    ensures functions { IfOk result (λ d. AreDropped objects.now from.now members.FUNCTION d.functions.items) }
-    ensures segments { IfOk result (λ d. AreDropped objects.now from.now members.DATA d.segments.items) }
+    ensures functions { IfOk result (λ d. AreDropped objects.now from.now kinds.FUNCTION d.functions.items) }
+    ensures segments { IfOk result (λ d. AreDropped objects.now from.now kinds.DATA d.segments.items) }
 {
     let mut dropped = Dropped::nothing(alloc);
     for at in 0..names.groups(object) {
