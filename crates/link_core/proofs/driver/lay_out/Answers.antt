@@ -18,15 +18,15 @@ returns-in_err-placed-clause-exact g c =
 
 pub number-requires : goal.number-requires
 number-requires g c = (
-      c.requires.is.fits,
-      (
-        c.requires.is.objects,
-        (
-          c.requires.is.names,
-          (c.requires.is.program, (c.requires.is.stand, (c.requires.chosen.live, (c.requires.chosen.meant, c.requires.chosen.exports)))),
-        ),
-      ),
-    )
+  c.requires.is.fits,
+  (
+    c.requires.is.objects,
+    (
+      c.requires.is.names,
+      (c.requires.is.program, (c.requires.is.stand, (c.requires.chosen.live, (c.requires.chosen.meant, c.requires.chosen.exports)))),
+    ),
+  ),
+)
 
 pub returns-in_err-numbering-clause-exact : goal.returns-in_err-numbering-clause-exact
 returns-in_err-numbering-clause-exact g c =
@@ -35,10 +35,10 @@ returns-in_err-numbering-clause-exact g c =
 
 pub image-requires : goal.image-requires
 image-requires g c = (
-      layout_is g.s.program g.s.parts g.s.exports _ c.args.live.now c.requires.is.program c.requires.is.stand c.requires.chosen.live c.requires.chosen.meant c.in_ok-numbering.ensures.numbers
+  layout_is g.s.program g.s.parts g.s.exports _ c.args.live.now c.requires.is.program c.requires.is.stand c.requires.chosen.live c.requires.chosen.meant c.in_ok-numbering.ensures.numbers
       c.in_ok-placed.ensures.1,
-      (c.requires.chosen.live, (c.requires.chosen.among, c.requires.chosen.exports)),
-    )
+  (c.requires.chosen.live, (c.requires.chosen.among, c.requires.chosen.exports)),
+)
 
 pub measured-requires : goal.measured-requires
 measured-requires g c =
@@ -54,10 +54,10 @@ returns-in_err-measured-clause-exact g c =
 
 pub patches-requires : goal.patches-requires
 patches-requires g c = (
-      layout_is g.s.program g.s.parts g.s.exports _ c.args.live.now c.requires.is.program c.requires.is.stand c.requires.chosen.live c.requires.chosen.meant c.in_ok-numbering.ensures.numbers
+  layout_is g.s.program g.s.parts g.s.exports _ c.args.live.now c.requires.is.program c.requires.is.stand c.requires.chosen.live c.requires.chosen.meant c.in_ok-numbering.ensures.numbers
       c.in_ok-placed.ensures.1,
-      c.requires.chosen.live,
-    )
+  c.requires.chosen.live,
+)
 
 pub returns-in_err-patches-clause-exact : goal.returns-in_err-patches-clause-exact
 returns-in_err-patches-clause-exact g c =
