@@ -7,11 +7,11 @@ use Rattle.link_core.proofs.driver.choose.Goals as goal
 
 pub repeated_export-requires : goal.repeated_export-requires
 repeated_export-requires g c =
-    (c.requires.program, (exports_are_winners g.p, c.as_slice.ensures ∙ c.in_ok-exports.ensures))
+    (c.requires.1.1.1.1.0, (exports_are_winners g.p, c.as_slice.ensures ∙ c.in_ok-exports.ensures))
 
 pub live_parts-requires : goal.live_parts-requires
 live_parts-requires g c κs within =
-    let program = c.requires.program in
+    let program = c.requires.1.1.1.1.0 in
     let exports = c.as_slice-2.ensures ∙ c.in_ok-exports.ensures in
     search (rules, program, exports)
 
@@ -22,7 +22,7 @@ returns-in_err-repeated_export g c =
 
 pub unresolved-requires-sync-R : goal.unresolved-requires-sync-R
 unresolved-requires-sync-R g c κs within =
-    let program = c.requires.program in
+    let program = c.requires.1.1.1.1.0 in
     let live = c.in_ok-live.ensures in
     search (rules, program, live)
 
@@ -39,6 +39,6 @@ returns g c =
         exports = c.in_ok-exports.ensures;
         among = exports_are_winners g.p;
         live = c.in_ok-live.ensures.are;
-        meant = c.all_are_meant.ensures g.p c.in_ok-live.live.numbers parts c.requires.stand c.in_ok-live.ensures.are c.in_ok-unresolved.ensures;
+        meant = c.all_are_meant.ensures g.p c.in_ok-live.live.numbers parts c.requires.1.1.1.1.1 c.in_ok-live.ensures.are c.in_ok-unresolved.ensures;
       },
     )

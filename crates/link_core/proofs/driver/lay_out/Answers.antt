@@ -9,7 +9,7 @@ use Rattle.link_core.proofs.Answering.{place_failed, number_failed, goes_on_plac
 use Rattle.link_core.proofs.driver.lay_out.Goals as goal
 
 pub place_segments-requires : goal.place_segments-requires
-place_segments-requires g c = (c.requires.is.program, (c.requires.is.stand, (c.requires.chosen.live, (c.requires.is.files, c.requires.is.plan))))
+place_segments-requires g c = (c.requires.0.program, (c.requires.0.stand, (c.requires.1.live, (c.requires.0.files, c.requires.0.plan))))
 
 pub returns-in_err-placed-clause-exact : goal.returns-in_err-placed-clause-exact
 returns-in_err-placed-clause-exact g c =
@@ -18,12 +18,12 @@ returns-in_err-placed-clause-exact g c =
 
 pub number-requires : goal.number-requires
 number-requires g c = (
-  c.requires.is.fits,
+  c.requires.0.fits,
   (
-    c.requires.is.objects,
+    c.requires.0.objects,
     (
-      c.requires.is.names,
-      (c.requires.is.program, (c.requires.is.stand, (c.requires.chosen.live, (c.requires.chosen.meant, c.requires.chosen.exports)))),
+      c.requires.0.names,
+      (c.requires.0.program, (c.requires.0.stand, (c.requires.1.live, (c.requires.1.meant, c.requires.1.exports)))),
     ),
   ),
 )
@@ -35,68 +35,73 @@ returns-in_err-numbering-clause-exact g c =
 
 pub image-requires : goal.image-requires
 image-requires g c = (
-  layout_is g.s.program g.s.parts g.s.exports _ c.args.live.now c.requires.is.program c.requires.is.stand c.requires.chosen.live c.requires.chosen.meant c.in_ok-numbering.ensures.numbers
+  layout_is g.s.program g.s.parts g.s.exports _ c.args.live.now c.requires.0.program c.requires.0.stand c.requires.1.live c.requires.1.meant c.in_ok-numbering.ensures.numbers
       c.in_ok-placed.ensures.1,
-  (c.requires.chosen.live, (c.requires.chosen.among, c.requires.chosen.exports)),
+  (c.requires.1.live, (c.requires.1.among, c.requires.1.exports)),
 )
+
+pub returns-in_err-image-clause-exact : goal.returns-in_err-image-clause-exact
+returns-in_err-image-clause-exact g c =
+    let p = err_from_is_err_and c.from_residual-in_err-image.result c.from_residual-in_err-image.ensures.1 in
+    rw (p.1, p.2) tt
 
 pub measured-requires : goal.measured-requires
 measured-requires g c =
-    lie_there c.args.files.now g.s.program.files (the_image g.s) c.in_ok-image.image c.requires.is.files c.in_ok-image.ensures
-    (c.windows_stand_in_sources.ensures.lie g.s.program c.args.live.now g.s.parts g.s.exports c.requires.is.stand c.requires.chosen.live)
+    lie_there c.args.files.now g.s.program.files (the_image g.s) c.in_ok-image.image c.requires.0.files c.in_ok-image.ensures
+    (c.windows_stand_in_sources.ensures.lie g.s.program c.args.live.now g.s.parts g.s.exports c.requires.0.stand c.requires.1.live)
 
 pub returns-in_err-measured-clause-exact : goal.returns-in_err-measured-clause-exact
 returns-in_err-measured-clause-exact g c =
     let p = err_from_is_err_and c.from_residual-in_err-measured.result c.from_residual-in_err-measured.ensures.1 in
     rw (p.1)
     (goes_on_placed g.s.program g.s.exports g.s.parts (Err p.0) c.in_ok-placed.ensures.0 c.in_ok-numbering.ensures.table
-    (measure_failed g.s.program (the_image g.s) (the_windows g.s) c.args.files.now c.in_ok-image.image c.requires.is.files c.in_ok-image.ensures c.in_err-measured.field-0.0 p.0 p.2 c.in_err-measured.ensures))
+    (measure_failed g.s.program (the_image g.s) (the_windows g.s) c.args.files.now c.in_ok-image.image c.requires.0.files c.in_ok-image.ensures c.in_err-measured.field-0.0 p.0 p.2 c.in_err-measured.ensures))
 
 pub patches-requires : goal.patches-requires
 patches-requires g c = (
-  layout_is g.s.program g.s.parts g.s.exports _ c.args.live.now c.requires.is.program c.requires.is.stand c.requires.chosen.live c.requires.chosen.meant c.in_ok-numbering.ensures.numbers
+  layout_is g.s.program g.s.parts g.s.exports _ c.args.live.now c.requires.0.program c.requires.0.stand c.requires.1.live c.requires.1.meant c.in_ok-numbering.ensures.numbers
       c.in_ok-placed.ensures.1,
-  c.requires.chosen.live,
+  c.requires.1.live,
 )
 
 pub returns-in_err-patches-clause-exact : goal.returns-in_err-patches-clause-exact
 returns-in_err-patches-clause-exact g c =
     let p = err_from_is_err_and c.from_residual-in_err-patches.result c.from_residual-in_err-patches.ensures.1 in
     let files =
-    lie_there c.args.files.now g.s.program.files (the_image g.s) c.in_ok-image.image c.requires.is.files c.in_ok-image.ensures
-    (c.windows_stand_in_sources.ensures.lie g.s.program c.args.live.now g.s.parts g.s.exports c.requires.is.stand c.requires.chosen.live) in
+    lie_there c.args.files.now g.s.program.files (the_image g.s) c.in_ok-image.image c.requires.0.files c.in_ok-image.ensures
+    (c.windows_stand_in_sources.ensures.lie g.s.program c.args.live.now g.s.parts g.s.exports c.requires.0.stand c.requires.1.live) in
     let stand =
-    stand_there c.args.files.now g.s.program.files (the_image g.s) c.in_ok-image.image (the_windows g.s) c.requires.is.files c.in_ok-image.ensures
-    (c.windows_stand_in_sources.ensures.stand g.s.program c.args.live.now g.s.parts g.s.exports c.requires.is.stand c.requires.chosen.live) in
+    stand_there c.args.files.now g.s.program.files (the_image g.s) c.in_ok-image.image (the_windows g.s) c.requires.0.files c.in_ok-image.ensures
+    (c.windows_stand_in_sources.ensures.stand g.s.program c.args.live.now g.s.parts g.s.exports c.requires.0.stand c.requires.1.live) in
     let told = subst (λ ks. Answers {A = Patches} (Err c.in_err-patches.field-0.0) (patches_of (moved_windows ks (the_windows g.s)))) c.as_slice.ensures c.in_err-patches.ensures in
     rw (p.1)
     (goes_on_placed g.s.program g.s.exports g.s.parts (Err p.0) c.in_ok-placed.ensures.0 c.in_ok-numbering.ensures.table
-    (write_failed g.s.program (the_image g.s) (the_windows g.s) c.args.files.now c.in_ok-image.image c.requires.is.files c.in_ok-image.ensures c.in_ok-measured.measured c.in_err-patches.field-0.0 p.0 p.2
+    (write_failed g.s.program (the_image g.s) (the_windows g.s) c.args.files.now c.in_ok-image.image c.requires.0.files c.in_ok-image.ensures c.in_ok-measured.measured c.in_err-patches.field-0.0 p.0 p.2
     c.in_ok-measured.ensures
     (c.values_are_judged_in_turn.ensures c.args.files.now c.in_ok-image.image c.in_ok-measured.measured (the_windows g.s) c.in_err-patches.field-0.0 files c.in_ok-measured.ensures.0 stand told)))
 
 pub returns-clause-exact : goal.returns-clause-exact
 returns-clause-exact g c =
     let files =
-    lie_there c.args.files.now g.s.program.files (the_image g.s) c.in_ok-image.image c.requires.is.files c.in_ok-image.ensures
-    (c.windows_stand_in_sources.ensures.lie g.s.program c.args.live.now g.s.parts g.s.exports c.requires.is.stand c.requires.chosen.live) in
+    lie_there c.args.files.now g.s.program.files (the_image g.s) c.in_ok-image.image c.requires.0.files c.in_ok-image.ensures
+    (c.windows_stand_in_sources.ensures.lie g.s.program c.args.live.now g.s.parts g.s.exports c.requires.0.stand c.requires.1.live) in
     let stand =
-    stand_there c.args.files.now g.s.program.files (the_image g.s) c.in_ok-image.image (the_windows g.s) c.requires.is.files c.in_ok-image.ensures
-    (c.windows_stand_in_sources.ensures.stand g.s.program c.args.live.now g.s.parts g.s.exports c.requires.is.stand c.requires.chosen.live) in
+    stand_there c.args.files.now g.s.program.files (the_image g.s) c.in_ok-image.image (the_windows g.s) c.requires.0.files c.in_ok-image.ensures
+    (c.windows_stand_in_sources.ensures.stand g.s.program c.args.live.now g.s.parts g.s.exports c.requires.0.stand c.requires.1.live) in
     let told = sym (ap (λ ks. patches_of (moved_windows ks (the_windows g.s))) c.as_slice.ensures) ∙ c.in_ok-patches.ensures in
     let law = c.patches_make_the_output.ensures c.args.files.now c.in_ok-image.image c.in_ok-measured.measured (the_windows g.s) c.in_ok-patches.patches files c.in_ok-measured.ensures.0 stand told in
     let made = filled c.in_ok-patches.patches.patches (bytes_of (tree_of c.args.files.now c.in_ok-image.image)) in
     goes_on_placed g.s.program g.s.exports g.s.parts (Ok made) c.in_ok-placed.ensures.0 c.in_ok-numbering.ensures.table
-    (wrote g.s.program (the_image g.s) (the_windows g.s) c.args.files.now c.in_ok-image.image c.requires.is.files c.in_ok-image.ensures c.in_ok-measured.measured made c.in_ok-measured.ensures law.1)
+    (wrote g.s.program (the_image g.s) (the_windows g.s) c.args.files.now c.in_ok-image.image c.requires.0.files c.in_ok-image.ensures c.in_ok-measured.measured made c.in_ok-measured.ensures law.1)
 
 pub returns-clause-ready : goal.returns-clause-ready
 returns-clause-ready g c =
     let files =
-    lie_there c.args.files.now g.s.program.files (the_image g.s) c.in_ok-image.image c.requires.is.files c.in_ok-image.ensures
-    (c.windows_stand_in_sources.ensures.lie g.s.program c.args.live.now g.s.parts g.s.exports c.requires.is.stand c.requires.chosen.live) in
+    lie_there c.args.files.now g.s.program.files (the_image g.s) c.in_ok-image.image c.requires.0.files c.in_ok-image.ensures
+    (c.windows_stand_in_sources.ensures.lie g.s.program c.args.live.now g.s.parts g.s.exports c.requires.0.stand c.requires.1.live) in
     let stand =
-    stand_there c.args.files.now g.s.program.files (the_image g.s) c.in_ok-image.image (the_windows g.s) c.requires.is.files c.in_ok-image.ensures
-    (c.windows_stand_in_sources.ensures.stand g.s.program c.args.live.now g.s.parts g.s.exports c.requires.is.stand c.requires.chosen.live) in
+    stand_there c.args.files.now g.s.program.files (the_image g.s) c.in_ok-image.image (the_windows g.s) c.requires.0.files c.in_ok-image.ensures
+    (c.windows_stand_in_sources.ensures.stand g.s.program c.args.live.now g.s.parts g.s.exports c.requires.0.stand c.requires.1.live) in
     let told = sym (ap (λ ks. patches_of (moved_windows ks (the_windows g.s))) c.as_slice.ensures) ∙ c.in_ok-patches.ensures in
     let law = c.patches_make_the_output.ensures c.args.files.now c.in_ok-image.image c.in_ok-measured.measured (the_windows g.s) c.in_ok-patches.patches files c.in_ok-measured.ensures.0 stand told in
     record { measured = c.in_ok-measured.ensures.0; lie = files; apart = law.0; short = c.in_ok-measured.ensures.3 }

@@ -14,20 +14,20 @@ pub find-requires : goal.find-requires
 find-requires g c κs within =
     let loaded =
     subst (λ hs. IsLoaded g.l.origin.files g.l.origin.all c.objects-objects.result.now hs) (sym c.homes.ensures)
-    (subst (λ os. IsLoaded g.l.origin.files g.l.origin.all os c.args.inputs.now.homes) (sym c.objects-objects.ensures) c.requires.loaded) in
+    (subst (λ os. IsLoaded g.l.origin.files g.l.origin.all os c.args.inputs.now.homes) (sym c.objects-objects.ensures) c.requires.1.1.1.1.1.1.1.1) in
     search (rules, loaded)
 
 pub returns-in_err-found-clause-exact : goal.returns-in_err-found-clause-exact
 returns-in_err-found-clause-exact g c =
     let p = err_from_is_err_and c.from_residual.result c.from_residual.ensures.1 in
     rw (p.1)
-    (find_stops g.l c.args.plan.now c.args.inputs.now.loaded c.objects-objects.result.now c.requires.same c.requires.objects c.objects-objects.ensures c.in_err-found.field-0.0 p.0 p.2 c.in_err-found.ensures)
+    (find_stops g.l c.args.plan.now c.args.inputs.now.loaded c.objects-objects.result.now c.requires.1.1.1.1.1.0 c.requires.1.1.1.1.1.1.1.0 c.objects-objects.ensures c.in_err-found.field-0.0 p.0 p.2 c.in_err-found.ensures)
 
 pub choose-requires : goal.choose-requires
 choose-requires g c κs within =
     let is : IsLinking (program_in g.l) c.program-program.result c.view-entries.result c.args.files.now =
-    found_is_linked g.l c.args.plan.now c.args.inputs.now.loaded c.objects-objects.result.now c.requires.same c.requires.objects c.objects-objects.ensures c.args.files.now
-    c.args.inputs.now.homes c.in_ok-found.found c.program-program.result c.view-entries.result c.requires.plan c.requires.files c.requires.loaded c.parts_stand.ensures c.in_ok-found.ensures.1
+    found_is_linked g.l c.args.plan.now c.args.inputs.now.loaded c.objects-objects.result.now c.requires.1.1.1.1.1.0 c.requires.1.1.1.1.1.1.1.0 c.objects-objects.ensures c.args.files.now
+    c.args.inputs.now.homes c.in_ok-found.found c.program-program.result c.view-entries.result c.requires.1.1.1.1.0 c.requires.1.1.1.1.1.1.0 c.requires.1.1.1.1.1.1.1.1 c.parts_stand.ensures c.in_ok-found.ensures.1
     c.program-program.ensures.is c.view-entries.ensures.fits c.view-entries.ensures.objects c.program-program.ensures.objects c.view-entries.ensures.names c.program-program.ensures.names in
     let program = is.program in
     let stand = is.stand in
@@ -36,14 +36,14 @@ choose-requires g c κs within =
 pub returns-in_err-chosen-clause-exact : goal.returns-in_err-chosen-clause-exact
 returns-in_err-chosen-clause-exact g c =
     let p = err_from_is_err_and c.from_residual-in_err-chosen.result c.from_residual-in_err-chosen.ensures.1 in
-    let found = all_found g.l c.args.plan.now c.args.inputs.now.loaded c.objects-objects.result.now c.requires.same c.requires.objects c.objects-objects.ensures c.in_ok-found.ensures.0 in
+    let found = all_found g.l c.args.plan.now c.args.inputs.now.loaded c.objects-objects.result.now c.requires.1.1.1.1.1.0 c.requires.1.1.1.1.1.1.1.0 c.objects-objects.ensures c.in_ok-found.ensures.0 in
     rw (p.1) (choose_failed (program_in g.l) c.in_err-chosen.field-0.0 p.0 p.2 found c.in_err-chosen.ensures)
 
 pub lay_out-prepared-requires : goal.lay_out-prepared-requires
 lay_out-prepared-requires g c =
     let is : IsLinking (program_in g.l) c.program-program.result c.view-entries.result c.args.files.now =
-    found_is_linked g.l c.args.plan.now c.args.inputs.now.loaded c.objects-objects.result.now c.requires.same c.requires.objects c.objects-objects.ensures c.args.files.now
-    c.args.inputs.now.homes c.in_ok-found.found c.program-program.result c.view-entries.result c.requires.plan c.requires.files c.requires.loaded c.parts_stand.ensures c.in_ok-found.ensures.1
+    found_is_linked g.l c.args.plan.now c.args.inputs.now.loaded c.objects-objects.result.now c.requires.1.1.1.1.1.0 c.requires.1.1.1.1.1.1.1.0 c.objects-objects.ensures c.args.files.now
+    c.args.inputs.now.homes c.in_ok-found.found c.program-program.result c.view-entries.result c.requires.1.1.1.1.0 c.requires.1.1.1.1.1.1.0 c.requires.1.1.1.1.1.1.1.1 c.parts_stand.ensures c.in_ok-found.ensures.1
     c.program-program.ensures.is c.view-entries.ensures.fits c.view-entries.ensures.objects c.program-program.ensures.objects c.view-entries.ensures.names c.program-program.ensures.names in
     let chosen : IsChosen (stage_of (program_in g.l)) c.program-program.result c.as_slice-exports.result.now c.as_slice-live.result.now =
     subst (λ es. IsChosen (stage_of (program_in g.l)) c.program-program.result es c.as_slice-live.result.now) (sym c.as_slice-exports.ensures)
@@ -52,5 +52,5 @@ lay_out-prepared-requires g c =
 
 pub returns-clause-exact : goal.returns-clause-exact
 returns-clause-exact g c =
-    let found = all_found g.l c.args.plan.now c.args.inputs.now.loaded c.objects-objects.result.now c.requires.same c.requires.objects c.objects-objects.ensures c.in_ok-found.ensures.0 in
+    let found = all_found g.l c.args.plan.now c.args.inputs.now.loaded c.objects-objects.result.now c.requires.1.1.1.1.1.0 c.requires.1.1.1.1.1.1.1.0 c.objects-objects.ensures c.in_ok-found.ensures.0 in
     goes_on_chosen (program_in g.l) (outputs c.args.files.now c.lay_out-prepared.result) found c.in_ok-chosen.ensures.0 c.lay_out-prepared.ensures.exact
