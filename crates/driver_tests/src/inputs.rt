@@ -5,30 +5,15 @@ ghost use Rattle.link_program.specs.link_plan.Plan.{IsPlan};
 use link_inputs::{Inputs, LinkError, load_inputs};
 use link_plan::{InputWord, Plan};
 use std::alloc::Global;
-use std::sync::atomic::{AtomicU64, Ordering};
 use std::test::Fail;
 use std::thread::Threads;
+use test_kit::{Meeting, defines_a, library, needs_a};
 use wl_base::{Fault, OutOfMemory, Seq};
 use wl_outside::{Gate, OpenGate, Phase};
-
-/// An object that refers to `a`.
-fn needs_a() -> &'static [u8] {
-    b"\0asm\x01\0\0\0\0\x10\x07linking\x02\x08\x05\x01\x01\x10\x01a".as_slice()
-}
-
-/// An object that defines `a` and refers to `b`.
-fn defines_a() -> &'static [u8] {
-    b"\0asm\x01\0\0\0\x01\x04\x01`\0\0\x03\x02\x01\0\n\x04\x01\x02\0\x0b\0\x15\x07linking\x02\x08\n\x02\0\0\0\x01a\x01\x10\x01b".as_slice()
-}
 
 /// No object: its version is 2.
 fn broken() -> &'static [u8] {
     b"\0asm\x02\0\0\0".as_slice()
-}
-
-/// A library of two members: the first defines `a` and refers to `b`, the second the other way round.
-fn library() -> &'static [u8] {
-    b"!<arch>\n/                                               16        `\n\0\0\0\x02\0\0\0T\0\0\0\xc0a\0b\0m/                                              47        `\n\0asm\x01\0\0\0\x01\x04\x01`\0\0\x03\x02\x01\0\n\x04\x01\x02\0\x0b\0\x15\x07linking\x02\x08\n\x02\0\0\0\x01a\x01\x10\x01b\nm/                                              47        `\n\0asm\x01\0\0\0\x01\x04\x01`\0\0\x03\x02\x01\0\n\x04\x01\x02\0\x0b\0\x15\x07linking\x02\x08\n\x02\0\0\0\x01b\x01\x10\x01a\n".as_slice()
 }
 
 /// A library whose one member, which its index gives for `a`, is no object.
@@ -202,70 +187,62 @@ fn told(answer: Result<Inputs, LinkError>) -> Outcome {
     }
 }
 
-#[test]
-fn the_least_fault_or_what_is_needed(rt: HostRuntime) {
-    let cases = [
-        (
-            plain(needs_a()),
-            plain(library()),
-            Outcome::Loaded([1, 2, 3], 3),
-        ),
-        (
-            plain(library()),
-            plain(needs_a()),
-            Outcome::Loaded([1, 2, 3], 3),
-        ),
-        (
-            plain(needs_a()),
-            lazy(defines_a()),
-            Outcome::Loaded([1, 2, 0], 2),
-        ),
-        (
-            lazy(defines_a()),
-            whole(library()),
-            Outcome::Loaded([2, 3, 0], 2),
-        ),
-        (
-            plain(broken()),
-            whole(broken_library()),
-            Outcome::Malformed(1),
-        ),
-        (
-            whole(broken_library()),
-            plain(broken()),
-            Outcome::Malformed(1),
-        ),
-        (
-            plain(broken_library()),
-            plain(broken()),
-            Outcome::Malformed(2),
-        ),
-        (
-            plain(needs_a()),
-            plain(broken_library()),
-            Outcome::Malformed(2),
-        ),
-        (
-            plain(defines_a()),
-            plain(broken_library()),
-            Outcome::Loaded([1, 0, 0], 1),
-        ),
-        (
-            plain(defines_a()),
-            whole(broken_library()),
-            Outcome::Malformed(2),
-        ),
-        (lazy(broken()), plain(needs_a()), Outcome::Malformed(1)),
-        (plain(broken()), plain(no_library()), Outcome::NoLibrary(1)),
-    ];
+/// Two words, and what is answered.
+type Case = (Word, Word, Outcome);
+
+/// Whether the call answers so in each case, whoever reads.
+fn are_answered<R: Threads + Sync>(rt: &R, alloc: Global, cases: &[Case]) -> bool {
     for (first, second, outcome) in cases {
         for threads in [1u32, 2, 64] {
-            assert_eq!(rt;
-                told(loaded(&rt, rt.alloc(), first, second, threads, &OpenGate)),
-                outcome
-            );
+            let answer = loaded(rt, alloc, *first, *second, threads, &OpenGate);
+            if told(answer) != *outcome {
+                return false;
+            }
         }
     }
+    true
+}
+
+fn needed_objects() -> [Case; 4] {
+    let all = Outcome::Loaded([1, 2, 3], 3);
+    let first_two = Outcome::Loaded([1, 2, 0], 2);
+    let last_two = Outcome::Loaded([2, 3, 0], 2);
+    [
+        (plain(needs_a()), plain(library()), all),
+        (plain(library()), plain(needs_a()), all),
+        (plain(needs_a()), lazy(defines_a()), first_two),
+        (lazy(defines_a()), whole(library()), last_two),
+    ]
+}
+
+/// A member that is no object counts where it is needed, or its library is whole.
+fn broken_members() -> [Case; 4] {
+    let first = Outcome::Loaded([1, 0, 0], 1);
+    let second = Outcome::Malformed(2);
+    [
+        (plain(broken_library()), plain(broken()), second),
+        (plain(needs_a()), plain(broken_library()), second),
+        (plain(defines_a()), plain(broken_library()), first),
+        (plain(defines_a()), whole(broken_library()), second),
+    ]
+}
+
+/// Of two faults the least input's is told, and one of a library before both.
+fn least_faults() -> [Case; 4] {
+    let first = Outcome::Malformed(1);
+    [
+        (plain(broken()), whole(broken_library()), first),
+        (whole(broken_library()), plain(broken()), first),
+        (lazy(broken()), plain(needs_a()), first),
+        (plain(broken()), plain(no_library()), Outcome::NoLibrary(1)),
+    ]
+}
+
+#[test]
+fn the_least_fault_or_what_is_needed(rt: HostRuntime) {
+    assert!(rt; are_answered(&rt, rt.alloc(), &needed_objects()));
+    assert!(rt; are_answered(&rt, rt.alloc(), &broken_members()));
+    assert!(rt; are_answered(&rt, rt.alloc(), &least_faults()));
 }
 
 /// Where the input stands, as its file, its first byte there, and how many bytes it has.
@@ -300,37 +277,10 @@ fn generated_objects_are_loaded_at_once(rt: HostRuntime) {
     assert_eq!(rt; told(answer), Outcome::Loaded([1, 3, 0], 2));
 }
 
-// Holds the first job that comes until a second one has come, for a number of turns.
-#[derive(Drop)]
-struct Meeting {
-    came: AtomicU64,
-    late: AtomicU64,
-}
-
-impl Gate for Meeting {
-    fn turn(&self, phase: Phase, _worker: u32, _job: u32) {
-        if phase != Phase::Read {
-            self.late.store(1, Ordering::SeqCst);
-        }
-        if self.came.fetch_add(1, Ordering::SeqCst) > 0 {
-            return;
-        }
-        for _ in 0..100_000_000u64 {
-            if self.came.load(Ordering::SeqCst) > 1 {
-                return;
-            }
-        }
-        self.late.store(1, Ordering::SeqCst);
-    }
-}
-
 #[test]
 fn two_objects_are_read_at_once(rt: HostRuntime) {
     for threads in [2u32, 64] {
-        let gate = Meeting {
-            came: AtomicU64::new(0),
-            late: AtomicU64::new(0),
-        };
+        let gate = Meeting::new(Phase::Read);
         let answer = loaded(
             &rt,
             rt.alloc(),
@@ -340,7 +290,7 @@ fn two_objects_are_read_at_once(rt: HostRuntime) {
             &gate,
         );
         assert_eq!(rt; told(answer), Outcome::Loaded([1, 2, 0], 2));
-        assert_eq!(rt; gate.came.load(Ordering::SeqCst), 2);
-        assert_eq!(rt; gate.late.load(Ordering::SeqCst), 0);
+        assert_eq!(rt; gate.passed(), 2);
+        assert!(rt; gate.was_met());
     }
 }

@@ -1,33 +1,20 @@
 //! The length of the output and the places in it.
 
-use image_emit::{Image, PlacedSource, Source};
+use image_emit::Image;
 use link_output::measured;
 use std::alloc::Global;
 use std::test::Fail;
+use test_images::{empty_image, own_block};
 use wasm_types::ConstExpr;
 use wl_base::{OutOfMemory, Seq};
 
 // Four bytes of data at address 1024.
 fn image_of(alloc: Global) -> Result<Image, OutOfMemory> {
-    let mut blocks = Seq::new(alloc);
-    blocks.push(PlacedSource {
-        address: 1024,
-        source: Source::Own(Seq::from_slice(alloc, b"\x01\x02\x03\x04".as_slice())?),
-    })?;
-    Ok(Image {
-        custom: None,
-        types: Seq::new(alloc),
-        imports: Seq::new(alloc),
-        functions: Seq::new(alloc),
-        tables: Seq::new(alloc),
-        memories: Seq::new(alloc),
-        globals: Seq::new(alloc),
-        exports: Seq::new(alloc),
-        elements: Seq::new(alloc),
-        bodies: Seq::new(alloc),
-        data_offset: ConstExpr::I32(1024),
-        blocks,
-    })
+    let mut image = empty_image(alloc);
+    image.data_offset = ConstExpr::I32(1024);
+    let bytes = b"\x01\x02\x03\x04".as_slice();
+    image.blocks.push(own_block(alloc, 1024, bytes)?)?;
+    Ok(image)
 }
 
 // The length, and the place of the one source.

@@ -1,33 +1,13 @@
-use image_emit::{Image, PlacedSource, Source, emit, lie_in, measure};
+use image_emit::{Image, PlacedSource, Source, lie_in, measure};
 use std::alloc::Global;
 use std::sync::atomic::{AtomicU64, Ordering};
 use std::thread::Threads;
+use test_images::{emitted, empty_image, file_part, own_block};
+use test_kit::{Meeting, calling_module, func_type, import, joined, name};
 use wasm_module::{Element, Export, ModuleGlobal};
-use wasm_types::{ConstExpr, FuncType, GlobalType, Import, ImportKind, Limits, TableType, ValType};
-use wl_base::{FileSpan, LayoutError, OutOfMemory, Seq, Span, What};
-use wl_fan::Workers;
+use wasm_types::{ConstExpr, GlobalType, ImportKind, Limits, TableType, ValType};
+use wl_base::{LayoutError, OutOfMemory, Seq, What};
 use wl_outside::{Gate, OpenGate, Phase};
-
-// Holds the first job that comes until a second one has come, for a number of turns.
-#[derive(Drop)]
-struct Meeting {
-    came: AtomicU64,
-    late: AtomicU64,
-}
-
-impl Gate for Meeting {
-    fn turn(&self, _phase: Phase, _worker: u32, _job: u32) {
-        if self.came.fetch_add(1, Ordering::SeqCst) > 0 {
-            return;
-        }
-        for _ in 0..100_000_000u64 {
-            if self.came.load(Ordering::SeqCst) > 1 {
-                return;
-            }
-        }
-        self.late.store(1, Ordering::SeqCst);
-    }
-}
 
 // Counts each job in eight bits of its own, and jobs of another phase in the highest ones.
 #[derive(Drop)]
@@ -43,27 +23,6 @@ impl Gate for Counts {
     }
 }
 
-// The bytes of an image, where its parts lie in the files.
-fn written<G: Gate, R: Threads + Sync>(
-    rt: &R,
-    alloc: Global,
-    image: &Image,
-    files: &[Seq<u8>],
-    workers: u32,
-    gate: &G,
-) -> Option<Seq<u8>> {
-    let workers = Workers::new(workers)?;
-    if !lie_in(files, image) {
-        return None;
-    }
-    let Ok(m) = measure(alloc, image) else {
-        return None;
-    };
-    let mut out = vec![in alloc; 0xAAu8; m.len as usize].ok()?;
-    emit(rt, image, &m, files, out.as_mut_slice(), workers, gate);
-    Some(Seq::from_vec(out))
-}
-
 // The images of these tests.
 #[derive(Clone, Copy)]
 enum Case {
@@ -75,7 +34,7 @@ enum Case {
 }
 
 fn image_of(alloc: Global, case: Case) -> Result<Image, OutOfMemory> {
-    let mut image = empty(alloc);
+    let mut image = empty_image(alloc);
     fill(alloc, &mut image, case)?;
     Ok(image)
 }
@@ -100,47 +59,42 @@ fn add_files(alloc: Global, files: &mut Seq<Seq<u8>>, case: Case) -> Result<(), 
     match case {
         Case::Empty => Ok(()),
         Case::Calls => {
-            files.push(bytes(alloc, b"\xFF\x00\x41\x07\x0B".as_slice())?)?;
-            files.push(bytes(
+            files.push(Seq::from_slice(alloc, b"\xFF\x00\x41\x07\x0B".as_slice())?)?;
+            files.push(Seq::from_slice(
                 alloc,
                 b"\xFF\xFF\xFF\x00\x10\x81\x80\x80\x80\x00\x0B\xFF".as_slice(),
             )?)
         }
         Case::Kinds => {
-            files.push(bytes(alloc, b"\xFF".as_slice())?)?;
-            files.push(bytes(
+            files.push(Seq::from_slice(alloc, b"\xFF".as_slice())?)?;
+            files.push(Seq::from_slice(
                 alloc,
                 b"\xFF\xFF\x00\x10\x80\x80\x80\x80\x00\x0B\xFF".as_slice(),
             )?)
         }
-        Case::Data | Case::Mixed => files.push(bytes(alloc, b"\xFF\x04\x00\x0B".as_slice())?),
+        Case::Data | Case::Mixed => files.push(Seq::from_slice(
+            alloc,
+            b"\xFF\x04\x00\x0B".as_slice(),
+        )?),
     }
 }
 
 // The bytes of a case's image.
-fn emitted<G: Gate, R: Threads + Sync>(
+fn written<G: Gate, R: Threads + Sync>(
     rt: &R,
     alloc: Global,
     case: Case,
     workers: u32,
     gate: &G,
-) -> Option<Seq<u8>> {
+) -> Option<Vec<u8>> {
     let image = image_of(alloc, case).ok()?;
     let files = files_of(alloc, case).ok()?;
-    written(rt, alloc, &image, files.as_slice(), workers, gate)
-}
-
-fn together(alloc: Global, parts: &[&[u8]]) -> Result<Seq<u8>, OutOfMemory> {
-    let mut all = Seq::new(alloc);
-    for part in parts {
-        all.extend_from_slice(part)?;
-    }
-    Ok(all)
+    emitted(rt, alloc, &image, files.as_slice(), workers, gate)
 }
 
 // Whether bytes are these parts, one behind another.
 fn are_together(alloc: Global, bytes: &[u8], parts: &[&[u8]]) -> bool {
-    match together(alloc, parts) {
+    match joined(alloc, parts) {
         Ok(all) => bytes == all.as_slice(),
         Err(_) => false,
     }
@@ -154,7 +108,7 @@ fn is_written_by<R: Threads + Sync>(
     case: Case,
     parts: &[&[u8]],
 ) -> bool {
-    match emitted(rt, alloc, case, workers, &OpenGate) {
+    match written(rt, alloc, case, workers, &OpenGate) {
         Some(out) => are_together(alloc, out.as_slice(), parts),
         None => false,
     }
@@ -170,49 +124,8 @@ fn is_written<R: Threads + Sync>(rt: &R, alloc: Global, case: Case, parts: &[&[u
     true
 }
 
-fn bytes(alloc: Global, items: &[u8]) -> Result<Seq<u8>, OutOfMemory> {
-    Seq::from_slice(alloc, items)
-}
-
-fn empty(alloc: Global) -> Image {
-    Image {
-        custom: None,
-        types: Seq::new(alloc),
-        imports: Seq::new(alloc),
-        functions: Seq::new(alloc),
-        tables: Seq::new(alloc),
-        memories: Seq::new(alloc),
-        globals: Seq::new(alloc),
-        exports: Seq::new(alloc),
-        elements: Seq::new(alloc),
-        bodies: Seq::new(alloc),
-        data_offset: ConstExpr::I32(0),
-        blocks: Seq::new(alloc),
-    }
-}
-
-fn func_type(
-    alloc: Global,
-    params: &[ValType],
-    results: &[ValType],
-) -> Result<FuncType, OutOfMemory> {
-    let params = Seq::from_slice(alloc, params)?;
-    let results = Seq::from_slice(alloc, results)?;
-    Ok(FuncType { params, results })
-}
-
-fn import(alloc: Global, field: &[u8], kind: ImportKind) -> Result<Import, OutOfMemory> {
-    let module = bytes(alloc, b"env".as_slice())?;
-    let field = bytes(alloc, field)?;
-    Ok(Import {
-        module,
-        field,
-        kind,
-    })
-}
-
-fn export(alloc: Global, name: &[u8], kind: u8, index: u32) -> Result<Export, OutOfMemory> {
-    let name = bytes(alloc, name)?;
+fn export(alloc: Global, text: &str, kind: u8, index: u32) -> Result<Export, OutOfMemory> {
+    let name = name(alloc, text)?;
     Ok(Export { name, kind, index })
 }
 
@@ -237,13 +150,6 @@ fn global(kind: ValType, var: bool, value: ConstExpr) -> ModuleGlobal {
     }
 }
 
-fn part(file: u32, start: u64, len: u64) -> Source {
-    Source::File(FileSpan {
-        file,
-        span: Span { start, len },
-    })
-}
-
 // f calls g, which gives 7.
 fn add_calls(alloc: Global, image: &mut Image) -> Result<(), OutOfMemory> {
     let only = Limits {
@@ -257,17 +163,15 @@ fn add_calls(alloc: Global, image: &mut Image) -> Result<(), OutOfMemory> {
         limits: only,
     })?;
     image.memories.push(Limits { min: 2, max: None })?;
-    image
-        .exports
-        .push(export(alloc, b"memory".as_slice(), 2, 0)?)?;
-    image.exports.push(export(alloc, b"f".as_slice(), 0, 0)?)?;
-    image.bodies.push(part(1, 3, 8))?;
-    image.bodies.push(part(0, 1, 4))
+    image.exports.push(export(alloc, "memory", 2, 0)?)?;
+    image.exports.push(export(alloc, "f", 0, 0)?)?;
+    image.bodies.push(file_part(1, 3, 8))?;
+    image.bodies.push(file_part(0, 1, 4))
 }
 
 // Every kind of section but data. Its memories are more than one, so the module is well formed but not valid (Core 3.4.10).
 fn add_kinds(alloc: Global, image: &mut Image) -> Result<(), OutOfMemory> {
-    image.custom = Some(bytes(alloc, b"\x01x\x07".as_slice())?);
+    image.custom = Some(Seq::from_slice(alloc, b"\x01x\x07".as_slice())?);
     add_types(alloc, image)?;
     add_imports(alloc, image)?;
     add_tables(image)?;
@@ -309,11 +213,11 @@ fn add_tables(image: &mut Image) -> Result<(), OutOfMemory> {
 }
 
 fn add_exports(alloc: Global, image: &mut Image) -> Result<(), OutOfMemory> {
-    image.exports.push(export(alloc, b"f".as_slice(), 0, 1)?)?;
-    image.exports.push(export(alloc, b"t".as_slice(), 1, 1)?)?;
-    image.exports.push(export(alloc, b"m".as_slice(), 2, 0)?)?;
-    image.exports.push(export(alloc, b"g".as_slice(), 3, 2)?)?;
-    image.exports.push(export(alloc, b"".as_slice(), 3, 3)?)
+    image.exports.push(export(alloc, "f", 0, 1)?)?;
+    image.exports.push(export(alloc, "t", 1, 1)?)?;
+    image.exports.push(export(alloc, "m", 2, 0)?)?;
+    image.exports.push(export(alloc, "g", 3, 2)?)?;
+    image.exports.push(export(alloc, "", 3, 3)?)
 }
 
 fn add_elements(alloc: Global, image: &mut Image) -> Result<(), OutOfMemory> {
@@ -325,8 +229,8 @@ fn add_elements(alloc: Global, image: &mut Image) -> Result<(), OutOfMemory> {
 
 fn add_bodies(alloc: Global, image: &mut Image) -> Result<(), OutOfMemory> {
     image.functions.extend_from_slice(&[1, 1])?;
-    image.bodies.push(part(1, 2, 8))?;
-    let own = bytes(alloc, b"\x01\x01\x7F\x0B".as_slice())?;
+    image.bodies.push(file_part(1, 2, 8))?;
+    let own = Seq::from_slice(alloc, b"\x01\x01\x7F\x0B".as_slice())?;
     image.bodies.push(Source::Own(own))
 }
 
@@ -346,12 +250,12 @@ fn add_imports(alloc: Global, image: &mut Image) -> Result<(), OutOfMemory> {
     });
     image
         .imports
-        .push(import(alloc, b"f".as_slice(), ImportKind::Function(1))?)?;
-    image.imports.push(import(alloc, b"t".as_slice(), table)?)?;
+        .push(import(alloc, "f", ImportKind::Function(1))?)?;
+    image.imports.push(import(alloc, "t", table)?)?;
     image
         .imports
-        .push(import(alloc, b"m".as_slice(), ImportKind::Memory(both))?)?;
-    image.imports.push(import(alloc, b"g".as_slice(), global)?)
+        .push(import(alloc, "m", ImportKind::Memory(both))?)?;
+    image.imports.push(import(alloc, "g", global)?)
 }
 
 fn add_globals(image: &mut Image) -> Result<(), OutOfMemory> {
@@ -370,20 +274,6 @@ fn add_globals(image: &mut Image) -> Result<(), OutOfMemory> {
     image
         .globals
         .push(global(ValType::I64, false, ConstExpr::I64(i64::MIN)))
-}
-
-// The 65 bytes, a section or entry a line.
-fn calls_bytes() -> [&'static [u8]; 8] {
-    [
-        b"\x00asm\x01\x00\x00\x00".as_slice(),
-        b"\x01\x05\x01\x60\x00\x01\x7F".as_slice(),
-        b"\x03\x03\x02\x00\x00".as_slice(),
-        b"\x04\x05\x01\x70\x01\x01\x01".as_slice(),
-        b"\x05\x03\x01\x00\x02".as_slice(),
-        b"\x07\x0E\x02\x06memory\x02\x00\x01f\x00\x00".as_slice(),
-        b"\x0A\x0F\x02\x08\x00\x10\x81\x80\x80\x80\x00\x0B".as_slice(),
-        b"\x04\x00\x41\x07\x0B".as_slice(),
-    ]
 }
 
 // The 188 bytes, a section or entry a line.
@@ -413,14 +303,12 @@ fn kinds_bytes() -> [&'static [u8]; 18] {
 // Three bytes at 16 and one at 20: the one byte between is 0.
 fn add_data(alloc: Global, image: &mut Image) -> Result<(), OutOfMemory> {
     image.data_offset = ConstExpr::I32(16);
-    let own = bytes(alloc, b"\x01\x02\x03".as_slice())?;
-    image.blocks.push(PlacedSource {
-        address: 16,
-        source: Source::Own(own),
-    })?;
+    image
+        .blocks
+        .push(own_block(alloc, 16, b"\x01\x02\x03".as_slice())?)?;
     image.blocks.push(PlacedSource {
         address: 20,
-        source: part(0, 1, 1),
+        source: file_part(0, 1, 1),
     })
 }
 
@@ -429,17 +317,17 @@ fn add_mixed(alloc: Global, image: &mut Image) -> Result<(), OutOfMemory> {
     add_data(alloc, image)?;
     image.types.push(func_type(alloc, &[], &[])?)?;
     image.functions.push(0)?;
-    image.bodies.push(part(0, 1, 3))?;
+    image.bodies.push(file_part(0, 1, 3))?;
     image.blocks.push(PlacedSource {
         address: 23,
-        source: part(0, 0, 0),
+        source: file_part(0, 0, 0),
     })
 }
 
 #[test]
 fn images_have_their_bytes(rt: HostRuntime) {
     let alloc = rt.alloc();
-    assert!(rt; is_written(&rt, alloc, Case::Calls, &calls_bytes()));
+    assert!(rt; is_written(&rt, alloc, Case::Calls, &[calling_module()]));
     assert!(rt; is_written(&rt, alloc, Case::Kinds, &kinds_bytes()));
 }
 
@@ -484,7 +372,7 @@ fn sources_have_their_places(rt: HostRuntime) {
 
 fn add_lengths(image: &mut Image, lens: &[u64]) -> Result<(), OutOfMemory> {
     for &len in lens {
-        image.bodies.push(part(0, 0, len))?;
+        image.bodies.push(file_part(0, 0, len))?;
     }
     Ok(())
 }
@@ -510,7 +398,7 @@ fn long_length(alloc: Global, image: &Image) -> Option<i64> {
 
 // The length that is told for bodies of these lengths, where it is too long.
 fn too_long(alloc: Global, lens: &[u64]) -> Result<Option<i64>, OutOfMemory> {
-    let mut image = empty(alloc);
+    let mut image = empty_image(alloc);
     add_lengths(&mut image, lens)?;
     Ok(long_length(alloc, &image))
 }
@@ -532,8 +420,8 @@ fn lies_in(
     start: u64,
     len: u64,
 ) -> Result<bool, OutOfMemory> {
-    let mut image = empty(alloc);
-    image.bodies.push(part(file, start, len))?;
+    let mut image = empty_image(alloc);
+    image.bodies.push(file_part(file, start, len))?;
     Ok(lie_in(files, &image))
 }
 
@@ -550,20 +438,17 @@ fn parts_outside_of_files_are_told(rt: HostRuntime) {
     }
 }
 
-// How many bytes workers write that wait for each other, and whether none came.
-fn met<R: Threads + Sync>(rt: &R, alloc: Global, workers: u32) -> Option<(usize, u64)> {
-    let gate = Meeting {
-        came: AtomicU64::new(0),
-        late: AtomicU64::new(0),
-    };
-    let out = emitted(rt, alloc, Case::Calls, workers, &gate)?;
-    Some((out.len(), gate.late.load(Ordering::SeqCst)))
+// How many bytes workers write that wait for each other, and whether they met.
+fn met<R: Threads + Sync>(rt: &R, alloc: Global, workers: u32) -> Option<(usize, bool)> {
+    let gate = Meeting::new(Phase::Fill);
+    let out = written(rt, alloc, Case::Calls, workers, &gate)?;
+    Some((out.len(), gate.was_met()))
 }
 
 #[test]
 fn two_workers_fill_at_once(rt: HostRuntime) {
     for workers in [2u32, 64] {
-        assert_eq!(rt; met(&rt, rt.alloc(), workers), Some((65, 0)));
+        assert_eq!(rt; met(&rt, rt.alloc(), workers), Some((65, true)));
     }
 }
 
@@ -572,7 +457,7 @@ fn counted<R: Threads + Sync>(rt: &R, alloc: Global, workers: u32) -> Option<(us
     let gate = Counts {
         jobs: AtomicU64::new(0),
     };
-    let out = emitted(rt, alloc, Case::Mixed, workers, &gate)?;
+    let out = written(rt, alloc, Case::Mixed, workers, &gate)?;
     Some((out.len(), gate.jobs.load(Ordering::SeqCst)))
 }
 

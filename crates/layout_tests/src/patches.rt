@@ -5,51 +5,12 @@ ghost use Rattle.reloc_apply.specs.Windows.{IsSum};
 use crate::apart::are_apart;
 use reloc_apply::{Form, Patch, Patches, Window, fill, values};
 use std::alloc::Global;
-use std::sync::atomic::{AtomicU64, Ordering};
 use std::test::Fail;
 use std::thread::Threads;
+use test_kit::{Meeting, Tally};
 use wl_base::{LayoutError, OutOfMemory, Seq, What};
 use wl_fan::Workers;
 use wl_outside::{Gate, OpenGate, Phase};
-
-// Holds the first job that comes until a second one has come, for a number of turns.
-#[derive(Drop)]
-struct Meeting {
-    came: AtomicU64,
-    late: AtomicU64,
-}
-
-impl Gate for Meeting {
-    fn turn(&self, _phase: Phase, _worker: u32, _job: u32) {
-        if self.came.fetch_add(1, Ordering::SeqCst) > 0 {
-            return;
-        }
-        for _ in 0..100_000_000u64 {
-            if self.came.load(Ordering::SeqCst) > 1 {
-                return;
-            }
-        }
-        self.late.store(1, Ordering::SeqCst);
-    }
-}
-
-// Adds up the jobs of this phase that came, and keeps the greatest number of a worker.
-#[derive(Drop)]
-struct Tally {
-    count: AtomicU64,
-    sum: AtomicU64,
-    worker: AtomicU64,
-}
-
-impl Gate for Tally {
-    fn turn(&self, phase: Phase, worker: u32, job: u32) {
-        if phase == Phase::Fill {
-            self.count.fetch_add(1, Ordering::SeqCst);
-            self.sum.fetch_add(u64::from(job), Ordering::SeqCst);
-            self.worker.fetch_max(u64::from(worker), Ordering::SeqCst);
-        }
-    }
-}
 
 fn is_sum(window: &Window) -> bool
     ensures { IsTrue result → IsSum window.now }
@@ -124,14 +85,6 @@ fn window(form: Form, target: i64, addend: i64) -> Window {
 
 fn patch(place: u64, form: Form, value: u32) -> Patch {
     Patch { place, form, value }
-}
-
-fn no_jobs() -> Tally {
-    Tally {
-        count: AtomicU64::new(0),
-        sum: AtomicU64::new(0),
-        worker: AtomicU64::new(0),
-    }
 }
 
 // The patches of windows that begin at each sixth byte.
@@ -248,7 +201,7 @@ fn many_windows_are_divided(rt: HostRuntime) -> Result<(), Fail> {
     let count = 200_000;
     let patches = many(rt.alloc(), count)?;
     for (workers, greatest) in [(1, 0), (2, 1), (64, 2)] {
-        let gate = no_jobs();
+        let gate = Tally::new(Phase::Fill);
         let out = filled(
             &rt,
             rt.alloc(),
@@ -258,9 +211,9 @@ fn many_windows_are_divided(rt: HostRuntime) -> Result<(), Fail> {
             &gate,
         )
         .ok_or("not apart")?;
-        assert_eq!(rt; gate.count.load(Ordering::SeqCst), u64::from(count));
-        assert_eq!(rt; gate.sum.load(Ordering::SeqCst), 19_999_900_000);
-        assert_eq!(rt; gate.worker.load(Ordering::SeqCst), greatest);
+        assert_eq!(rt; gate.jobs(), Some(u64::from(count)));
+        assert_eq!(rt; gate.sum(), 19_999_900_000);
+        assert_eq!(rt; gate.greatest_worker(), greatest);
         let out = out.as_slice();
         assert!(rt;
             out.starts_with(b"\x80\x80\x80\x80\x00\xff\x81\x80\x80\x80\x00\xff".as_slice())
@@ -274,16 +227,13 @@ fn many_windows_are_divided(rt: HostRuntime) -> Result<(), Fail> {
 fn two_workers_fill_at_once(rt: HostRuntime) -> Result<(), Fail> {
     let patches = [patch(1, Form::Unsigned5, 1), patch(8, Form::Word4, 258)];
     for workers in [2, 64] {
-        let gate = Meeting {
-            came: AtomicU64::new(0),
-            late: AtomicU64::new(0),
-        };
+        let gate = Meeting::new(Phase::Fill);
         let out = filled(&rt, rt.alloc(), &patches, 12, workers, &gate).ok_or("not apart")?;
         assert_eq!(rt;
             out.as_slice(),
             b"\xff\x81\x80\x80\x80\x00\xff\xff\x02\x01\x00\x00".as_slice()
         );
-        assert_eq!(rt; gate.late.load(Ordering::SeqCst), 0);
+        assert!(rt; gate.was_met());
     }
     Ok(())
 }

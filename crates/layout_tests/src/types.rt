@@ -2,9 +2,10 @@
 
 use std::alloc::Global;
 use std::test::Fail;
+use test_kit::func_type;
 use type_merge::TypeTable;
 use wasm_types::{FuncType, ValType};
-use wl_base::{OutOfMemory, Seq};
+use wl_base::OutOfMemory;
 
 const TYPES: [ValType; 2] = [ValType::I32, ValType::I64];
 
@@ -14,17 +15,6 @@ struct Added {
     params: usize,
     results: usize,
     number: u32,
-}
-
-fn func_type(
-    alloc: Global,
-    params: &[ValType],
-    results: &[ValType],
-) -> Result<FuncType, OutOfMemory> {
-    Ok(FuncType {
-        params: Seq::from_slice(alloc, params)?,
-        results: Seq::from_slice(alloc, results)?,
-    })
 }
 
 /// The number that the table gives: of the type whole, or of its two lists.

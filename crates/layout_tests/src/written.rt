@@ -1,12 +1,13 @@
 //! An image is written and its windows are filled, by several workers.
 use crate::apart::are_apart;
-use image_emit::{Image, PlacedSource, Source, emit, lie_in, measure};
+use image_emit::Image;
 use reloc_apply::{Form, Patch, Patches, fill};
 use std::alloc::Global;
 use std::test::Fail;
 use std::thread::Threads;
+use test_images::{emitted, empty_image, file_part, own_block};
 use wasm_types::ConstExpr;
-use wl_base::{FileSpan, OutOfMemory, Seq, Span};
+use wl_base::{OutOfMemory, Seq};
 use wl_fan::Workers;
 use wl_outside::OpenGate;
 
@@ -19,15 +20,8 @@ fn filled<R: Threads + Sync>(
     patches: &Patches,
     workers: u32,
 ) -> Option<Vec<u8>> {
+    let mut out = emitted(rt, alloc, image, files, workers, &OpenGate)?;
     let workers = Workers::new(workers)?;
-    if !lie_in(files, image) {
-        return None;
-    }
-    let Ok(m) = measure(alloc, image) else {
-        return None;
-    };
-    let mut out = vec![in alloc; 0u8; m.len as usize].ok()?;
-    emit(rt, image, &m, files, out.as_mut_slice(), workers, &OpenGate);
     if !are_apart(patches.patches.as_slice(), out.len()) {
         return None;
     }
@@ -36,36 +30,22 @@ fn filled<R: Threads + Sync>(
 }
 
 // A body of a file, and two blocks of data with a gap of two bytes between them.
-fn image_of(alloc: Global) -> Result<Image, OutOfMemory> {
-    let mut bodies = Seq::new(alloc);
-    bodies.push(Source::File(FileSpan {
-        file: 0,
-        span: Span { start: 1, len: 8 },
-    }))?;
-    let mut blocks = Seq::new(alloc);
+fn add_parts(alloc: Global, to: &mut Image) -> Result<(), OutOfMemory> {
+    to.bodies.push(file_part(0, 1, 8))?;
+    to.data_offset = ConstExpr::I32(1024);
     for (address, bytes) in [
         (1024u32, b"\0\0\0\0".as_slice()),
         (1030, b"\x01\x02\x03\0\0\0\0".as_slice()),
     ] {
-        blocks.push(PlacedSource {
-            address,
-            source: Source::Own(Seq::from_slice(alloc, bytes)?),
-        })?;
+        to.blocks.push(own_block(alloc, address, bytes)?)?;
     }
-    Ok(Image {
-        custom: None,
-        types: Seq::new(alloc),
-        imports: Seq::new(alloc),
-        functions: Seq::new(alloc),
-        tables: Seq::new(alloc),
-        memories: Seq::new(alloc),
-        globals: Seq::new(alloc),
-        exports: Seq::new(alloc),
-        elements: Seq::new(alloc),
-        bodies,
-        data_offset: ConstExpr::I32(1024),
-        blocks,
-    })
+    Ok(())
+}
+
+fn image_of(alloc: Global) -> Result<Image, OutOfMemory> {
+    let mut image = empty_image(alloc);
+    add_parts(alloc, &mut image)?;
+    Ok(image)
 }
 
 // The call in the body, the first block as a whole, and the end of the second.

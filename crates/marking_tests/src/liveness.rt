@@ -6,57 +6,12 @@ ghost use Rattle.marking_tests.specs.Graphs.{all_below, rows_below};
 use live_mark::{Edges, live};
 use mark_bits::MarkSet;
 use std::alloc::Global;
-use std::sync::atomic::{AtomicU64, Ordering};
 use std::test::Fail;
 use std::thread::Threads;
+use test_kit::{Meeting, Tally};
 use wl_base::{OutOfMemory, Seq};
 use wl_fan::Workers;
 use wl_outside::{Gate, Phase};
-
-// Holds the first job that comes until a second one has come, for a number of turns.
-#[derive(Drop)]
-struct Meeting {
-    came: AtomicU64,
-    late: AtomicU64,
-}
-
-impl Gate for Meeting {
-    fn turn(&self, _phase: Phase, _worker: u32, _job: u32) {
-        if self.came.fetch_add(1, Ordering::SeqCst) > 0 {
-            return;
-        }
-        for _ in 0..100_000_000u64 {
-            if self.came.load(Ordering::SeqCst) > 1 {
-                return;
-            }
-        }
-        self.late.store(1, Ordering::SeqCst);
-    }
-}
-
-// Keeps the greatest number of a worker that came.
-#[derive(Drop)]
-struct Greatest {
-    worker: AtomicU64,
-}
-
-impl Gate for Greatest {
-    fn turn(&self, _phase: Phase, worker: u32, _job: u32) {
-        self.worker.fetch_max(u64::from(worker), Ordering::SeqCst);
-    }
-}
-
-// Counts the places that workers come to.
-#[derive(Drop)]
-struct Counting {
-    turns: AtomicU64,
-}
-
-impl Gate for Counting {
-    fn turn(&self, _phase: Phase, _worker: u32, _job: u32) {
-        self.turns.fetch_add(1, Ordering::SeqCst);
-    }
-}
 
 fn in_range(count: usize, chunks: &[u32]) -> bool
     ensures { result ≡ all_below count chunks.now }
@@ -131,14 +86,12 @@ fn wide(alloc: Global) -> Result<Edges, OutOfMemory> {
 fn marks_what_the_roots_reach(rt: HostRuntime) -> Result<(), Fail> {
     let edges = diamond(rt.alloc())?;
     for workers in [1u32, 2, 64] {
-        let gate = Counting {
-            turns: AtomicU64::new(0),
-        };
+        let gate = Tally::new(Phase::Mark);
         let set = marked(&rt, rt.alloc(), &edges, &[0], workers, &gate).ok_or("marks")?;
         assert_eq!(rt; set.chunks, 5);
         assert_eq!(rt; set.words.as_slice(), [15].as_slice());
         // the root, then 0, then 1 and 2, then 3 alone, which both refer to and one of them marked first
-        assert_eq!(rt; gate.turns.load(Ordering::SeqCst), 5);
+        assert_eq!(rt; gate.jobs(), Some(5));
     }
     Ok(())
 }
@@ -147,13 +100,11 @@ fn marks_what_the_roots_reach(rt: HostRuntime) -> Result<(), Fail> {
 fn no_roots_reach_nothing(rt: HostRuntime) -> Result<(), Fail> {
     let edges = diamond(rt.alloc())?;
     for workers in [1u32, 2, 64] {
-        let gate = Counting {
-            turns: AtomicU64::new(0),
-        };
+        let gate = Tally::new(Phase::Mark);
         let set = marked(&rt, rt.alloc(), &edges, &[], workers, &gate).ok_or("marks")?;
         assert_eq!(rt; set.words.as_slice(), [0].as_slice());
         // the first round comes to nothing, and there is no other
-        assert_eq!(rt; gate.turns.load(Ordering::SeqCst), 0);
+        assert_eq!(rt; gate.jobs(), Some(0));
     }
     Ok(())
 }
@@ -162,11 +113,9 @@ fn no_roots_reach_nothing(rt: HostRuntime) -> Result<(), Fail> {
 fn a_wide_frontier_is_divided(rt: HostRuntime) -> Result<(), Fail> {
     let edges = wide(rt.alloc())?;
     for (workers, greatest) in [(1u32, 0u64), (2, 1), (64, 2)] {
-        let gate = Greatest {
-            worker: AtomicU64::new(0),
-        };
+        let gate = Tally::new(Phase::Mark);
         let set = marked(&rt, rt.alloc(), &edges, &[0], workers, &gate).ok_or("marks")?;
-        assert_eq!(rt; gate.worker.load(Ordering::SeqCst), greatest);
+        assert_eq!(rt; gate.greatest_worker(), greatest);
         assert_eq!(rt; set.chunks, 18003);
         assert!(rt; set.has(0) && set.has(9000) && set.has(18001) && !set.has(18002));
     }
@@ -177,13 +126,10 @@ fn a_wide_frontier_is_divided(rt: HostRuntime) -> Result<(), Fail> {
 fn two_workers_mark_at_once(rt: HostRuntime) -> Result<(), Fail> {
     let edges = diamond(rt.alloc())?;
     for workers in [2u32, 64] {
-        let gate = Meeting {
-            came: AtomicU64::new(0),
-            late: AtomicU64::new(0),
-        };
+        let gate = Meeting::new(Phase::Mark);
         let set = marked(&rt, rt.alloc(), &edges, &[0, 4], workers, &gate).ok_or("marks")?;
         assert_eq!(rt; set.words.as_slice(), [31].as_slice());
-        assert_eq!(rt; gate.late.load(Ordering::SeqCst), 0);
+        assert!(rt; gate.was_met());
     }
     Ok(())
 }

@@ -3,11 +3,9 @@
 #![tactic(auto)]
 
 #[cfg(test)]
-mod counted;
+mod grid_jobs;
 #[cfg(test)]
 mod least;
-#[cfg(test)]
-mod meeting;
 #[cfg(test)]
 mod races;
 #[cfg(test)]

@@ -1,7 +1,0 @@
-use Rattle.std.proofs.Common.{◌+◌, ap, ◌∙◌, Some}
-use Rattle.least_race.specs.Race.{offer}
-use Rattle.race_tests.proofs.Grids.{offer_at}
-use Rattle.race_tests.proofs.counted.RefCountedJobs.offer.Goals as goal
-
-pub returns : goal.returns
-returns c = ap (λ n. Some (offer 0 (n + 4))) c.from.ensures ∙ offer_at c.args.self.now.now.jobs c.args.self.now.now.items c.args.job c.args.item c.requires.0 c.requires.1
