@@ -2,7 +2,8 @@
 
 use std::alloc::Global;
 use std::test::Fail;
-use wl_base::{OutOfMemory, Seq, Text};
+use test_kit::{file, roomy_shelf, shelf_of};
+use wl_base::{OutOfMemory, Seq};
 use wl_outside::{
     Failed, Gate, Held, LoadFault, MemShelf, MemSink, NeverFails, OpenGate, Phase, Shelf, Sink,
     names_differ,
@@ -22,17 +23,6 @@ fn write<E: Sink>(sink: &mut E, bytes: &[u8]) -> Result<(), Failed> {
 
 fn turn<G: Gate>(gate: &G, phase: Phase) {
     gate.turn(phase, 1, 2);
-}
-
-fn seq(alloc: Global, bytes: &[u8]) -> Result<Seq<u8>, OutOfMemory> {
-    Seq::from_slice(alloc, bytes)
-}
-
-fn file(alloc: Global, name: &str, bytes: &[u8]) -> Result<Held, OutOfMemory> {
-    Ok(Held {
-        name: Text::new(alloc, name)?,
-        bytes: seq(alloc, bytes)?,
-    })
 }
 
 fn two_files(alloc: Global) -> Result<Seq<Held>, OutOfMemory> {
@@ -79,11 +69,7 @@ fn names_are_compared(rt: HostRuntime) -> Result<(), Fail> {
 /// The two files on a shelf of which the listed calls fail.
 fn failing_shelf(alloc: Global, failing: &[u32]) -> Option<MemShelf> {
     let files = two_files(alloc).ok()?;
-    let failing = Seq::from_slice(alloc, failing).ok()?;
-    if !names_differ(files.as_slice()) {
-        return None;
-    }
-    Some(MemShelf::new(alloc, files, failing))
+    shelf_of(alloc, files, failing).ok()
 }
 
 fn begins_with_two_files(alloc: Global, shelf: &mut MemShelf) -> bool {
@@ -141,13 +127,9 @@ fn the_listed_calls_of_a_shelf_fail(rt: HostRuntime) {
 }
 
 /// The two files on a shelf that has room for an output.
-fn roomy_shelf(alloc: Global, output: &str, room: u32) -> Option<NeverFails> {
+fn two_with_room(alloc: Global, output: &str, room: u32) -> Option<NeverFails> {
     let files = two_files(alloc).ok()?;
-    let output = Text::new(alloc, output).ok()?;
-    if !names_differ(files.as_slice()) {
-        return None;
-    }
-    NeverFails::new(alloc, files, output, room).ok()
+    roomy_shelf(alloc, files, output, room).ok()
 }
 
 fn begins_without_output(alloc: Global, shelf: &mut NeverFails) -> bool {
@@ -171,7 +153,7 @@ fn has_room_for_three(alloc: Global, shelf: &mut NeverFails) -> bool {
 #[test]
 fn a_shelf_with_room_fails_beyond_it_alone(rt: HostRuntime) -> Result<(), Fail> {
     let alloc = rt.alloc();
-    let mut shelf = roomy_shelf(alloc, "out", 3).ok_or("no shelf")?;
+    let mut shelf = two_with_room(alloc, "out", 3).ok_or("no shelf")?;
     assert!(rt; begins_without_output(alloc, &mut shelf));
     assert!(rt; has_room_for_three(alloc, &mut shelf));
     Ok(())
@@ -186,7 +168,7 @@ fn stands_under_an_input(alloc: Global, shelf: &mut NeverFails) -> bool {
 #[test]
 fn an_output_may_stand_under_an_input(rt: HostRuntime) -> Result<(), Fail> {
     let alloc = rt.alloc();
-    let mut shelf = roomy_shelf(alloc, "a.o", 1).ok_or("no shelf")?;
+    let mut shelf = two_with_room(alloc, "a.o", 1).ok_or("no shelf")?;
     assert!(rt; stands_under_an_input(alloc, &mut shelf));
     Ok(())
 }

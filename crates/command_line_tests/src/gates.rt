@@ -1,10 +1,10 @@
 //! The whole command with gates that hold a worker: whoever is late, the bytes are the same.
 
-use crate::runs::{file, is_held, run, shelf_of};
+use crate::runs::{is_held, run};
 use std::alloc::Global;
-use std::sync::atomic::{AtomicU64, Ordering};
 use std::test::Fail;
 use std::thread::Threads;
+use test_kit::{Hold, file, shelf_of};
 use wl_base::{OutOfMemory, Seq};
 use wl_outside::{Gate, Held, MemSink, OpenGate, Phase};
 
@@ -46,37 +46,6 @@ fn objects(alloc: Global) -> Result<Seq<Held>, OutOfMemory> {
     Ok(files)
 }
 
-// Once some jobs of the phase have come, holds one job until so many have, for a number of turns.
-#[derive(Drop)]
-struct Holding {
-    phase: Phase,
-    after: u64,
-    job: u32,
-    until: u64,
-    came: AtomicU64,
-    // 1 where the job was held and let go, and 2 where the turns were spent.
-    end: AtomicU64,
-}
-
-impl Gate for Holding {
-    fn turn(&self, phase: Phase, _worker: u32, job: u32) {
-        if phase != self.phase {
-            return;
-        }
-        let before = self.came.fetch_add(1, Ordering::SeqCst);
-        if before < self.after || job != self.job {
-            return;
-        }
-        for _ in 0..100_000_000u64 {
-            if self.came.load(Ordering::SeqCst) >= self.until {
-                self.end.fetch_max(1, Ordering::SeqCst);
-                return;
-            }
-        }
-        self.end.fetch_max(2, Ordering::SeqCst);
-    }
-}
-
 // Whether the objects give the module.
 fn gives<R: Threads + Sync, G: Gate>(
     rt: &R,
@@ -110,15 +79,8 @@ fn holds<R: Threads + Sync>(
     case: (Phase, u64, u32, u64),
 ) -> Result<bool, OutOfMemory> {
     let (phase, after, job, until) = case;
-    let gate = Holding {
-        phase,
-        after,
-        job,
-        until,
-        came: AtomicU64::new(0),
-        end: AtomicU64::new(0),
-    };
-    Ok(gives(rt, alloc, threads, &gate)? && gate.end.load(Ordering::SeqCst) == 1)
+    let gate = Hold::new(phase, after, job, until);
+    Ok(gives(rt, alloc, threads, &gate)? && gate.let_go())
 }
 
 #[test]

@@ -4,26 +4,9 @@ use link_command::{Status, link_command};
 use std::alloc::Global;
 use std::test::Fail;
 use std::thread::Threads;
-use wl_base::{Fault, OutOfMemory, Part, Seq, Text};
-use wl_outside::{Gate, Held, MemShelf, MemSink, NeverFails, OpenGate, Shelf, Sink, names_differ};
-
-// f calls g, which gives 7.
-const OBJECT: [u8; 79] = [
-    0x00, 0x61, 0x73, 0x6D, 0x01, 0x00, 0x00, 0x00, 0x01, 0x05, 0x01, 0x60, 0x00, 0x01, 0x7F, 0x03,
-    0x03, 0x02, 0x00, 0x00, 0x0A, 0x0F, 0x02, 0x08, 0x00, 0x10, 0x81, 0x80, 0x80, 0x80, 0x00, 0x0B,
-    0x04, 0x00, 0x41, 0x07, 0x0B, 0x00, 0x16, 0x07, 0x6C, 0x69, 0x6E, 0x6B, 0x69, 0x6E, 0x67, 0x02,
-    0x08, 0x0B, 0x02, 0x00, 0x00, 0x00, 0x01, 0x66, 0x00, 0x00, 0x01, 0x01, 0x67, 0x00, 0x10, 0x0A,
-    0x72, 0x65, 0x6C, 0x6F, 0x63, 0x2E, 0x43, 0x4F, 0x44, 0x45, 0x02, 0x01, 0x00, 0x04, 0x01,
-];
-
-// The module that it gives.
-const MODULE: [u8; 65] = [
-    0x00, 0x61, 0x73, 0x6D, 0x01, 0x00, 0x00, 0x00, 0x01, 0x05, 0x01, 0x60, 0x00, 0x01, 0x7F, 0x03,
-    0x03, 0x02, 0x00, 0x00, 0x04, 0x05, 0x01, 0x70, 0x01, 0x01, 0x01, 0x05, 0x03, 0x01, 0x00, 0x02,
-    0x07, 0x0E, 0x02, 0x06, 0x6D, 0x65, 0x6D, 0x6F, 0x72, 0x79, 0x02, 0x00, 0x01, 0x66, 0x00, 0x00,
-    0x0A, 0x0F, 0x02, 0x08, 0x00, 0x10, 0x81, 0x80, 0x80, 0x80, 0x00, 0x0B, 0x04, 0x00, 0x41, 0x07,
-    0x0B,
-];
+use test_kit::{calling_module, calling_object, file, part_of_cut, roomy_shelf, shelf_of, texts};
+use wl_base::{Fault, OutOfMemory, Part, Seq};
+use wl_outside::{Gate, Held, MemShelf, MemSink, NeverFails, OpenGate, Shelf, Sink};
 
 // An object without symbols.
 const EMPTY: [u8; 22] = [
@@ -33,42 +16,11 @@ const EMPTY: [u8; 22] = [
 
 const WORDS: [&str; 5] = ["a.o", "-o", "out", "--no-entry", "--export=f"];
 
-fn texts(alloc: Global, words: &[&str]) -> Result<Seq<Text>, OutOfMemory> {
-    let mut texts = Seq::new(alloc);
-    for word in words {
-        texts.push(Text::new(alloc, *word)?)?;
-    }
-    Ok(texts)
-}
-
-pub(crate) fn file(alloc: Global, name: &str, bytes: &[u8]) -> Result<Held, OutOfMemory> {
-    let name = Text::new(alloc, name)?;
-    let bytes = Seq::from_slice(alloc, bytes)?;
-    Ok(Held { name, bytes })
-}
-
-// A shelf in memory, of files whose names differ.
-pub(crate) fn shelf_of(
-    alloc: Global,
-    files: Seq<Held>,
-    failing: &[u32],
-) -> Result<MemShelf, OutOfMemory> {
-    if !names_differ(files.as_slice()) {
-        return Err(OutOfMemory);
-    }
-    let failing = Seq::from_slice(alloc, failing)?;
-    Ok(MemShelf::new(alloc, files, failing))
-}
-
 // A shelf that never fails, of one input.
 fn one_input(alloc: Global, bytes: &[u8], room: u32) -> Result<NeverFails, OutOfMemory> {
-    let output = Text::new(alloc, "out")?;
     let mut files = Seq::new(alloc);
     files.push(file(alloc, "a.o", bytes)?)?;
-    if !names_differ(files.as_slice()) {
-        return Err(OutOfMemory);
-    }
-    NeverFails::new(alloc, files, output, room)
+    roomy_shelf(alloc, files, "out", room)
 }
 
 // How a run of a few words ends.
@@ -96,13 +48,13 @@ pub(crate) fn is_held(found: Option<&[u8]>, bytes: &[u8]) -> bool {
 
 // Whether the object gives its module, the input stays, and nothing is printed.
 fn gives_its_module<R: Threads + Sync>(rt: &R, alloc: Global) -> Result<bool, OutOfMemory> {
-    let mut shelf = one_input(alloc, &OBJECT, 65)?;
+    let mut shelf = one_input(alloc, calling_object(), 65)?;
     let mut say = MemSink::new(alloc, Seq::new(alloc));
     let status = run(rt, alloc, &WORDS, &mut shelf, &mut say, &OpenGate)?;
     Ok(
         status == Status::Linked
-            && is_held(shelf.held("out"), &MODULE)
-            && is_held(shelf.held("a.o"), &OBJECT)
+            && is_held(shelf.held("out"), calling_module())
+            && is_held(shelf.held("a.o"), calling_object())
             && say.bytes().is_empty(),
     )
 }
@@ -116,7 +68,7 @@ fn an_object_gives_its_module(rt: HostRuntime) -> Result<(), Fail> {
 
 fn three_inputs(alloc: Global) -> Result<Seq<Held>, OutOfMemory> {
     let mut files = Seq::new(alloc);
-    files.push(file(alloc, "a.o", &OBJECT)?)?;
+    files.push(file(alloc, "a.o", calling_object())?)?;
     files.push(file(alloc, "b.o", &EMPTY)?)?;
     files.push(file(alloc, "c.o", &EMPTY)?)?;
     Ok(files)
@@ -150,7 +102,7 @@ fn fails_once<R: Threads + Sync>(rt: &R, alloc: Global, failing: u32) -> Result<
     let fails = run_of_three(rt, alloc, &mut shelf)? == answer_where(failing);
     let saves = shelf.held("out").is_some();
     let links = run_of_three(rt, alloc, &mut shelf)? == Status::Linked;
-    Ok(fails && !saves && links && is_held(shelf.held("out"), &MODULE))
+    Ok(fails && !saves && links && is_held(shelf.held("out"), calling_module()))
 }
 
 #[test]
@@ -170,7 +122,7 @@ fn prints<R: Threads + Sync>(
     code: u8,
     line: &[u8],
 ) -> Result<bool, OutOfMemory> {
-    let mut shelf = one_input(alloc, &OBJECT, 200)?;
+    let mut shelf = one_input(alloc, calling_object(), 200)?;
     let mut say = MemSink::new(alloc, Seq::new(alloc));
     let status = run(rt, alloc, words, &mut shelf, &mut say, &OpenGate)?;
     Ok(status.code() == code && say.bytes() == line)
@@ -250,16 +202,6 @@ fn nothing_is_loaded_after_a_failed_load(rt: HostRuntime) -> Result<(), Fail> {
     Ok(())
 }
 
-// The part of the object that is broken where it is cut after this many bytes.
-fn part_of_cut(len: usize) -> Part {
-    match len {
-        // Between the sections before the linking section, and before the relocations.
-        8 | 15 | 20 | 37 => Part::Cross(1),
-        61 => Part::Cross(12),
-        _ => Part::Frame,
-    }
-}
-
 // Whether a run over these bytes is refused since that part of them is broken.
 fn is_malformed<R: Threads + Sync>(
     rt: &R,
@@ -276,9 +218,10 @@ fn is_malformed<R: Threads + Sync>(
 #[test]
 fn what_is_cut_is_malformed(rt: HostRuntime) -> Result<(), Fail> {
     let alloc = rt.alloc();
-    for len in 0..OBJECT.len() {
+    let object = calling_object();
+    for len in 0..object.len() {
         assert!(rt;
-            is_malformed(&rt, alloc, &OBJECT[..len], part_of_cut(len))?,
+            is_malformed(&rt, alloc, &object[..len], part_of_cut(len))?,
             "cut at {len}"
         );
     }

@@ -3,52 +3,31 @@
 use driver_words::{ExpandError, FilesError, Finder, Item, expand, files, find_library, tokens};
 use std::alloc::Global;
 use std::test::Fail;
+use test_kit::{file, roomy_shelf, shelf_of, texts};
 use wl_base::{OutOfMemory, Seq, Text};
-use wl_outside::{Held, MemShelf, NeverFails, names_differ};
-
-fn file(alloc: Global, name: &str, text: &str) -> Result<Held, OutOfMemory> {
-    Ok(Held {
-        name: Text::new(alloc, name)?,
-        bytes: Seq::from_slice(alloc, text.as_bytes())?,
-    })
-}
+use wl_outside::{Held, MemShelf, NeverFails};
 
 /// Files of two folders, and a response file.
 fn all_files(alloc: Global) -> Result<Seq<Held>, OutOfMemory> {
     let mut all = Seq::new(alloc);
     for name in ["a/libx.a", "b/libx.a", "b/liby.a", "a/libx.so", "a/z.o"] {
-        all.push(file(alloc, name, "")?)?;
+        all.push(file(alloc, name, &[])?)?;
     }
-    all.push(file(alloc, "r", "m.o \"x y.o\"\n'q'r\\ s.o\n@s")?)?;
+    let words = b"m.o \"x y.o\"\n'q'r\\ s.o\n@s".as_slice();
+    all.push(file(alloc, "r", words)?)?;
     Ok(all)
 }
 
 /// The files, of which the listed calls fail.
 fn shelf(alloc: Global, failing: &[u32]) -> Option<MemShelf> {
     let all = all_files(alloc).ok()?;
-    let failing = Seq::from_slice(alloc, failing).ok()?;
-    if !names_differ(all.as_slice()) {
-        return None;
-    }
-    Some(MemShelf::new(alloc, all, failing))
+    shelf_of(alloc, all, failing).ok()
 }
 
 /// The files, with no room for an output.
 fn shelf_for_good(alloc: Global) -> Option<NeverFails> {
     let all = all_files(alloc).ok()?;
-    let output = Text::new(alloc, "out").ok()?;
-    if !names_differ(all.as_slice()) {
-        return None;
-    }
-    NeverFails::new(alloc, all, output, 0).ok()
-}
-
-fn texts(alloc: Global, names: &[&str]) -> Result<Seq<Text>, OutOfMemory> {
-    let mut all = Seq::new(alloc);
-    for name in names {
-        all.push(Text::new(alloc, name)?)?;
-    }
-    Ok(all)
+    roomy_shelf(alloc, all, "out", 0).ok()
 }
 
 /// Whether the words are these.

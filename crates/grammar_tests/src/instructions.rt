@@ -1,6 +1,7 @@
 //! Instructions and bodies, read, skimmed and written.
 
 use std::alloc::Global;
+use test_kit::joined;
 use wasm_grammar::{ReadFault, Stop};
 use wasm_instr::{
     BlockKind, Body, BodyFault, Instr, LocalRun, Outline, Placed, body_at, instr_at, outline_step,
@@ -173,16 +174,10 @@ fn is_read(alloc: Global, instr: &Instr, bytes: &[u8], last: &[u8]) -> bool {
     }
 }
 
-fn joined(alloc: Global, head: &[u8], last: &[u8]) -> Result<Seq<u8>, OutOfMemory> {
-    let mut bytes = Seq::from_slice(alloc, head)?;
-    bytes.extend_from_slice(last)?;
-    Ok(bytes)
-}
-
 /// Whether the instruction is written as these bytes, and read and skimmed from them, with its last
 /// immediate where the second ones begin.
 fn is_spelled(alloc: Global, instr: Instr, outline: Outline, head: &[u8], last: &[u8]) -> bool {
-    let bytes = match joined(alloc, head, last) {
+    let bytes = match joined(alloc, &[head, last]) {
         Ok(bytes) => bytes,
         Err(_) => return false,
     };

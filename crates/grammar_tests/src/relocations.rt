@@ -3,6 +3,7 @@
 use reloc_section::kinds::{has_addend, is_read};
 use reloc_section::{Reloc, RelocFault, RelocSection, kinds, read, reloc_at, relocs_at};
 use std::alloc::Global;
+use test_kit::reloc;
 use wasm_grammar::{Form, ReadFault, Stop, vector_at};
 use wl_base::{Item, Seq};
 
@@ -30,25 +31,16 @@ fn types_are_known_by_their_numbers(rt: HostRuntime) {
     assert!(rt; are_known(&others, false, false));
 }
 
-fn entry(kind: u8, offset: u32, index: u32, addend: i32) -> Reloc {
-    Reloc {
-        kind,
-        offset,
-        index,
-        addend,
-    }
-}
-
 fn entries_have_ends() -> bool {
-    reloc_at(10, &[0, 4, 1]) == Ok((entry(0, 4, 1, 0), NOTHING))
-        && reloc_at(10, &[0, 4, 1, 9]) == Ok((entry(0, 4, 1, 0), NINE))
-        && reloc_at(10, &[3, 0x80, 0x01, 5, 0x7c]) == Ok((entry(3, 128, 5, -4), NOTHING))
-        && reloc_at(10, &[4, 1, 2, 3]) == Ok((entry(4, 1, 2, 3), NOTHING))
-        && reloc_at(10, &[5, 1, 2, 0x3f, 9]) == Ok((entry(5, 1, 2, 63), NINE))
-        && reloc_at(10, &[8, 1, 2, 0xc0, 0x00]) == Ok((entry(8, 1, 2, 64), NOTHING))
-        && reloc_at(10, &[9, 1, 2, 0]) == Ok((entry(9, 1, 2, 0), NOTHING))
-        && reloc_at(10, &[11, 1, 2, 0x7f]) == Ok((entry(11, 1, 2, -1), NOTHING))
-        && reloc_at(10, &[20, 0, 0]) == Ok((entry(20, 0, 0, 0), NOTHING))
+    reloc_at(10, &[0, 4, 1]) == Ok((reloc(0, 4, 1, 0), NOTHING))
+        && reloc_at(10, &[0, 4, 1, 9]) == Ok((reloc(0, 4, 1, 0), NINE))
+        && reloc_at(10, &[3, 0x80, 0x01, 5, 0x7c]) == Ok((reloc(3, 128, 5, -4), NOTHING))
+        && reloc_at(10, &[4, 1, 2, 3]) == Ok((reloc(4, 1, 2, 3), NOTHING))
+        && reloc_at(10, &[5, 1, 2, 0x3f, 9]) == Ok((reloc(5, 1, 2, 63), NINE))
+        && reloc_at(10, &[8, 1, 2, 0xc0, 0x00]) == Ok((reloc(8, 1, 2, 64), NOTHING))
+        && reloc_at(10, &[9, 1, 2, 0]) == Ok((reloc(9, 1, 2, 0), NOTHING))
+        && reloc_at(10, &[11, 1, 2, 0x7f]) == Ok((reloc(11, 1, 2, -1), NOTHING))
+        && reloc_at(10, &[20, 0, 0]) == Ok((reloc(20, 0, 0, 0), NOTHING))
 }
 
 fn entries_are_refused() -> bool {

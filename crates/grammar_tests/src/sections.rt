@@ -1,15 +1,9 @@
 //! How a file is cut into sections, and the first that is at fault.
 
 use std::alloc::Global;
+use test_kit::module_of;
 use wasm_sections::{FrameFault, SectionSpan, frame};
 use wl_base::{OutOfMemory, Seq, Span};
-
-/// The header, and these bytes behind it.
-fn module(alloc: Global, after: &[u8]) -> Result<Seq<u8>, OutOfMemory> {
-    let mut bytes = Seq::from_slice(alloc, b"\0asm\x01\0\0\0".as_slice())?;
-    bytes.extend_from_slice(after)?;
-    Ok(bytes)
-}
 
 /// Whether these bytes are cut into these sections.
 fn is_cut(alloc: Global, bytes: &[u8], want: &[SectionSpan]) -> bool {
@@ -21,7 +15,7 @@ fn is_cut(alloc: Global, bytes: &[u8], want: &[SectionSpan]) -> bool {
 
 /// Whether these bytes behind the header are.
 fn are_sections(alloc: Global, after: &[u8], want: &[SectionSpan]) -> bool {
-    match module(alloc, after) {
+    match module_of(alloc, after) {
         Ok(bytes) => is_cut(alloc, bytes.as_slice(), want),
         Err(_) => false,
     }
@@ -44,7 +38,7 @@ fn add_all(bytes: &mut Seq<u8>, sections: &mut Seq<SectionSpan>) -> Result<(), O
 }
 
 fn all_are_cut(alloc: Global) -> Result<bool, OutOfMemory> {
-    let mut bytes = module(alloc, &[])?;
+    let mut bytes = module_of(alloc, &[])?;
     let mut want = Seq::new(alloc);
     add_all(&mut bytes, &mut want)?;
     Ok(is_cut(alloc, bytes.as_slice(), want.as_slice()))
@@ -73,7 +67,7 @@ fn fault_of(alloc: Global, bytes: &[u8]) -> Option<FrameFault> {
 
 /// Whether the header and these bytes behind it have this fault.
 fn is_fault(alloc: Global, after: &[u8], want: Option<FrameFault>) -> bool {
-    match module(alloc, after) {
+    match module_of(alloc, after) {
         Ok(bytes) => fault_of(alloc, bytes.as_slice()) == want,
         Err(_) => false,
     }

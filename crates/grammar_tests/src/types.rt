@@ -1,6 +1,7 @@
 //! Types, imports and constant expressions, read and written.
 
 use std::alloc::Global;
+use test_kit::func_type;
 use wasm_grammar::{ReadFault, Spell, Stop, put_vector, vector_at};
 use wasm_types::{
     ConstExpr, FormFault, FuncType, GlobalType, Import, ImportKind, Limits, PlainFault, TableType,
@@ -78,20 +79,14 @@ fn is_put(alloc: Global, to: &mut Seq<u8>, t: &FuncType) -> bool {
         && is_type_at(func_type_at(alloc, 7, &bytes), t)
 }
 
-fn function_type(alloc: Global) -> Result<FuncType, OutOfMemory> {
-    let params = Seq::from_slice(alloc, &[ValType::I32, ValType::I64])?;
-    let results = Seq::from_slice(alloc, &[ValType::F32])?;
-    Ok(FuncType { params, results })
-}
-
 fn a_type_is_spelled(alloc: Global) -> Result<bool, OutOfMemory> {
-    let t = function_type(alloc)?;
+    let t = func_type(alloc, &[ValType::I32, ValType::I64], &[ValType::F32])?;
     let mut to = Seq::new(alloc);
     Ok(is_spelled(alloc, &mut to, &t))
 }
 
 fn a_type_is_put(alloc: Global) -> Result<bool, OutOfMemory> {
-    let t = function_type(alloc)?;
+    let t = func_type(alloc, &[ValType::I32, ValType::I64], &[ValType::F32])?;
     let mut to = Seq::new(alloc);
     Ok(is_put(alloc, &mut to, &t))
 }

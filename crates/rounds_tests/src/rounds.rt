@@ -10,6 +10,7 @@ use object_file::read_object;
 use std::alloc::Global;
 use std::test::*;
 use std::thread::Threads;
+use test_kit::{defines_a, library, needs_a};
 use wl_base::{Fault, Seq};
 use wl_fan::Workers;
 
@@ -44,12 +45,7 @@ fn nothing_is_loaded(rt: HostRuntime) {
     assert_eq!(rt; count_of_nothing(&rt, rt.alloc()), Some(0));
 }
 
-/// An object that refers to `a`.
-fn needs_a() -> &'static [u8] {
-    b"\0asm\x01\0\0\0\0\x10\x07linking\x02\x08\x05\x01\x01\x10\x01a".as_slice()
-}
-
-/// The same, by a WEAK reference.
+/// An object that refers to `a`, by a WEAK reference.
 fn may_use_a() -> &'static [u8] {
     b"\0asm\x01\0\0\0\0\x10\x07linking\x02\x08\x05\x01\x01\x11\x01a".as_slice()
 }
@@ -59,17 +55,7 @@ fn defines_c() -> &'static [u8] {
     b"\0asm\x01\0\0\0\x01\x04\x01`\0\0\x03\x02\x01\0\n\x04\x01\x02\0\x0b\0\x11\x07linking\x02\x08\x06\x01\0\0\0\x01c".as_slice()
 }
 
-/// An object that defines `a` and refers to `b`.
-fn defines_a() -> &'static [u8] {
-    b"\0asm\x01\0\0\0\x01\x04\x01`\0\0\x03\x02\x01\0\n\x04\x01\x02\0\x0b\0\x15\x07linking\x02\x08\n\x02\0\0\0\x01a\x01\x10\x01b".as_slice()
-}
-
-/// A library of two members: the first defines `a` and refers to `b`, the second the other way round.
-fn library() -> &'static [u8] {
-    b"!<arch>\n/                                               16        `\n\0\0\0\x02\0\0\0T\0\0\0\xc0a\0b\0m/                                              47        `\n\0asm\x01\0\0\0\x01\x04\x01`\0\0\x03\x02\x01\0\n\x04\x01\x02\0\x0b\0\x15\x07linking\x02\x08\n\x02\0\0\0\x01a\x01\x10\x01b\nm/                                              47        `\n\0asm\x01\0\0\0\x01\x04\x01`\0\0\x03\x02\x01\0\n\x04\x01\x02\0\x0b\0\x15\x07linking\x02\x08\n\x02\0\0\0\x01b\x01\x10\x01a\n".as_slice()
-}
-
-/// The same members, and an index that gives the second for `a` too.
+/// The members of the library, and an index that gives the second for `a` too.
 fn lying_library() -> &'static [u8] {
     b"!<arch>\n/                                               16        `\n\0\0\0\x02\0\0\0\xc0\0\0\0\xc0a\0b\0m/                                              47        `\n\0asm\x01\0\0\0\x01\x04\x01`\0\0\x03\x02\x01\0\n\x04\x01\x02\0\x0b\0\x15\x07linking\x02\x08\n\x02\0\0\0\x01a\x01\x10\x01b\nm/                                              47        `\n\0asm\x01\0\0\0\x01\x04\x01`\0\0\x03\x02\x01\0\n\x04\x01\x02\0\x0b\0\x15\x07linking\x02\x08\n\x02\0\0\0\x01b\x01\x10\x01a\n".as_slice()
 }

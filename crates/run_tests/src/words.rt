@@ -3,16 +3,8 @@
 use run_words::{RunWordsError, read_words};
 use std::alloc::Global;
 use std::test::Fail;
-use wl_base::{OutOfMemory, Seq, Text};
-
-/// Words of these texts.
-fn words(alloc: Global, texts: &[&str]) -> Result<Seq<Text>, OutOfMemory> {
-    let mut made = Seq::new(alloc);
-    for text in texts {
-        made.push(Text::new(alloc, text)?)?;
-    }
-    Ok(made)
-}
+use test_kit::texts;
+use wl_base::{OutOfMemory, Text};
 
 /// Whether the words ask for this module, this script and so many steps.
 fn ask_for(alloc: Global, words: &[Text], module: &str, script: &str, steps: u64) -> bool {
@@ -34,8 +26,8 @@ fn are_refused(alloc: Global, words: &[Text]) -> bool {
 
 /// Whether words in both orders ask for the same.
 fn are_taken(alloc: Global) -> Result<bool, OutOfMemory> {
-    let first = words(alloc, &["m.wasm", "--script", "s", "--steps=100"])?;
-    let second = words(alloc, &["--steps", "+7", "--script=s", "m.wasm"])?;
+    let first = texts(alloc, &["m.wasm", "--script", "s", "--steps=100"])?;
+    let second = texts(alloc, &["--steps", "+7", "--script=s", "m.wasm"])?;
     Ok(
         ask_for(alloc, first.as_slice(), "m.wasm", "s", 100)
             && ask_for(alloc, second.as_slice(), "m.wasm", "s", 7),
@@ -44,9 +36,9 @@ fn are_taken(alloc: Global) -> Result<bool, OutOfMemory> {
 
 /// Whether no script, too many steps and a second module are refused.
 fn refusals(alloc: Global) -> Result<bool, OutOfMemory> {
-    let no_script = words(alloc, &["m.wasm", "--steps=100"])?;
-    let too_many = words(alloc, &["m.wasm", "--script=s", "--steps=1000000001"])?;
-    let two = words(alloc, &["m.wasm", "n.wasm", "--script=s", "--steps=1"])?;
+    let no_script = texts(alloc, &["m.wasm", "--steps=100"])?;
+    let too_many = texts(alloc, &["m.wasm", "--script=s", "--steps=1000000001"])?;
+    let two = texts(alloc, &["m.wasm", "n.wasm", "--script=s", "--steps=1"])?;
     Ok(
         are_refused(alloc, no_script.as_slice())
             && are_refused(alloc, too_many.as_slice())

@@ -1,26 +1,14 @@
 //! Sections `linking`, read whole, and their items: what is told of spelled bytes, and the first fault of others.
 
 use linking_section::{
-    EXPLICIT_NAME, EXPORTED, Group, HIDDEN, InitFunc, LOCAL, Linking, LinkingFault, Member,
-    NO_STRIP, RETAIN, STRINGS, SegmentInfo, Symbol, SymbolKind, UNDEFINED, WEAK, group_at,
-    linking_at, read, segment_at, symbol_at,
+    EXPLICIT_NAME, EXPORTED, HIDDEN, InitFunc, LOCAL, Linking, LinkingFault, Member, NO_STRIP,
+    RETAIN, STRINGS, Symbol, SymbolKind, UNDEFINED, WEAK, group_at, linking_at, read, segment_at,
+    symbol_at,
 };
 use std::alloc::Global;
+use test_kit::{group, member, segment_info, silent, symbol};
 use wasm_grammar::{Form, ReadFault, Stop, vector_at};
 use wl_base::{Item, Name, OutOfMemory, Seq};
-
-/// The name of this text.
-fn name(alloc: Global, text: &str) -> Result<Name, OutOfMemory> {
-    Seq::from_slice(alloc, text.as_bytes())
-}
-
-/// The name of this text, where there is one.
-fn name_of(alloc: Global, text: Option<&str>) -> Result<Option<Name>, OutOfMemory> {
-    match text {
-        Some(text) => Ok(Some(name(alloc, text)?)),
-        None => Ok(None),
-    }
-}
 
 /// A function's symbol with this name.
 fn function(
@@ -29,36 +17,7 @@ fn function(
     text: Option<&str>,
     index: u32,
 ) -> Result<Symbol, OutOfMemory> {
-    let name = name_of(alloc, text)?;
-    Ok(Symbol {
-        kind: SymbolKind::Function,
-        flags,
-        name,
-        index,
-        offset: 0,
-        size: 0,
-    })
-}
-
-fn info(alloc: Global, text: &str, align: u32, flags: u32) -> Result<SegmentInfo, OutOfMemory> {
-    let name = name(alloc, text)?;
-    Ok(SegmentInfo { name, align, flags })
-}
-
-fn group(alloc: Global, text: &str, members: &[Member]) -> Result<Group, OutOfMemory> {
-    let name = name(alloc, text)?;
-    let members = Seq::from_slice(alloc, members)?;
-    Ok(Group { name, members })
-}
-
-/// A section that says nothing.
-fn silent(alloc: Global) -> Linking {
-    Linking {
-        segments: Seq::new(alloc),
-        inits: Seq::new(alloc),
-        groups: Seq::new(alloc),
-        symbols: Seq::new(alloc),
-    }
+    symbol(alloc, SymbolKind::Function, flags, text, index)
 }
 
 /// Whether this is the payload of a section that says what is wanted.
@@ -99,13 +58,14 @@ fn the_symbols_of_a_small_object_are_read(rt: HostRuntime) {
 }
 
 fn add_one_of_each(alloc: Global, linking: &mut Linking) -> Result<(), OutOfMemory> {
-    let member = |kind, index| Member { kind, index };
     let members = [member(1, 3), member(0, 2), member(5, 130)];
     let init = InitFunc {
         priority: 65535,
         symbol: 0,
     };
-    linking.segments.push(info(alloc, ".data", 2, RETAIN)?)?;
+    linking
+        .segments
+        .push(segment_info(alloc, ".data", 2, RETAIN)?)?;
     linking.inits.push(init)?;
     linking.groups.push(group(alloc, "w", &members)?)?;
     linking.symbols.push(function(alloc, UNDEFINED, None, 3)?)

@@ -1,6 +1,7 @@
 //! Modules, read and written, and their parts.
 
 use std::alloc::Global;
+use test_kit::{calling_module, module_of};
 use wasm_grammar::{ReadFault, Stop};
 use wasm_instr::Body;
 use wasm_module::{
@@ -8,7 +9,7 @@ use wasm_module::{
     export_at, global_at, init_at, lent_name_at, lent_segment_at, read, write,
 };
 use wasm_types::{ConstExpr, GlobalType, Limits, TableType, ValType};
-use wl_base::{Item, OutOfMemory, Seq};
+use wl_base::{Item, OutOfMemory};
 
 fn table(funcref: bool, min: u32, max: u32) -> TableType {
     let max = Some(max);
@@ -152,16 +153,12 @@ fn stay(alloc: Global, texts: &[&[u8]]) -> bool {
 #[test]
 fn a_module_is_read_and_written_as_short_as_can_be(rt: HostRuntime) {
     let alloc = rt.alloc();
-    let text =
-        b"\0asm\x01\0\0\0\x01\x05\x01\x60\x00\x01\x7f\x03\x03\x02\x00\x00\x04\x05\x01\x70\x01\x01\x01\x05\x03\x01\x00\x02\x07\x0e\x02\x06memory\x02\x00\x01f\x00\x00\x0a\x0f\x02\x08\x00\x10\x81\x80\x80\x80\x00\x0b\x04\x00\x41\x07\x0b";
-    assert_eq!(rt; is_module(alloc, text.as_slice(), Look::Calls), Ok(true));
+    let text = calling_module();
+    assert_eq!(rt; is_module(alloc, text, Look::Calls), Ok(true));
     // the call has its shortest spelling, and the section is four bytes shorter
     let short =
         b"\0asm\x01\0\0\0\x01\x05\x01\x60\x00\x01\x7f\x03\x03\x02\x00\x00\x04\x05\x01\x70\x01\x01\x01\x05\x03\x01\x00\x02\x07\x0e\x02\x06memory\x02\x00\x01f\x00\x00\x0a\x0b\x02\x04\x00\x10\x01\x0b\x04\x00\x41\x07\x0b";
-    assert_eq!(rt;
-        is_written(alloc, text.as_slice(), short.as_slice()),
-        Ok(true)
-    );
+    assert_eq!(rt; is_written(alloc, text, short.as_slice()), Ok(true));
 }
 
 #[test]
@@ -213,8 +210,7 @@ fn custom_sections_and_padding_are_read_and_not_written(rt: HostRuntime) {
 
 /// Whether these sections behind the header are no module.
 fn is_refused(alloc: Global, sections: &[u8]) -> Result<bool, OutOfMemory> {
-    let mut text = Seq::from_slice(alloc, b"\0asm\x01\0\0\0".as_slice())?;
-    text.extend_from_slice(sections)?;
+    let text = module_of(alloc, sections)?;
     Ok(is_module(alloc, text.as_slice(), Look::Whole) == Err(ModuleFault::NotModule))
 }
 

@@ -5,6 +5,7 @@ use dylink_out::{
     read_dylink, write_dylink,
 };
 use std::alloc::Global;
+use test_kit::name;
 use wl_base::{Name, OutOfMemory, Seq};
 
 /// Eight bytes of memory aligned to 4, one slot, a needed module, an export and an import.
@@ -14,20 +15,16 @@ const TOLD: [u8; 27] =
 /// The subsection of sizes, twice.
 const TWICE: [u8; 12] = [1, 4, 8, 2, 0, 0, 1, 4, 8, 2, 0, 0];
 
-fn name(alloc: Global, text: &[u8]) -> Result<Name, OutOfMemory> {
-    Seq::from_slice(alloc, text)
-}
-
 fn needed(alloc: Global) -> Result<Seq<Name>, OutOfMemory> {
     let mut needed = Seq::new(alloc);
-    needed.push(name(alloc, b"m".as_slice())?)?;
+    needed.push(name(alloc, "m")?)?;
     Ok(needed)
 }
 
 fn exports(alloc: Global) -> Result<Seq<ExportInfo>, OutOfMemory> {
     let mut exports = Seq::new(alloc);
     exports.push(ExportInfo {
-        name: name(alloc, b"e".as_slice())?,
+        name: name(alloc, "e")?,
         flags: 2,
     })?;
     Ok(exports)
@@ -35,8 +32,8 @@ fn exports(alloc: Global) -> Result<Seq<ExportInfo>, OutOfMemory> {
 
 fn import(alloc: Global) -> Result<ImportInfo, OutOfMemory> {
     Ok(ImportInfo {
-        module: name(alloc, b"env".as_slice())?,
-        field: name(alloc, b"x".as_slice())?,
+        module: name(alloc, "env")?,
+        field: name(alloc, "x")?,
         flags: 1,
     })
 }

@@ -10,12 +10,9 @@ use name_jobs::group_winners;
 use name_uses::uses_of;
 use std::alloc::Global;
 use std::thread::Threads;
+use test_kit::calling_object;
 use wl_fan::Workers;
 use wl_outside::OpenGate;
-
-/// A type, two functions, their bodies, the symbols f and g, and the relocation of the call.
-const CALLING: [u8; 79] =
-    *b"\0asm\x01\0\0\0\x01\x05\x01`\0\x01\x7f\x03\x03\x02\0\0\x0a\x0f\x02\x08\0\x10\x81\x80\x80\x80\0\x0b\x04\0\x41\x07\x0b\0\x16\x07linking\x02\x08\x0b\x02\0\0\0\x01f\0\0\x01\x01g\0\x10\x0areloc.CODE\x02\x01\0\x04\x01";
 
 /// Whether the object is input 1.
 fn is_first(objects: &[Object]) -> bool
@@ -54,7 +51,7 @@ fn used<R: Threads + Sync>(
 fn used_in<R: Threads + Sync>(rt: &R, alloc: Global) -> Option<[(bool, bool); 2]> {
     let mut objects = Vec::new(alloc);
     objects
-        .push(read_object(alloc, 1, CALLING.as_slice()).ok()?)
+        .push(read_object(alloc, 1, calling_object()).ok()?)
         .ok()?;
     if !is_first(objects.as_slice()) {
         return None;
