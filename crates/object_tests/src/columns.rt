@@ -5,19 +5,16 @@ use linking_section::SymbolKind;
 use object_columns::{
     FuncTypes, FunctionRef, Functions, Imports, SegmentRef, Segments, SymbolRef, Symbols,
 };
-use reloc_section::Reloc;
 use std::alloc::Global;
 use std::test::Fail;
-use wasm_types::{FuncType, Import, ImportKind, ValType};
-use wl_base::{OutOfMemory, Seq, Span};
+use test_kit::{func_type, import, reloc};
+use wasm_types::{ImportKind, ValType};
+use wl_base::{OutOfMemory, Span};
 
 const SPAN: Span = Span { start: 7, len: 9 };
 
 fn types(alloc: Global) -> Result<FuncTypes, OutOfMemory> {
-    let kind = FuncType {
-        params: Seq::from_slice(alloc, &[ValType::I32, ValType::F64])?,
-        results: Seq::from_slice(alloc, &[ValType::I64])?,
-    };
+    let kind = func_type(alloc, &[ValType::I32, ValType::F64], &[ValType::I64])?;
     let mut types = FuncTypes::new(alloc);
     types.push(&kind)?;
     types.push(&kind)?;
@@ -37,11 +34,7 @@ fn types_come_back(rt: HostRuntime) -> Result<(), Fail> {
 }
 
 fn imports(alloc: Global) -> Result<Imports, OutOfMemory> {
-    let import = Import {
-        module: Seq::from_slice(alloc, b"env".as_slice())?,
-        field: Seq::from_slice(alloc, b"f".as_slice())?,
-        kind: ImportKind::Function(3),
-    };
+    let import = import(alloc, "f", ImportKind::Function(3))?;
     let mut imports = Imports::new(alloc);
     imports.push(&import)?;
     imports.push(&import)?;
@@ -96,18 +89,12 @@ fn symbols_come_back(rt: HostRuntime) -> Result<(), Fail> {
 }
 
 fn segments(alloc: Global) -> Result<Segments, OutOfMemory> {
-    let window = Reloc {
-        kind: 5,
-        offset: 1,
-        index: 2,
-        addend: -3,
-    };
     let segment = SegmentRef {
         span: SPAN,
         name: b".data".as_slice(),
         align: 2,
         flags: 1,
-        windows: &[window],
+        windows: &[reloc(5, 1, 2, -3)],
     };
     let mut segments = Segments::new(alloc);
     segments.push(segment)?;

@@ -8,6 +8,8 @@ mod object;
 #[cfg(test)]
 mod parts;
 #[cfg(test)]
+mod refused;
+#[cfg(test)]
 mod rules;
 #[cfg(test)]
 mod windows;

@@ -2,6 +2,7 @@
 
 use object_parts::{DataPart, Parts, PartsFault, SectionStop, parts_of};
 use std::alloc::Global;
+use test_kit::calling_object;
 use wasm_grammar::Stop;
 use wasm_sections::frame;
 use wl_base::{Item, Span};
@@ -120,8 +121,7 @@ fn stopped(section: u32, stop: Stop) -> Option<PartsFault> {
 
 /// The object of two functions, of which `f` calls `g`, which gives 7.
 fn calls_are_read(alloc: Global) -> bool {
-    let bytes =
-        b"\0asm\x01\0\0\0\x01\x05\x01`\0\x01\x7f\x03\x03\x02\0\0\x0a\x0f\x02\x08\0\x10\x81\x80\x80\x80\0\x0b\x04\0A\x07\x0b\0\x16\x07linking\x02\x08\x0b\x02\0\0\0\x01f\0\0\x01\x01g\0\x10\x0areloc.CODE\x02\x01\0\x04\x01".as_slice();
+    let bytes = calling_object();
     let both = [
         Some((Span { start: 24, len: 8 }, true)),
         Some((Span { start: 33, len: 4 }, true)),

@@ -1,13 +1,15 @@
 //! The rules that the parts of an object keep among one another, and the first that a changed object breaks.
 
+use linking_section::member_kinds::{DATA, FUNCTION};
 use object_parts::{
-    CodeBody, DataPart, Element, Export, Group, InitFunc, Linking, Member, Mismatch, Operands,
-    Parts, Reloc, RelocSection, SectionSpan, SegmentInfo, Symbol, SymbolKind,
+    CodeBody, DataPart, Element, Export, InitFunc, Linking, Mismatch, Operands, Parts,
+    RelocSection, SectionSpan, SegmentInfo, Symbol, SymbolKind,
 };
 use object_rules::broken_rule;
 use std::alloc::Global;
-use wasm_types::{ConstExpr, FuncType, GlobalType, Import, ImportKind, Limits, TableType, ValType};
-use wl_base::{Name, OutOfMemory, Seq, Span};
+use test_kit::{func_type, group, import, member, name, reloc, segment_info, silent, symbol};
+use wasm_types::{ConstExpr, GlobalType, Import, ImportKind, Limits, TableType, ValType};
+use wl_base::{OutOfMemory, Seq, Span};
 
 /// The sections: types, functions, a custom one, code in the bytes 50 to 89, data in 95 to 114, and
 /// two custom ones.
@@ -33,41 +35,6 @@ fn bytes() -> [u8; 140] {
     bytes[59] = 0x24;
     bytes[60] = 0x23;
     bytes
-}
-
-fn name(alloc: Global, text: &str) -> Result<Name, OutOfMemory> {
-    Seq::from_slice(alloc, text.as_bytes())
-}
-
-fn import(alloc: Global, field: &str, kind: ImportKind) -> Result<Import, OutOfMemory> {
-    let module = name(alloc, "env")?;
-    let field = name(alloc, field)?;
-    Ok(Import {
-        module,
-        field,
-        kind,
-    })
-}
-
-fn symbol(
-    alloc: Global,
-    kind: SymbolKind,
-    flags: u32,
-    text: &str,
-    index: u32,
-) -> Result<Symbol, OutOfMemory> {
-    let name = match text {
-        "" => None,
-        _ => Some(name(alloc, text)?),
-    };
-    Ok(Symbol {
-        kind,
-        flags,
-        name,
-        index,
-        offset: 0,
-        size: 0,
-    })
 }
 
 fn datum(
@@ -115,37 +82,17 @@ fn add_imports(alloc: Global, to: &mut Seq<Import>) -> Result<(), OutOfMemory> {
 /// The symbols: 0 and 1 the defined functions, 2 the imported one, 3 a datum, 4 the global, 5 a
 /// section, 6 the table.
 fn add_symbols(alloc: Global, to: &mut Seq<Symbol>) -> Result<(), OutOfMemory> {
-    to.push(symbol(alloc, SymbolKind::Function, 0, "main", 1)?)?;
-    to.push(symbol(alloc, SymbolKind::Function, 0x02, "other", 2)?)?;
-    to.push(symbol(alloc, SymbolKind::Function, 0x10, "", 0)?)?;
+    to.push(symbol(alloc, SymbolKind::Function, 0, Some("main"), 1)?)?;
+    to.push(symbol(alloc, SymbolKind::Function, 0x02, Some("other"), 2)?)?;
+    to.push(symbol(alloc, SymbolKind::Function, 0x10, None, 0)?)?;
     to.push(datum(alloc, "d", 0, 0, 8)?)?;
-    to.push(symbol(alloc, SymbolKind::GlobalVar, 0x10, "", 0)?)?;
-    to.push(symbol(alloc, SymbolKind::Section, 0x02, "", 6)?)?;
-    to.push(symbol(alloc, SymbolKind::Table, 0x10, "", 0)?)
-}
-
-fn group(alloc: Global, text: &str, members: &[(u8, u32)]) -> Result<Group, OutOfMemory> {
-    let mut list = Seq::new(alloc);
-    for (kind, index) in members {
-        list.push(Member {
-            kind: *kind,
-            index: *index,
-        })?;
-    }
-    let name = name(alloc, text)?;
-    Ok(Group {
-        name,
-        members: list,
-    })
+    to.push(symbol(alloc, SymbolKind::GlobalVar, 0x10, None, 0)?)?;
+    to.push(symbol(alloc, SymbolKind::Section, 0x02, None, 6)?)?;
+    to.push(symbol(alloc, SymbolKind::Table, 0x10, None, 0)?)
 }
 
 fn info(alloc: Global, align: u32) -> Result<SegmentInfo, OutOfMemory> {
-    let name = name(alloc, "data")?;
-    Ok(SegmentInfo {
-        name,
-        align,
-        flags: 0,
-    })
+    segment_info(alloc, "data", align, 0)
 }
 
 /// Metadata of the one segment, the symbols, an init function and a group.
@@ -156,16 +103,11 @@ fn add_metadata(alloc: Global, to: &mut Linking) -> Result<(), OutOfMemory> {
         priority: 1,
         symbol: 0,
     })?;
-    to.groups.push(group(alloc, "g", &[(0, 0), (1, 1)])?)
+    to.groups.push(group(alloc, "g", &[member(DATA, 0), member(FUNCTION, 1)])?)
 }
 
 fn linking(alloc: Global) -> Result<Linking, OutOfMemory> {
-    let mut linking = Linking {
-        segments: Seq::new(alloc),
-        inits: Seq::new(alloc),
-        groups: Seq::new(alloc),
-        symbols: Seq::new(alloc),
-    };
+    let mut linking = silent(alloc);
     add_metadata(alloc, &mut linking)?;
     Ok(linking)
 }
@@ -175,13 +117,6 @@ fn segment(memory: Option<u32>) -> DataPart {
         memory,
         span: Span { start: 100, len: 8 },
     }
-}
-
-/// A type without results.
-fn func_type(alloc: Global, params: &[ValType]) -> Result<FuncType, OutOfMemory> {
-    let params = Seq::from_slice(alloc, params)?;
-    let results = Seq::new(alloc);
-    Ok(FuncType { params, results })
 }
 
 /// No parts.
@@ -205,8 +140,8 @@ fn nothing(alloc: Global) -> Parts {
 /// The parts of an object that breaks no rule. The function 1 is of the type () to (), the function
 /// 2 takes an i32; the one segment has the bytes 100 to 107.
 fn add_parts(alloc: Global, to: &mut Parts) -> Result<(), OutOfMemory> {
-    to.types.push(func_type(alloc, &[])?)?;
-    to.types.push(func_type(alloc, &[ValType::I32])?)?;
+    to.types.push(func_type(alloc, &[], &[])?)?;
+    to.types.push(func_type(alloc, &[ValType::I32], &[])?)?;
     add_imports(alloc, &mut to.imports)?;
     to.functions.extend_from_slice(&[0, 1])?;
     to.bodies.push(body(Ok(Operands::new(alloc))))?;
@@ -223,12 +158,7 @@ fn relocs(
 ) -> Result<RelocSection, OutOfMemory> {
     let mut list = Seq::new(alloc);
     for (kind, offset, index) in entries {
-        list.push(Reloc {
-            kind: *kind,
-            offset: *offset,
-            index: *index,
-            addend: 0,
-        })?;
+        list.push(reloc(*kind, *offset, *index, 0))?;
     }
     Ok(RelocSection {
         target,
@@ -270,12 +200,17 @@ enum Change<'a> {
     Body(Mismatch),
 }
 
+/// The text, where it isn't empty.
+fn text_of(text: &str) -> Option<&str> {
+    if text.is_empty() { None } else { Some(text) }
+}
+
 fn change_linking(alloc: Global, linking: &mut Linking, change: Change) -> Result<(), OutOfMemory> {
     match change {
         Change::Symbol(kind, flags, text, index) => {
             linking
                 .symbols
-                .push(symbol(alloc, kind, flags, text, index)?)
+                .push(symbol(alloc, kind, flags, text_of(text), index)?)
         }
         Change::Datum(offset, size) => linking.symbols.push(datum(alloc, "e", 0, offset, size)?),
         Change::Infos(aligns) => {
@@ -290,7 +225,9 @@ fn change_linking(alloc: Global, linking: &mut Linking, change: Change) -> Resul
             symbol,
         }),
         Change::Group(text, kind, index) => {
-            linking.groups.push(group(alloc, text, &[(kind, index)])?)
+            linking
+                .groups
+                .push(group(alloc, text, &[member(kind, index)])?)
         }
         _ => Ok(()),
     }
@@ -310,6 +247,33 @@ fn element(alloc: Global, table: Option<u32>, function: u32) -> Result<Element, 
     })
 }
 
+fn add_part(alloc: Global, to: &mut Parts, change: Change) -> Result<(), OutOfMemory> {
+    match change {
+        Change::Export(kind, index) => to.exports.push(export(alloc, kind, index)?),
+        Change::Element(table, function) => to.elements.push(element(alloc, table, function)?),
+        Change::Memory(memory) => {
+            to.data_count = None;
+            to.segments.push(segment(Some(memory)))
+        }
+        Change::Import(kind) => {
+            to.imports
+                .push(import(alloc, "far", ImportKind::Function(kind))?)
+        }
+        Change::Relocs(target, entries) => {
+            to.relocs.push(relocs(alloc, 5, &[])?)?;
+            to.relocs.push(relocs(alloc, target, entries)?)
+        }
+        Change::Body(mismatch) => {
+            to.functions.push(0)?;
+            to.bodies.push(body(Err(mismatch)))
+        }
+        _ => match &mut to.linking {
+            Some(linking) => change_linking(alloc, linking, change),
+            None => Ok(()),
+        },
+    }
+}
+
 fn change_parts(alloc: Global, whole: &mut Parts, change: Change) -> Result<(), OutOfMemory> {
     match change {
         Change::Functions(types) => whole.functions = Seq::from_slice(alloc, types)?,
@@ -322,32 +286,7 @@ fn change_parts(alloc: Global, whole: &mut Parts, change: Change) -> Result<(), 
             whole.data_count = Some(9);
             whole.linking = None;
         }
-        Change::Export(kind, index) => whole.exports.push(export(alloc, kind, index)?)?,
-        Change::Element(table, function) => {
-            whole.elements.push(element(alloc, table, function)?)?;
-        }
-        Change::Memory(memory) => {
-            whole.data_count = None;
-            whole.segments.push(segment(Some(memory)))?;
-        }
-        Change::Import(kind) => {
-            whole
-                .imports
-                .push(import(alloc, "far", ImportKind::Function(kind))?)?;
-        }
-        Change::Relocs(target, entries) => {
-            whole.relocs.push(relocs(alloc, 5, &[])?)?;
-            whole.relocs.push(relocs(alloc, target, entries)?)?;
-        }
-        Change::Body(mismatch) => {
-            whole.functions.push(0)?;
-            whole.bodies.push(body(Err(mismatch)))?;
-        }
-        _ => {
-            if let Some(linking) = &mut whole.linking {
-                change_linking(alloc, linking, change)?;
-            }
-        }
+        _ => add_part(alloc, whole, change)?,
     }
     Ok(())
 }
