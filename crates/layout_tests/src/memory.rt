@@ -3,6 +3,7 @@ ghost use Rattle.std.specs.Prelude.{IsTrue, ◌↔◌};
 ghost use Rattle.memory_layout.specs.Steps.{AreAligned, AreRules};
 
 use memory_layout::{MemoryRules, SegmentShape, place};
+use std::alloc::Global;
 use wl_base::{LayoutError, What};
 
 /// The rules with a stack of 65,536 bytes and no more words.
@@ -10,6 +11,51 @@ const DEFAULTS: MemoryRules = MemoryRules::Absolute {
     stack_first: false,
     base: None,
     stack: 65_536,
+    initial: 0,
+    max: None,
+};
+
+/// The same, with the stack below all segments.
+const STACK_FIRST: MemoryRules = MemoryRules::Absolute {
+    stack_first: true,
+    base: None,
+    stack: 65_536,
+    initial: 0,
+    max: None,
+};
+
+/// A base of 16, and a memory of just four pages.
+const FOUR_PAGES: MemoryRules = MemoryRules::Absolute {
+    stack_first: false,
+    base: Some(16),
+    stack: 65_536,
+    initial: 262_144,
+    max: Some(262_144),
+};
+
+/// A memory of one page at most.
+const ONE_PAGE: MemoryRules = MemoryRules::Absolute {
+    stack_first: false,
+    base: None,
+    stack: 65_536,
+    initial: 0,
+    max: Some(65_536),
+};
+
+/// The greatest stack that ends below 2^32.
+const GREATEST_STACK: MemoryRules = MemoryRules::Absolute {
+    stack_first: false,
+    base: None,
+    stack: 4_294_966_256,
+    initial: 0,
+    max: None,
+};
+
+/// A stack of 16 bytes more.
+const MORE_STACK: MemoryRules = MemoryRules::Absolute {
+    stack_first: false,
+    base: None,
+    stack: 4_294_966_272,
     initial: 0,
     max: None,
 };
@@ -32,7 +78,7 @@ fn are_aligned(segments: &[SegmentShape]) -> bool
 /// Whether the segments get these addresses, and base, data's end, stack, heap base and pages are
 /// these.
 fn stand(
-    rt: &HostRuntime,
+    alloc: Global,
     rules: &MemoryRules,
     segments: &[SegmentShape],
     addresses: &[u32],
@@ -41,7 +87,7 @@ fn stand(
     requires { AreRules rules.now }
 {
     are_aligned(segments)
-        && match place(rt.alloc(), rules, segments) {
+        && match place(alloc, rules, segments) {
             Ok(places) => {
                 places.addresses.as_slice() == addresses
                     && numbers
@@ -60,7 +106,7 @@ fn stand(
 
 /// Whether this is the first number that passes its limit.
 fn passes(
-    rt: &HostRuntime,
+    alloc: Global,
     rules: &MemoryRules,
     segments: &[SegmentShape],
     what: What,
@@ -69,142 +115,71 @@ fn passes(
     requires { AreRules rules.now }
 {
     are_aligned(segments)
-        && match place(rt.alloc(), rules, segments) {
+        && match place(alloc, rules, segments) {
             Ok(_) => false,
             Err(fault) => fault == LayoutError::Overflow { what, needed },
         }
 }
 
+fn one_stands(alloc: Global) -> bool {
+    let numbers = [1024, 1028, 1040, 66_576, 66_576, 2];
+    stand(alloc, &DEFAULTS, &[solid(4, 2)], &[1024], numbers)
+}
+
+fn two_stand(alloc: Global) -> bool {
+    let two = [solid(3, 0), solid(4, 3)];
+    let first = [65_536, 65_548, 0, 65_536, 65_552, 2];
+    let last = [1024, 1036, 1040, 66_576, 66_576, 2];
+    let relative = [0, 12, 0, 0, 0, 0];
+    stand(alloc, &DEFAULTS, &two, &[1024, 1032], last)
+        && stand(alloc, &STACK_FIRST, &two, &[65_536, 65_544], first)
+        && stand(alloc, &MemoryRules::Relative, &two, &[0, 8], relative)
+}
+
 #[test]
 fn segments_stand_behind_one_another(rt: HostRuntime) {
-    let two = [solid(3, 0), solid(4, 3)];
-    assert!(rt;
-        stand(
-            &rt,
-            &DEFAULTS,
-            &two,
-            &[1024, 1032],
-            [1024, 1036, 1040, 66_576, 66_576, 2]
-        )
-    );
-    let first = MemoryRules::Absolute {
-        stack_first: true,
-        base: None,
-        stack: 65_536,
-        initial: 0,
-        max: None,
-    };
-    assert!(rt;
-        stand(
-            &rt,
-            &first,
-            &two,
-            &[65_536, 65_544],
-            [65_536, 65_548, 0, 65_536, 65_552, 2]
-        )
-    );
-    assert!(rt;
-        stand(
-            &rt,
-            &MemoryRules::Relative,
-            &two,
-            &[0, 8],
-            [0, 12, 0, 0, 0, 0]
-        )
-    );
-    let one = [solid(4, 2)];
-    assert!(rt;
-        stand(
-            &rt,
-            &DEFAULTS,
-            &one,
-            &[1024],
-            [1024, 1028, 1040, 66_576, 66_576, 2]
-        )
-    );
+    assert!(rt; one_stands(rt.alloc()));
+    assert!(rt; two_stand(rt.alloc()));
 }
 
 /// Zero segments stand last, addresses come in the order given, and an initial memory of four pages
 /// is kept, at a base of 16.
-#[test]
-fn zero_segments_stand_last(rt: HostRuntime) {
+fn three_stand(alloc: Global) -> bool {
     let zero = SegmentShape {
         len: 5,
         align: 0,
         zero: true,
     };
     let three = [zero, solid(3, 0), solid(4, 3)];
-    let rules = MemoryRules::Absolute {
-        stack_first: false,
-        base: Some(16),
-        stack: 65_536,
-        initial: 262_144,
-        max: Some(262_144),
-    };
-    assert!(rt;
-        stand(
-            &rt,
-            &rules,
-            &three,
-            &[28, 16, 24],
-            [16, 33, 48, 65_584, 65_584, 4]
-        )
-    );
-    assert!(rt;
-        stand(
-            &rt,
-            &MemoryRules::Relative,
-            &three,
-            &[12, 0, 8],
-            [0, 17, 0, 0, 0, 0]
-        )
-    );
+    let numbers = [16, 33, 48, 65_584, 65_584, 4];
+    let relative = [0, 17, 0, 0, 0, 0];
+    stand(alloc, &FOUR_PAGES, &three, &[28, 16, 24], numbers)
+        && stand(alloc, &MemoryRules::Relative, &three, &[12, 0, 8], relative)
+}
+
+#[test]
+fn zero_segments_stand_last(rt: HostRuntime) {
+    assert!(rt; three_stand(rt.alloc()));
+}
+
+fn data_end_passes(alloc: Global) -> bool {
+    let large = [solid(u32::MAX, 0), solid(1, 0)];
+    let end = What::DataEnd;
+    passes(alloc, &MemoryRules::Relative, &large, end, 4_294_967_296)
+        && passes(alloc, &DEFAULTS, &large, end, 4_294_968_319)
+}
+
+/// The greatest stack that there is, and one of 16 bytes more.
+fn heap_base_passes(alloc: Global) -> bool {
+    let numbers = [1024, 1024, 1024, 4_294_967_280, 4_294_967_280, 65_536];
+    let base = What::HeapBase;
+    stand(alloc, &GREATEST_STACK, &[], &[], numbers)
+        && passes(alloc, &MORE_STACK, &[], base, 4_294_967_296)
 }
 
 #[test]
 fn the_first_number_that_passes(rt: HostRuntime) {
-    let large = [solid(u32::MAX, 0), solid(1, 0)];
-    assert!(rt;
-        passes(
-            &rt,
-            &MemoryRules::Relative,
-            &large,
-            What::DataEnd,
-            4_294_967_296
-        )
-    );
-    assert!(rt; passes(&rt, &DEFAULTS, &large, What::DataEnd, 4_294_968_319));
-    let stack_of = |stack: u32| MemoryRules::Absolute {
-        stack_first: false,
-        base: None,
-        stack,
-        initial: 0,
-        max: None,
-    };
-    assert!(rt;
-        stand(
-            &rt,
-            &stack_of(4_294_966_256),
-            &[],
-            &[],
-            [1024, 1024, 1024, 4_294_967_280, 4_294_967_280, 65_536]
-        )
-    );
-    assert!(rt;
-        passes(
-            &rt,
-            &stack_of(4_294_966_272),
-            &[],
-            What::HeapBase,
-            4_294_967_296
-        )
-    );
-    let limited = MemoryRules::Absolute {
-        stack_first: false,
-        base: None,
-        stack: 65_536,
-        initial: 0,
-        max: Some(65_536),
-    };
-    assert!(rt; passes(&rt, &limited, &[], What::MaxMemory, 131_072));
+    assert!(rt; data_end_passes(rt.alloc()));
+    assert!(rt; heap_base_passes(rt.alloc()));
+    assert!(rt; passes(rt.alloc(), &ONE_PAGE, &[], What::MaxMemory, 131_072));
 }

@@ -4,7 +4,6 @@ ghost use Rattle.name_entries.specs.link_names.Numbered.{AreNumbers};
 ghost use Rattle.name_entries.specs.View.{InputsRise};
 ghost use Rattle.name_entries.specs.Fits.{Fits};
 
-use crate::counted::{Asked, Counted};
 use crate::objects::{grouped, numbered, read, strong, weak};
 use comdat_pick::pick;
 use made_symbols::Mode;
@@ -13,6 +12,7 @@ use name_jobs::{GroupJobs, NameJobs, group_winners};
 use std::alloc::Global;
 use std::thread::Threads;
 use symbol_race::{race, rank};
+use test_kit::{Asked, Counted};
 use weak_rules::inputs_rise;
 use wl_fan::Workers;
 use wl_outside::OpenGate;
@@ -113,13 +113,13 @@ fn each_offer_is_asked_for_once_by_workers_at_once(rt: HostRuntime) {
             groups: Asked {
                 once: 3,
                 otherwise: 0,
-                late: false,
+                at_once: true,
             },
             name: Some(rank(0, 2, 0)),
             names: Asked {
                 once: made + 6,
                 otherwise: 0,
-                late: false,
+                at_once: true,
             },
         };
         assert_eq!(rt; raced_over(&rt, rt.alloc(), &files, workers), Some(wanted));

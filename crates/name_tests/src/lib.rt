@@ -7,8 +7,6 @@ mod answers;
 #[cfg(test)]
 mod asked;
 #[cfg(test)]
-mod counted;
-#[cfg(test)]
 mod entries;
 #[cfg(test)]
 mod jobs;

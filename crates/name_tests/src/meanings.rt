@@ -126,9 +126,28 @@ fn meant_by<R: Threads + Sync>(
     resolved(rt, alloc, objects.as_slice(), &names, allow_undefined)
 }
 
-#[test]
-fn rules_in_their_order(rt: HostRuntime) {
-    let cases = [
+/// Two files, whether undefined names are allowed, what their first symbols mean, and how many imports there are.
+type Case = ([&'static [u8]; 2], bool, Meaning, Meaning, u32);
+
+/// Whether the symbols mean this in each case.
+fn mean<R: Threads + Sync>(rt: &R, alloc: Global, cases: &[Case]) -> bool {
+    for (files, allow, first, second, imports) in cases {
+        let wanted = Meant {
+            first: *first,
+            second: *second,
+            imports: *imports,
+            of_env: *imports > 0,
+        };
+        if meant_by(rt, alloc, files, *allow) != Some(wanted) {
+            return false;
+        }
+    }
+    true
+}
+
+fn undefined_symbols() -> [Case; 4] {
+    let first = Meaning::Import(0);
+    [
         // a strong function without a definition means nothing, a WEAK one is null
         (
             [strong(), weak()],
@@ -138,34 +157,24 @@ fn rules_in_their_order(rt: HostRuntime) {
             0,
         ),
         // both are imported where undefined names are allowed, if one is strong
-        (
-            [weak(), strong()],
-            true,
-            Meaning::Import(0),
-            Meaning::Import(0),
-            1,
-        ),
+        ([weak(), strong()], true, first, first, 1),
         ([weak(), weak()], true, Meaning::Null, Meaning::Null, 0),
         // two names of one module and field are one import
-        (
-            [explicit_g(), explicit_h()],
-            false,
-            Meaning::Import(0),
-            Meaning::Import(0),
-            1,
-        ),
-        // a definition that isn't kept means the winner, a LOCAL one itself
+        ([explicit_g(), explicit_h()], false, first, first, 1),
+    ]
+}
+
+/// A definition that isn't kept means the winner, a LOCAL one itself.
+fn definitions() -> [Case; 3] {
+    [
         ([grouped(), grouped()], false, own(1), own(1), 0),
         ([local(), strong()], false, own(1), Meaning::Nothing, 0),
         ([local(), grouped()], false, own(1), own(2), 0),
-    ];
-    for (files, allow, first, second, imports) in cases {
-        let meant = Meant {
-            first,
-            second,
-            imports,
-            of_env: imports > 0,
-        };
-        assert!(rt; meant_by(&rt, rt.alloc(), &files, allow) == Some(meant));
-    }
+    ]
+}
+
+#[test]
+fn rules_in_their_order(rt: HostRuntime) {
+    assert!(rt; mean(&rt, rt.alloc(), &undefined_symbols()));
+    assert!(rt; mean(&rt, rt.alloc(), &definitions()));
 }

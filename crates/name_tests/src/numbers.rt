@@ -1,22 +1,12 @@
 //! Names by number, in the order in which they are met.
 
-use crate::objects::nothing;
+use crate::objects::{nothing, symbol};
 use link_names::Names;
 use made_symbols::Mode;
-use object_file::{Group, LOCAL, Object, SymbolKind, SymbolRef, Symbols, UNDEFINED};
+use object_file::{LOCAL, Object, SymbolKind, Symbols, UNDEFINED};
 use std::alloc::Global;
+use test_kit::{group, name};
 use wl_base::{Name, NameFault, OutOfMemory, Seq};
-
-fn symbol(kind: SymbolKind, flags: u32, name: Option<&[u8]>) -> SymbolRef<'_> {
-    SymbolRef {
-        kind,
-        flags,
-        name,
-        index: 0,
-        offset: 0,
-        size: 0,
-    }
-}
 
 /// A section's symbol, a local `l`, a definition `f` and a local reference `g`.
 fn add_symbols(to: &mut Symbols) -> Result<(), OutOfMemory> {
@@ -26,32 +16,25 @@ fn add_symbols(to: &mut Symbols) -> Result<(), OutOfMemory> {
     to.push(symbol(SymbolKind::Datum, LOCAL | UNDEFINED, Some(b"g".as_slice())))
 }
 
-/// A group without members.
-fn group(alloc: Global, name: &[u8]) -> Result<Group, OutOfMemory> {
-    let name = Seq::from_slice(alloc, name)?;
-    let members = Seq::new(alloc);
-    Ok(Group { name, members })
-}
-
 /// An object with these symbols and one group.
-fn object_of(alloc: Global, input: u32, name: &[u8]) -> Result<Object, OutOfMemory> {
+fn object_of(alloc: Global, input: u32, text: &str) -> Result<Object, OutOfMemory> {
     let mut object = nothing(alloc, input);
     add_symbols(&mut object.symbols)?;
-    object.groups.push(group(alloc, name)?)?;
+    object.groups.push(group(alloc, text, &[])?)?;
     Ok(object)
 }
 
 fn objects_of(alloc: Global) -> Result<Seq<Object>, OutOfMemory> {
     let mut objects = Seq::new(alloc);
-    objects.push(object_of(alloc, 1, b"f".as_slice())?)?;
-    objects.push(object_of(alloc, 2, b"h".as_slice())?)?;
+    objects.push(object_of(alloc, 1, "f")?)?;
+    objects.push(object_of(alloc, 2, "h")?)?;
     Ok(objects)
 }
 
 fn words_of(alloc: Global) -> Result<Seq<Name>, OutOfMemory> {
     let mut words = Seq::new(alloc);
-    words.push(Seq::from_slice(alloc, b"w".as_slice())?)?;
-    words.push(Seq::from_slice(alloc, b"g".as_slice())?)?;
+    words.push(name(alloc, "w")?)?;
+    words.push(name(alloc, "g")?)?;
     Ok(words)
 }
 

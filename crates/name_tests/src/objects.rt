@@ -4,7 +4,10 @@ ghost use Rattle.name_entries.specs.made_symbols.declared.mode.Mode.TheVariants.
 ghost use Rattle.name_entries.specs.link_names.Numbered.{AreNumbers};
 
 use made_symbols::Mode;
-use name_entries::{FuncTypes, Functions, Imports, Names, Object, Segments, Symbols, read_object};
+use name_entries::{
+    FuncTypes, Functions, Imports, Names, Object, Segments, SymbolKind, SymbolRef, Symbols,
+    read_object,
+};
 use std::alloc::Global;
 use wl_base::Seq;
 
@@ -20,6 +23,18 @@ pub fn nothing(alloc: Global, input: u32) -> Object {
         symbols: Symbols::new(alloc),
         inits: Seq::new(alloc),
         groups: Seq::new(alloc),
+    }
+}
+
+/// A symbol of this kind, with this name where there is one.
+pub fn symbol(kind: SymbolKind, flags: u32, name: Option<&[u8]>) -> SymbolRef<'_> {
+    SymbolRef {
+        kind,
+        flags,
+        name,
+        index: 0,
+        offset: 0,
+        size: 0,
     }
 }
 

@@ -4,17 +4,19 @@ ghost use Rattle.mark_bits.specs.Seats.{IsSeatOf};
 ghost use Rattle.name_meanings.specs.Means.{row_of};
 ghost use Rattle.name_unresolved.specs.Unresolved.{AreMeant};
 
-use crate::objects::nothing;
-use mark_bits::{Chunk, ChunkTable, MarkBits, MarkSeat, MarkSet};
+use crate::objects::{nothing, symbol};
+use mark_bits::{Chunk, ChunkTable, MarkBits, MarkSeat, MarkSet, kinds};
 use name_entries::{
-    FunctionRef, Functions, InitFunc, Meaning, Object, Operand, Operands, Reloc, SegmentRef,
-    Segments, SymbolKind, SymbolRef, Symbols, UNDEFINED,
+    FunctionRef, Functions, InitFunc, Meaning, Object, Operand, Operands, SegmentRef, Segments,
+    SymbolKind, Symbols, UNDEFINED,
 };
 use name_meanings::Resolution;
 use name_unresolved::first_unresolved;
+use reloc_section::kinds::{FUNCTION_INDEX_LEB, MEMORY_ADDR_I32};
 use std::alloc::Global;
 use std::test::Fail;
 use std::thread::Threads;
+use test_kit::reloc;
 use weak_rules::inputs_rise;
 use wl_base::{InputId, OutOfMemory, Seq, Span};
 use wl_lists::Lists;
@@ -26,14 +28,7 @@ const SPAN: Span = Span { start: 0, len: 20 };
 /// Symbol 0 is defined, and the others aren't.
 fn add_symbols(to: &mut Symbols) -> Result<(), OutOfMemory> {
     for flags in [0, UNDEFINED, UNDEFINED, UNDEFINED] {
-        to.push(SymbolRef {
-            kind: SymbolKind::Function,
-            flags,
-            name: None,
-            index: 0,
-            offset: 0,
-            size: 0,
-        })?;
+        to.push(symbol(SymbolKind::Function, flags, None))?;
     }
     Ok(())
 }
@@ -42,7 +37,7 @@ fn add_operands(to: &mut Operands) -> Result<(), OutOfMemory> {
     to.push(Operand::Number)?;
     for symbol in [2, 3] {
         to.push(Operand::Symbol {
-            kind: 0,
+            kind: FUNCTION_INDEX_LEB,
             place: 1,
             symbol,
             addend: 0,
@@ -63,18 +58,12 @@ fn add_function(alloc: Global, to: &mut Functions) -> Result<(), OutOfMemory> {
     })
 }
 
-fn window(index: u32) -> Reloc {
-    Reloc {
-        kind: 5,
-        offset: index.wrapping_mul(4),
-        index,
-        addend: 0,
-    }
-}
-
 /// A data segment that names them too.
 fn add_segment(to: &mut Segments) -> Result<(), OutOfMemory> {
-    let windows = [window(2), window(3)];
+    let windows = [
+        reloc(MEMORY_ADDR_I32, 8, 2, 0),
+        reloc(MEMORY_ADDR_I32, 12, 3, 0),
+    ];
     to.push(SegmentRef {
         span: SPAN,
         name: b".data".as_slice(),
@@ -150,7 +139,11 @@ fn are_meant(objects: &[Object], rows: &Lists<Meaning>) -> bool
 /// `__wasm_call_ctors`, the first object's segment and the second object's function.
 fn chunks(alloc: Global) -> Result<ChunkTable, OutOfMemory> {
     let mut table = ChunkTable::new(alloc);
-    for (input, kind) in [(0, 0), (1, 1), (2, 0)] {
+    for (input, kind) in [
+        (0, kinds::FUNCTION),
+        (1, kinds::SEGMENT),
+        (2, kinds::FUNCTION),
+    ] {
         let chunk = Chunk {
             input,
             kind,

@@ -192,44 +192,39 @@ fn what_is_loaded<R: Threads + Sync>(
     Some(told(called(rt, alloc, given, library, file, workers)))
 }
 
-#[test]
-fn what_is_needed_is_loaded(rt: HostRuntime) {
-    let cases = [
-        // both members, and not the lazy object
-        (
-            needs_a(),
-            defines_c(),
-            library(),
-            Outcome::Loaded([Some(1), Some(3), Some(4), None]),
-        ),
-        // a WEAK reference loads nothing
-        (
-            may_use_a(),
-            defines_c(),
-            library(),
-            Outcome::Loaded([Some(1), None, None, None]),
-        ),
-        // the lazy object is the least that defines `a`, and needs `b`
-        (
-            needs_a(),
-            defines_a(),
-            library(),
-            Outcome::Loaded([Some(1), Some(2), Some(4), None]),
-        ),
-        // the index gives `a` for a member that doesn't define it
-        (
-            needs_a(),
-            defines_c(),
-            lying_library(),
-            Outcome::IndexLies(4, true),
-        ),
-    ];
-    for (plain, lazy, library, answer) in cases {
+/// A plain object, a lazy one, a library, and what is loaded of them.
+type Case = (&'static [u8], &'static [u8], &'static [u8], Outcome);
+
+/// Whether each case loads so, whoever reads ahead.
+fn are_loaded<R: Threads + Sync>(rt: &R, alloc: Global, cases: &[Case]) -> bool {
+    for (plain, lazy, library, outcome) in cases {
         for workers in [1, 2, 64] {
-            assert_eq!(rt;
-                what_is_loaded(&rt, rt.alloc(), workers, plain, lazy, library),
-                Some(answer)
-            );
+            if what_is_loaded(rt, alloc, workers, plain, lazy, library) != Some(*outcome) {
+                return false;
+            }
         }
     }
+    true
+}
+
+fn cases() -> [Case; 4] {
+    let members = Outcome::Loaded([Some(1), Some(3), Some(4), None]);
+    let none_more = Outcome::Loaded([Some(1), None, None, None]);
+    let lazy_one = Outcome::Loaded([Some(1), Some(2), Some(4), None]);
+    let lies = Outcome::IndexLies(4, true);
+    [
+        // both members, and not the lazy object
+        (needs_a(), defines_c(), library(), members),
+        // a WEAK reference loads nothing
+        (may_use_a(), defines_c(), library(), none_more),
+        // the lazy object is the least that defines `a`, and needs `b`
+        (needs_a(), defines_a(), library(), lazy_one),
+        // the index gives `a` for a member that doesn't define it
+        (needs_a(), defines_c(), lying_library(), lies),
+    ]
+}
+
+#[test]
+fn what_is_needed_is_loaded(rt: HostRuntime) {
+    assert!(rt; are_loaded(&rt, rt.alloc(), &cases()));
 }

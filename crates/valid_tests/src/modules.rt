@@ -238,7 +238,7 @@ fn blocks_and_branches_are_typed(rt: HostRuntime) -> Result<(), Fail> {
 }
 
 #[test]
-fn names_in_bodies_are_there(rt: HostRuntime) -> Result<(), Fail> {
+fn functions_that_are_called_are_there(rt: HostRuntime) -> Result<(), Fail> {
     let alloc = rt.alloc();
     let cases = [
         // a function that is not there
@@ -255,6 +255,15 @@ fn names_in_bodies_are_there(rt: HostRuntime) -> Result<(), Fail> {
             0,
             b"\0asm\x01\0\0\0\x01\x06\x01\x60\x01\x7f\x01\x7f\x03\x02\x01\0\x04\x04\x01o\0\x01\x0a\x0b\x01\x09\0\x20\0\x20\0\x11\0\0\x0b".as_slice(),
         ),
+    ];
+    assert!(rt; hold(alloc, &cases));
+    Ok(())
+}
+
+#[test]
+fn names_in_bodies_are_there(rt: HostRuntime) -> Result<(), Fail> {
+    let alloc = rt.alloc();
+    let cases = [
         // a var global that is set
         valid(
             b"\0asm\x01\0\0\0\x01\x04\x01\x60\0\0\x03\x02\x01\0\x06\x06\x01\x7f\x01A\x05\x0b\x0a\x08\x01\x06\0A\x01\x24\0\x0b".as_slice(),
