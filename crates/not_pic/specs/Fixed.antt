@@ -6,17 +6,20 @@ use Rattle.object_file.specs.body_windows.declared.operand.Operand.{Operand}
 use Rattle.object_file.specs.body_windows.declared.operand.Operand.TheVariants as operands
 use Rattle.object_file.specs.object_columns.declared.functions.FunctionDef.{FunctionDef}
 use Rattle.object_file.specs.declared.object.Object.{Object}
+use Rattle.object_file.specs.reloc_section.declared.kinds.TheConstants as relocs
 use Rattle.mark_bits.specs.declared.chunk.Chunk.{Chunk}
+use Rattle.mark_bits.specs.declared.kinds.TheConstants as chunk_kinds
 use Rattle.mark_bits.specs.Words.{bit_of}
 
 -- A relocation: the input of its object, its symbol and its type.
 abbrev pub Fixed : Type 0
 Fixed = ℕ × ℕ × ℕ
 
--- The relocation types 1, 3 and 4 hold absolute slots and addresses, and 11 and 12 hold those relative to a base, which no foreign symbol
--- has.
+-- A relocation's type holds an absolute slot or address, or one relative to a base, which no foreign symbol has.
 abbrev pub is_fixed : ℕ → Bool → Bool
-is_fixed kind foreign = (kind == 1) || (kind == 3) || (kind == 4) || (((kind == 11) || (kind == 12)) && foreign)
+is_fixed kind foreign =
+    (kind == relocs.TABLE_INDEX_SLEB) || (kind == relocs.MEMORY_ADDR_LEB) || (kind == relocs.MEMORY_ADDR_SLEB)
+    || (((kind == relocs.MEMORY_ADDR_REL_SLEB) || (kind == relocs.TABLE_INDEX_REL_SLEB)) && foreign)
 
 abbrev pub fixed_operand : ℕ → List Bool → Operand → Option Fixed
 fixed_operand input foreign operands.Number = None
@@ -42,7 +45,8 @@ abbrev pub is_live : List ℕ → List Chunk → Chunk → Bool
 is_live words chunks c = is_set words (position (same_chunk c) chunks)
 
 abbrev pub live_function : List ℕ → List Chunk → ℕ → List Bool → ℕ → FunctionDef → Option Fixed
-live_function words chunks input foreign index f = if is_live words chunks (record { input = input; kind = 0; index = index }) then in_function input foreign f.operands else None
+live_function words chunks input foreign index f =
+    if is_live words chunks (record { input = input; kind = chunk_kinds.FUNCTION; index = index }) then in_function input foreign f.operands else None
 
 -- the first among functions, from an index on
 abbrev pub functions_from : (ℕ → FunctionDef → Option Fixed) → ℕ → List FunctionDef → Option Fixed

@@ -5,15 +5,12 @@ ghost use Rattle.object_file.specs.object_columns.Seen.{function_seen};
 ghost use Rattle.not_pic.specs.Fixed.{is_fixed, fixed_operand, is_live, in_function, live_function, in_object, first_not_pic, AreFew};
 
 use body_windows::{Operand, OperandsRef};
-use mark_bits::{Chunk, ChunkTable, MarkSet};
+use mark_bits::{Chunk, ChunkTable, MarkSet, kinds};
 use object_file::{FunctionRef, Object};
 use reloc_section::kinds::{
     MEMORY_ADDR_LEB, MEMORY_ADDR_REL_SLEB, MEMORY_ADDR_SLEB, TABLE_INDEX_REL_SLEB, TABLE_INDEX_SLEB,
 };
 use wl_base::{InputId, Seq};
-
-/// The kind of a chunk that is a function.
-const FUNCTION: u8 = 0;
 
 /// A relocation: the input of its object, the number of its symbol, and its type.
 pub type Fixed = (InputId, u32, u8);
@@ -98,7 +95,7 @@ fn in_live(
 {
     let chunk = Chunk {
         input,
-        kind: FUNCTION,
+        kind: kinds::FUNCTION,
         index,
     };
     if is_live(live, chunks, chunk) {
