@@ -4,12 +4,12 @@ ghost use Rattle.name_entries.specs.link_names.Numbered.{AreNumbers};
 ghost use Rattle.name_entries.specs.View.{InputsRise};
 ghost use Rattle.name_entries.specs.Fits.{Fits, FitsObjects};
 
-use crate::objects::{grouped, numbered, read, strong, weak};
+use crate::objects::{grouped, named, strong, weak};
 use made_symbols::Mode;
 use name_entries::{Entries, EntryTable, Names, Object, PairCase};
 use std::alloc::Global;
 use std::thread::Threads;
-use weak_rules::{first_clash, first_duplicate, group_winners, inputs_rise, name_winners, resolve};
+use weak_rules::{first_clash, first_duplicate, group_winners, name_winners, resolve};
 use wl_fan::Workers;
 use wl_outside::OpenGate;
 
@@ -93,13 +93,8 @@ fn told<R: Threads + Sync>(
 
 /// What the names of these files answer.
 fn told_by<R: Threads + Sync>(rt: &R, alloc: Global, files: &[&[u8]]) -> Option<Answers> {
-    let read = read(alloc, files)?;
-    let objects = read.as_slice();
-    if !inputs_rise(objects) {
-        return None;
-    }
-    let names = numbered(alloc, objects)?;
-    told(rt, alloc, objects, &names)
+    let all = named(alloc, files)?;
+    told(rt, alloc, all.objects.as_slice(), &all.names)
 }
 
 #[test]

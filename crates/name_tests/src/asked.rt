@@ -4,7 +4,7 @@ ghost use Rattle.name_entries.specs.link_names.Numbered.{AreNumbers};
 ghost use Rattle.name_entries.specs.View.{InputsRise};
 ghost use Rattle.name_entries.specs.Fits.{Fits};
 
-use crate::objects::{grouped, numbered, read, strong, weak};
+use crate::objects::{grouped, named, strong, weak};
 use comdat_pick::pick;
 use made_symbols::Mode;
 use name_entries::{Entries, EntryTable, Names, Object};
@@ -13,7 +13,6 @@ use std::alloc::Global;
 use std::thread::Threads;
 use symbol_race::{race, rank};
 use test_kit::{Asked, Counted};
-use weak_rules::inputs_rise;
 use wl_fan::Workers;
 use wl_outside::OpenGate;
 
@@ -94,13 +93,8 @@ fn raced_over<R: Threads + Sync>(
     workers: u32,
 ) -> Option<BothRaces> {
     let workers = Workers::new(workers)?;
-    let read = read(alloc, files)?;
-    let objects = read.as_slice();
-    if !inputs_rise(objects) {
-        return None;
-    }
-    let names = numbered(alloc, objects)?;
-    raced(rt, alloc, objects, &names, workers)
+    let all = named(alloc, files)?;
+    raced(rt, alloc, all.objects.as_slice(), &all.names, workers)
 }
 
 #[test]

@@ -4,12 +4,12 @@ ghost use Rattle.name_entries.specs.link_names.Numbered.{AreNumbers};
 ghost use Rattle.name_entries.specs.View.{InputsRise};
 ghost use Rattle.name_entries.specs.Fits.{FitsObjects};
 
-use crate::objects::{numbered, read};
+use crate::objects::named;
 use name_entries::{Entries, EntryTable, Names, Object, TypeRef};
 use std::alloc::Global;
 use std::thread::Threads;
 use wasm_types::{GlobalType, ValType};
-use weak_rules::{group_winners, inputs_rise};
+use weak_rules::group_winners;
 use wl_fan::Workers;
 use wl_outside::OpenGate;
 
@@ -110,13 +110,8 @@ fn told<R: Threads + Sync>(
     files: &[&[u8]],
     object: u32,
 ) -> Option<[Option<Found>; 6]> {
-    let read = read(alloc, files)?;
-    let objects = read.as_slice();
-    if !inputs_rise(objects) {
-        return None;
-    }
-    let names = numbered(alloc, objects)?;
-    looked_up(rt, alloc, objects, &names, object)
+    let all = named(alloc, files)?;
+    looked_up(rt, alloc, all.objects.as_slice(), &all.names, object)
 }
 
 /// A symbol's kind, import and whether it defines its name.

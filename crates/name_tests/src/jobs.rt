@@ -3,14 +3,13 @@ ghost use Rattle.name_entries.specs.made_symbols.declared.mode.Mode.TheVariants.
 ghost use Rattle.name_entries.specs.link_names.Numbered.{AreNumbers};
 ghost use Rattle.name_entries.specs.View.{InputsRise};
 
-use crate::objects::{grouped, numbered, read, strong, weak};
+use crate::objects::{grouped, named, strong, weak};
 use made_symbols::Mode;
 use name_entries::{EntryTable, Names, Object};
 use name_jobs::{group_winners, name_winners};
 use std::alloc::Global;
 use std::thread::Threads;
 use symbol_race::rank;
-use weak_rules::inputs_rise;
 use wl_fan::Workers;
 use wl_outside::OpenGate;
 
@@ -59,13 +58,8 @@ fn winners_of<R: Threads + Sync>(
     workers: u32,
 ) -> Option<Won> {
     let workers = Workers::new(workers)?;
-    let read = read(alloc, files)?;
-    let objects = read.as_slice();
-    if !inputs_rise(objects) {
-        return None;
-    }
-    let names = numbered(alloc, objects)?;
-    raced(rt, alloc, objects, &names, workers)
+    let all = named(alloc, files)?;
+    raced(rt, alloc, all.objects.as_slice(), &all.names, workers)
 }
 
 #[test]

@@ -4,7 +4,7 @@ ghost use Rattle.name_entries.specs.link_names.Numbered.{AreNumbers};
 ghost use Rattle.name_entries.specs.View.{InputsRise};
 ghost use Rattle.name_unresolved.specs.Unresolved.{AreMeant};
 
-use crate::objects::{grouped, numbered, read};
+use crate::objects::{grouped, named};
 use made_symbols::Mode;
 use name_entries::{EntryTable, Meaning, Names, Object};
 use name_jobs::{group_winners, name_winners};
@@ -12,7 +12,6 @@ use name_meanings::{Resolution, resolve};
 use name_unresolved::laws::resolved_is_meant;
 use std::alloc::Global;
 use std::thread::Threads;
-use weak_rules::inputs_rise;
 use wl_fan::Workers;
 use wl_outside::OpenGate;
 
@@ -118,12 +117,14 @@ fn meant_by<R: Threads + Sync>(
     files: &[&[u8]],
     allow_undefined: bool,
 ) -> Option<Meant> {
-    let objects = read(alloc, files)?;
-    if !inputs_rise(objects.as_slice()) {
-        return None;
-    }
-    let names = numbered(alloc, objects.as_slice())?;
-    resolved(rt, alloc, objects.as_slice(), &names, allow_undefined)
+    let all = named(alloc, files)?;
+    resolved(
+        rt,
+        alloc,
+        all.objects.as_slice(),
+        &all.names,
+        allow_undefined,
+    )
 }
 
 /// Two files, whether undefined names are allowed, what their first symbols mean, and how many imports there are.

@@ -2,6 +2,7 @@
 ghost use Rattle.std.specs.Prelude.{IfSome};
 ghost use Rattle.name_entries.specs.made_symbols.declared.mode.Mode.TheVariants.{Plain};
 ghost use Rattle.name_entries.specs.link_names.Numbered.{AreNumbers};
+ghost use Rattle.name_entries.specs.View.{InputsRise};
 
 use made_symbols::Mode;
 use name_entries::{
@@ -9,6 +10,7 @@ use name_entries::{
     read_object,
 };
 use std::alloc::Global;
+use weak_rules::inputs_rise;
 use wl_base::Seq;
 
 /// An object of this input with nothing in it.
@@ -53,9 +55,16 @@ pub fn grouped() -> &'static [u8] {
     b"\0asm\x01\0\0\0\x01\x04\x01`\0\0\x03\x02\x01\0\x0a\x04\x01\x02\0\x0b\0\x1a\x07linking\x02\x08\x06\x01\0\0\0\x01f\x07\x07\x01\x01g\0\x01\x01\0".as_slice()
 }
 
-/// The objects that these bytes are, as the inputs from 1 on.
-pub fn read(alloc: Global, files: &[&[u8]]) -> Option<Vec<Object>> {
-    let mut objects = Vec::new(alloc);
+/// Objects that were read, and the numbers of their names.
+#[derive(Drop)]
+pub struct NamedObjects {
+    pub objects: Seq<Object>,
+    pub names: Names,
+}
+
+// The objects that these bytes are, as the inputs from 1 on.
+fn read(alloc: Global, files: &[&[u8]]) -> Option<Seq<Object>> {
+    let mut objects = Seq::new(alloc);
     let mut input: u32 = 1;
     for file in files {
         objects.push(read_object(alloc, input, file).ok()?).ok()?;
@@ -64,12 +73,25 @@ pub fn read(alloc: Global, files: &[&[u8]]) -> Option<Vec<Object>> {
     Some(objects)
 }
 
-/// The numbers of the names of these objects.
-pub fn numbered(alloc: Global, objects: &[Object]) -> Option<Names>
+// The numbers of the names of these objects.
+fn numbered(alloc: Global, objects: &[Object]) -> Option<Names>
     ensures { IfSome result (λ names. AreNumbers Plain objects.now names) }
 {
     match Names::new(alloc, Mode::Plain, &[], objects, 1 << 20) {
         Ok(names) => Some(names),
         Err(_) => None,
     }
+}
+
+/// The objects that these bytes are, as the inputs from 1 on, with their names.
+pub fn named(alloc: Global, files: &[&[u8]]) -> Option<NamedObjects>
+    ensures inputs { IfSome result (λ all. InputsRise 0 all.objects) }
+    ensures numbers { IfSome result (λ all. AreNumbers Plain all.objects all.names) }
+{
+    let objects = read(alloc, files)?;
+    if !inputs_rise(objects.as_slice()) {
+        return None;
+    }
+    let names = numbered(alloc, objects.as_slice())?;
+    Some(NamedObjects { objects, names })
 }
