@@ -12,6 +12,7 @@ use Rattle.linking_section.specs.Flags.{kind_code, is_undefined}
 use Rattle.object_columns.specs.declared.segments.SegmentDef.{SegmentDef}
 use Rattle.object_file.specs.declared.object.Object.{Object}
 use Rattle.object_file.specs.ObjectOf.{IsObject}
+use Rattle.object_file.specs.Addresses.{ReadsAddresses}
 use Rattle.object_file.specs.Bodies.{BodyStands}
 use Rattle.object_file.specs.Sound.{Sound as ObjectSound, NamesInRange, EndsIn}
 use Rattle.round_rules.specs.Rounds.{Candidate}
@@ -33,8 +34,9 @@ use Rattle.link_facts.specs.Loaded.{AreLoaded, ProgramsAreSound}
 use Rattle.link_facts.proofs.Symbols.{entry_known, OfObject, Known}
 use Rattle.link_facts.proofs.Parts.{Stood, as_function, as_segment, as_global, stood, one_function, made_behind, made_by_input, object_by_input, made_or_object}
 use Rattle.link_facts.proofs.SoundPrograms.{meant_known, export_is, made_calls, parts_are}
-use Rattle.link_facts.specs.Facts.{AreRead, Facts, FactsHold, bytes_of}
+use Rattle.link_facts.specs.Facts.{AreRead, Facts, FactsHold, IsReading, bytes_of}
 use Rattle.link_facts.proofs.Coded.{coded_at}
+use Rattle.link_facts.proofs.Reading.{reading_at}
 
 abbrev pub SoundLaw : Type 0
 SoundLaw = (input : ℕ) (bytes : List ℕ) (object : Object) → IsObject input bytes object → ObjectSound (length bytes) object
@@ -42,7 +44,10 @@ SoundLaw = (input : ℕ) (bytes : List ℕ) (object : Object) → IsObject input
 abbrev pub BodiesLaw : Type 0
 BodiesLaw = (input : ℕ) (bytes : List ℕ) (object : Object) → IsObject input bytes object → All (BodyStands bytes) object.functions
 
-module _ (sound_law : SoundLaw) (bodies_law : BodiesLaw) (stand_law : LoadedPartsStand) (program_law : ProgramsAreSound)
+abbrev pub AddressesLaw : Type 0
+AddressesLaw = (input : ℕ) (bytes : List ℕ) (object : Object) → IsObject input bytes object → All (ReadsAddresses bytes object) object.functions
+
+module _ (sound_law : SoundLaw) (bodies_law : BodiesLaw) (addresses_law : AddressesLaw) (stand_law : LoadedPartsStand) (program_law : ProgramsAreSound)
     (plan : Plan) (files : List (List ℕ)) (all : List Candidate) (objects : List Object) (homes : List Home) (read : AreRead files all objects homes)
     (clear : clash (entries Plain objects) ≡ None) where
   abbrev p : Program
@@ -94,6 +99,16 @@ module _ (sound_law : SoundLaw) (bodies_law : BodiesLaw) (stand_law : LoadedPart
 
   coded : (part : Part) → Has p.parts part → part.chunk.kind ≡ 0 → (part.chunk.input ≡ 0 → ⊥) → IsCoded p part
   coded part h z n = let s = in_object part h n in coded_in s.object s.there part z s.stands
+
+  reading_in : (o : Object) → Has objects o → (part : Part) → part.chunk.kind ≡ 0 → Stood all objects (res o) part → IsReading p part
+  unfolding program_of
+  reading_in o ho part z (as_function k f at e) =
+      let from = read.each o ho in
+      subst (IsReading p) (sym e)
+      (reading_at plan.allow_undefined objects o p all k f at from (object_sound o ho)
+      (all_has (ReadsAddresses (bytes_of files from.candidate) o) o.functions (addresses_law o.input (bytes_of files from.candidate) o from.is) f (has_at o.functions k f at)))
+  reading_in o ho part z (as_segment k g at e) = absurd (let q : part.chunk.kind ≡ 1 = ap (λ (x : Part). x.chunk.kind) e in omega (arith, q, z))
+  reading_in o ho part z (as_global k g at e) = absurd (let q : part.chunk.kind ≡ 2 = ap (λ (x : Part). x.chunk.kind) e in omega (arith, q, z))
 
   constant_in : (o : Object) → Has objects o → (part : Part) → part.chunk.kind ≡ 2 → Stood all objects (res o) part → IsGlobalPart part.content
   constant_in o ho part z (as_function k f at e) = absurd (let q : part.chunk.kind ≡ 0 = ap (λ (x : Part). x.chunk.kind) e in omega (arith, q, z))
@@ -169,11 +184,12 @@ module _ (sound_law : SoundLaw) (bodies_law : BodiesLaw) (stand_law : LoadedPart
           inside = λ e m t n part h c. inside e (⊎_elim (λ a. meant_known plan files all objects loaded clear e a) (λ b. let x = export_is plan files all objects loaded clear e b in (entry_known objects e x.0, x.1)) m) t n part h c;
         };
         coded = coded;
+        reads = λ part h z n. let s = in_object part h n in reading_in s.object s.there part z s.stands;
         calls = λ part ref h z r. made_calls plan files all objects loaded clear part ref (made_behind calls_to 0 (made Plain) part (made_in part h z)).0 r;
         made = made_one;
         constants = λ part h z n. let s = in_object part h n in constant_in s.object s.there part z s.stands;
       }
 
-pub all_facts : ProgramsAreSound → SoundLaw → BodiesLaw → LoadedPartsStand → FactsHold
+pub all_facts : ProgramsAreSound → SoundLaw → BodiesLaw → AddressesLaw → LoadedPartsStand → FactsHold
 unfolding program_of
-all_facts program_law sound_law bodies_law stand_law plan files all objects homes read clear = facts sound_law bodies_law stand_law program_law plan files all objects homes read clear clear
+all_facts program_law sound_law bodies_law addresses_law stand_law plan files all objects homes read clear = facts sound_law bodies_law addresses_law stand_law program_law plan files all objects homes read clear clear

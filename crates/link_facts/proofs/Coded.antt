@@ -12,6 +12,7 @@ use Rattle.body_windows.specs.Immediates.{immediates, may_stand, needs_window}
 use Rattle.body_windows.specs.declared.operand.Operand.{Operand}
 use Rattle.body_windows.specs.declared.operand.Operand.TheVariants as operands
 use Rattle.object_columns.specs.declared.functions.FunctionDef.{FunctionDef}
+use Rattle.object_parts.specs.Sections.{bytes_in}
 use Rattle.object_parts.specs.Spans.{LiesIn}
 use Rattle.object_file.specs.declared.object.Object.{Object}
 use Rattle.object_file.specs.Bodies.{IsOperandOf, AreOperandsOf, BodyStands}
@@ -21,6 +22,7 @@ use Rattle.made_symbols.specs.declared.mode.Mode.TheVariants.{Plain}
 use Rattle.name_rules.specs.Entries.{InputSymbol, entry_in, entries_from, symbols_of, entries}
 use Rattle.name_rules.specs.Meanings.{Meaning, Resolved, resolved_in, meaning, no_uses}
 use Rattle.link_rules.specs.Program.{Program, Ref, Named, a_symbol, ref_to, ref_in, operand_named, function_part, span_in}
+use Rattle.link_rules.specs.Values.{part_bytes}
 use Rattle.image_emit.specs.Bytes.{file_part}
 use Rattle.wasm_instr.specs.Bodies.{SpellsBody}
 use Rattle.output_module.specs.Filled.{StandsOn, AllStandOn, names_in}
@@ -79,16 +81,22 @@ module _ (allow : Bool) (objects : List Object) (o : Object) where
       onto None h = h
       onto (Some n) h = ap (λ ns. n ∷ ns) h
 
+  -- the bytes of a function in its object are those of its part
+  pub bytes_are : (p : Program) (all : List Candidate) (k : ℕ) (f : FunctionDef) → slice_get o.functions k ≡ Some f → (from : IsFrom p.files all o) → ObjectSound (length (bytes_of p.files from.candidate)) o
+      → bytes_in (bytes_of p.files from.candidate) f.span ≡ part_bytes p (function_part all objects res k f)
+  bytes_are p all k f at from sound =
+      let lies = all_has (λ (f : FunctionDef). LiesIn (length (bytes_of p.files from.candidate)) f.span) o.functions sound.bodies f (has_at o.functions k f at) in
+      let c = from.candidate in
+      part_in f.span.start f.span.len c.len c.start (slice_index_or p.files c.file []) lies ∙ ap (λ d. file_part p.files (span_in d f.span)) (sym from.found)
+
   pub coded_at : (p : Program) (all : List Candidate) (k : ℕ) (f : FunctionDef) → slice_get o.functions k ≡ Some f → (from : IsFrom p.files all o) → ObjectSound (length (bytes_of p.files from.candidate)) o
       → BodyStands (bytes_of p.files from.candidate) f → IsCoded p (function_part all objects res k f)
   coded_at p all k f at from sound b =
-      let lies = all_has (λ (f : FunctionDef). LiesIn (length (bytes_of p.files from.candidate)) f.span) o.functions sound.bodies f (has_at o.functions k f at) in
       let names = all_has (λ (f : FunctionDef). All (OperandNames o) f.operands) o.functions sound.operand_names f (has_at o.functions k f at) in
-      let c = from.candidate in
       record {
         body = b.body;
         stands = map (operand_named res) f.operands;
-        spelled = subst (SpellsBody b.body) (part_in f.span.start f.span.len c.len c.start (slice_index_or p.files c.file []) lies ∙ ap (λ d. file_part p.files (span_in d f.span)) (sym from.found)) b.spelled;
+        spelled = subst (SpellsBody b.body) (bytes_are p all k f at from sound) b.spelled;
         on = all_stand (immediates b.body.code) f.operands b.operands (λ x h. all_has (OperandNames o) f.operands names x h);
         named = named_same (operand_named res) f.operands;
       }

@@ -9,4 +9,7 @@ pub mod Refs
 pub mod SoundPrograms
 mod Bytes
 mod Coded
+mod Reading
 mod AllFacts
+pub mod Steps
+pub mod Loads

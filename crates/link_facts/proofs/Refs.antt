@@ -31,11 +31,12 @@ pub record IsRef (allow : Bool) (objects : List Object) (o : Object) (kind place
   pub meant : ref.meaning ≡ meaning Plain no_uses allow (entries Plain objects) ref.entry
   pub kind_is : ref.kind ≡ kind
 
--- A reference, and the place of its symbol, such that a call of the kind 0 names a function.
+-- A reference, and the place of its symbol, which is of a kind that the reference's type names: a call, of the kind 0, names a function.
 pub record Names (allow : Bool) (objects : List Object) (o : Object) (ref : Ref) : Type 0 where
   pub kind : ℕ
   pub place : ℕ
   pub is : IsRef allow objects o kind place ref
+  pub asked : IsTrue (may_name kind is.symbol.kind)
   pub function : kind ≡ 0 → is.symbol.kind ≡ Function
 
 module _ (allow : Bool) (objects : List Object) (o : Object) where
@@ -45,7 +46,7 @@ module _ (allow : Bool) (objects : List Object) (o : Object) where
   abbrev mean : InputSymbol → Meaning
   mean = meaning Plain no_uses allow (entries Plain objects)
 
-  ref_is : (place kind symbol : ℕ) (addend : ℤ) (ref : Ref) → ref_in res place kind symbol addend ≡ Some ref → IsRef allow objects o kind symbol ref
+  pub ref_is : (place kind symbol : ℕ) (addend : ℤ) (ref : Ref) → ref_in res place kind symbol addend ≡ Some ref → IsRef allow objects o kind symbol ref
   ref_is place kind symbol addend ref h = by_entry (slice_get (symbols_of objects o) symbol) refl (subst (λ m. ref_to place kind addend (slice_get (symbols_of objects o) symbol) m ≡ Some ref) (slice_get-map mean (symbols_of objects o) symbol) h)
     where
       by_entry : (x : Option InputSymbol) → slice_get (symbols_of objects o) symbol ≡ x → ref_to place kind addend x (option_map mean x) ≡ Some ref → IsRef allow objects o kind symbol ref
@@ -85,7 +86,8 @@ module _ (allow : Bool) (objects : List Object) (o : Object) where
   operand_names operands.TableZero ref n h = absurd (grind arith)
   operand_names (operands.Symbol kind place symbol addend) ref n h =
       let r = ref_is place kind symbol addend ref (symbol_ref (ref_in res place kind symbol addend) h) in
-      record { kind = kind; place = symbol; is = r; function = calls_function kind r.symbol.kind (symbol_there (IsNamedBy kind) symbol r.symbol r.there n.1).0 }
+      let t = (symbol_there (IsNamedBy kind) symbol r.symbol r.there n.1).0 in
+      record { kind = kind; place = symbol; is = r; asked = t; function = calls_function kind r.symbol.kind t }
     where
       symbol_ref : (x : Option Ref) → option_map a_symbol x ≡ Some (a_symbol ref) → x ≡ Some ref
       symbol_ref None h = absurd (grind arith)
@@ -94,8 +96,9 @@ module _ (allow : Bool) (objects : List Object) (o : Object) where
   -- no window of data is a call, and none reads a cell
   pub window_names : (w : Reloc) (ref : Ref) → WindowNames o w → window_named res w ≡ Some (a_symbol ref) → Names allow objects o ref × (ref.kind ≡ 7 → ⊥)
   window_names w ref n h =
-      let r = ref_is w.offset w.kind w.index w.addend ref (symbol_ref (ref_in res w.offset w.kind w.index w.addend) h) in (
-        record { kind = w.kind; place = w.index; is = r; function = calls_function w.kind r.symbol.kind (symbol_there (IsNamedBy w.kind) w.index r.symbol r.there n.1).0 },
+      let r = ref_is w.offset w.kind w.index w.addend ref (symbol_ref (ref_in res w.offset w.kind w.index w.addend) h) in
+      let t = (symbol_there (IsNamedBy w.kind) w.index r.symbol r.there n.1).0 in (
+        record { kind = w.kind; place = w.index; is = r; asked = t; function = calls_function w.kind r.symbol.kind t },
         λ z. false≢true (subst (λ k. IsTrue (is_data_type k)) (sym r.kind_is ∙ z) n.0),
       )
     where
@@ -106,7 +109,8 @@ module _ (allow : Bool) (objects : List Object) (o : Object) where
   init_names : (i : InitFunc) (c : InitCall) → IsInit o (slice_get o.symbols i.symbol) → init_call res i ≡ Some c → Names allow objects o c.ref
   init_names i c n h =
       let r = ref_is 0 0 i.symbol (pos 0) c.ref (call_ref (ref_in res 0 0 i.symbol (pos 0)) h) in
-      record { kind = 0; place = i.symbol; is = r; function = λ _. by_kind r.symbol.kind (symbol_there (IsInit o) i.symbol r.symbol r.there n).0 }
+      let f = by_kind r.symbol.kind (symbol_there (IsInit o) i.symbol r.symbol r.there n).0 in
+      record { kind = 0; place = i.symbol; is = r; asked = ap (may_name 0) f; function = λ _. f }
     where
       call_ref : (x : Option Ref) → option_map (λ ref. record { priority = i.priority; ref = ref }) x ≡ Some c → x ≡ Some c.ref
       call_ref None h = absurd (grind arith)

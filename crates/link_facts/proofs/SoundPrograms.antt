@@ -8,7 +8,7 @@ use Rattle.list_places.proofs.Lists.{has_at, has_filter, has_flat, flat_has, map
 use Rattle.wl_base.specs.Choice.{distinct}
 use Rattle.linking_section.specs.declared.symbol.Symbol.{Symbol}
 use Rattle.linking_section.specs.declared.symbol.SymbolKind.{SymbolKind}
-use Rattle.linking_section.specs.declared.symbol.SymbolKind.TheVariants.{Function, GlobalVar}
+use Rattle.linking_section.specs.declared.symbol.SymbolKind.TheVariants.{Function, Datum, GlobalVar}
 use Rattle.linking_section.specs.Flags.{kind_code, is_weak}
 use Rattle.object_columns.specs.declared.functions.FunctionDef.{FunctionDef}
 use Rattle.object_columns.specs.declared.segments.SegmentDef.{SegmentDef}
@@ -91,7 +91,12 @@ module _ (plan : Plan) (files : List (List ℕ)) (all : List Candidate) (objects
   type_kind : (o : Object) (s : Symbol) (kind : SymbolKind) → s.kind ≡ kind → type_in o s s.kind ≡ type_in o s kind
   type_kind o s kind h = ap (type_in o s) h
 
-  import_type : (r : InputSymbol) → Known objects r → (k : ImportKey) → r.import ≡ Some k → (kind : SymbolKind) → r.symbol.kind ≡ kind → (kind ≡ Function → is_function_type k.type ≡ true) × (kind ≡ GlobalVar → is_global_type k.type ≡ true)
+  no_import : (o : Object) (s : Symbol) (k : ImportKey) → s.kind ≡ Datum → option_map (key_of (type_in o s s.kind)) (import_in o s s.kind) ≡ Some k → ⊥
+  no_import o s k d h = absurd (let q : None ≡ Some k = sym (ap (λ kind. option_map (key_of (type_in o s kind)) (import_in o s kind)) d) ∙ h in grind arith)
+
+  -- an import has the type of its symbol's kind, and a datum has none
+  pub import_type : (r : InputSymbol) → Known objects r → (k : ImportKey) → r.import ≡ Some k → (kind : SymbolKind) → r.symbol.kind ≡ kind
+      → (kind ≡ Function → is_function_type k.type ≡ true) × (kind ≡ GlobalVar → is_global_type k.type ≡ true) × (kind ≡ Datum → ⊥)
   import_type r (inl x) k h kind e = absurd (let q : None ≡ Some k = sym (ap (λ (w : InputSymbol). w.import) x.is) ∙ h in grind arith)
   import_type r (inr x) k h kind e =
       let o = x.object in
@@ -99,7 +104,8 @@ module _ (plan : Plan) (files : List (List ℕ)) (all : List Candidate) (objects
       let q = import_some (key_of (type_in o s s.kind)) (import_in o s s.kind) k (sym (ap (λ (w : InputSymbol). w.import) x.symbol.is) ∙ h) in
       let t : k.type ≡ type_in o s s.kind = sym (ap (λ (w : ImportKey). w.type) q.1) in
       let sk : s.kind ≡ kind = sym (ap (λ (w : InputSymbol). w.symbol.kind) x.symbol.is) ∙ e in
-      (λ f. ap is_function_type (t ∙ type_kind o s Function (sk ∙ f)), λ g. ap is_global_type (t ∙ type_kind o s GlobalVar (sk ∙ g)))
+      let stood = sym (ap (λ (w : InputSymbol). w.import) x.symbol.is) ∙ h in
+      (λ f. ap is_function_type (t ∙ type_kind o s Function (sk ∙ f)), λ g. ap is_global_type (t ∙ type_kind o s GlobalVar (sk ∙ g)), λ d. no_import o s k (sk ∙ d) stood)
 
   module _ (o : Object) (ho : Has objects o) (ref : Ref) (n : Names plan.allow_undefined objects o ref) where
     e_kind : ref.entry.symbol.kind ≡ n.is.symbol.kind

@@ -1,6 +1,9 @@
 -- What holds of the program of objects that were read from their candidates' bytes, whatever the link finds at fault later.
 use Rattle.std.specs.Prelude.{◌≡◌, ◌==◌, ℕ, true, List, [], take, drop, slice_index_or, find, Some, None}
 use Rattle.list_places.specs.Has.{Has}
+use Rattle.wasm_instr.specs.declared.body.Body.{Body}
+use Rattle.wasm_instr.specs.declared.body.Placed.{Placed}
+use Rattle.wasm_instr.specs.Bodies.{SpellsBody}
 use Rattle.object_parts.specs.declared.parts.GlobalDef.{GlobalDef}
 use Rattle.object_file.specs.declared.object.Object.{Object}
 use Rattle.object_file.specs.ObjectOf.{IsObject}
@@ -12,9 +15,11 @@ use Rattle.name_rules.specs.Cases.{clash}
 use Rattle.link_rules.specs.Program.{Program, program_of, Part, Ref, refs}
 use Rattle.link_rules.specs.Marks.{exported}
 use Rattle.link_rules.specs.Keys.{is_function_at}
+use Rattle.link_rules.specs.Values.{part_bytes}
 use Rattle.link_program.specs.declared.home.Home.{Home}
 use Rattle.link_program.specs.Loaded.{IsLoaded}
 use Rattle.link_worlds.specs.Sound.{Sound, SoundExports, IsConstant, IsGlobalPart}
+use Rattle.output_module.specs.Filled.{Reads}
 use Rattle.output_module.specs.Outputs.{IsCoded}
 use Rattle.link_facts.specs.Faults.{Measured}
 
@@ -34,12 +39,18 @@ pub record AreRead (files : List (List ℕ)) (all : List Candidate) (objects : L
   -- globals begin with constants
   pub constants : (o : Object) → Has objects o → (g : GlobalDef) → Has o.globals g → IsConstant g.value
 
+-- Of the body that a function's bytes spell, each instruction reads the address that it takes from a cell.
+abbrev pub IsReading : Program → Part → Type 0
+IsReading p part = (b : Body) → SpellsBody b (part_bytes p part) → (x : Placed) → Has b.code x → Reads part.named x
+
 pub record Facts (p : Program) (exports : List InputSymbol) : Type 0 where
   pub sound : Sound p
   pub exported : SoundExports p exports
   pub measured : Measured p exports
   -- each function of an object is a body with its references
   pub coded : (part : Part) → Has p.parts part → part.chunk.kind ≡ 0 → (part.chunk.input ≡ 0 → ⊥) → IsCoded p part
+  -- and sets globals alone
+  pub reads : (part : Part) → Has p.parts part → part.chunk.kind ≡ 0 → (part.chunk.input ≡ 0 → ⊥) → IsReading p part
   -- the linker's functions call what they refer to, and a plain output has one
   pub calls : (part : Part) (ref : Ref) → Has p.parts part → part.chunk.input ≡ 0 → Has (refs part) ref → ref.kind ≡ 0
   pub made : (part : Part) (n : ℕ) → Has p.parts part → is_function_at 0 n part ≡ true → n ≡ 0

@@ -22,12 +22,13 @@ pub fn programs_are_sound()
 
 /// Where no names clash, the program of objects that were read has all that its runs ask: references
 /// and exports name what is there, parts stand in their files, functions are bodies with their
-/// references, and globals begin with constants.
+/// references, which set no address, and globals begin with constants.
 pub fn facts_hold()
     ensures { FactsHold }
 {
     programs_are_sound();
     object_file::read_objects_are_sound();
     object_file::operands_stand_on_immediates();
+    object_file::addresses_are_only_read();
     program_build::laws::parts_stand();
 }

@@ -18,10 +18,7 @@ use Rattle.link_plan.specs.declared.plan.InputWord.{InputWord}
 use Rattle.link_rules.specs.Candidates.{Opened, object, library, opened, is_library, members_from, candidates_in, candidates_from, candidates_of, too_much_input, too_many_inputs, words_for}
 use Rattle.link_rules.specs.LinkOf.{the_readers}
 use Rattle.link_facts.specs.Facts.{bytes_of}
-
-pub guard : {A B F : Type 0} (t : Option F) (x : A) (f : A → Result B F) (y : B) → (unless t x >>= f) ≡ Ok y → (t ≡ None) × (f x ≡ Ok y)
-guard None x f y e = (refl, e)
-guard (Some g) x f y e = absurd (grind arith)
+use Rattle.link_facts.proofs.Steps.{guard}
 
 pub guarded : {A F : Type 0} (t : Option F) (x y : A) → unless t x ≡ Ok y → (t ≡ None) × (x ≡ y)
 guarded None x y e = (refl, grind arith)

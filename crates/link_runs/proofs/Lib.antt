@@ -1,6 +1,5 @@
 mod OutputsRun
 mod Candidates
-mod Steps
 mod Ranges
 mod Few
 mod Constants

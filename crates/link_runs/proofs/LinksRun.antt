@@ -6,7 +6,6 @@ use Rattle.list_places.proofs.Lists.{has_at, all_has}
 use Rattle.object_file.specs.declared.object.Object.{Object}
 use Rattle.object_file.specs.ObjectOf.{object_of}
 use Rattle.object_file.proofs.Read.{object_found}
-use Rattle.wasm_instr.specs.BodyLaws.{body_again}
 use Rattle.round_rules.specs.Rounds.{Candidate}
 use Rattle.link_plan.specs.declared.plan.Plan.{Plan}
 use Rattle.made_symbols.specs.declared.mode.Mode.TheVariants.{Plain}
@@ -15,7 +14,6 @@ use Rattle.name_rules.specs.Cases.{clash}
 use Rattle.link_rules.specs.Candidates.{candidates_of}
 use Rattle.link_rules.specs.Program.{Program, program_of, Part}
 use Rattle.link_rules.specs.Marks.{live, exported}
-use Rattle.link_rules.specs.Values.{part_bytes}
 use Rattle.link_rules.specs.LinkOf.{asked_names, the_readers}
 use Rattle.link_program.specs.Loaded.{home_of, IsLoaded, IsReadFrom}
 use Rattle.link_inputs.specs.Loaded.{LoadedAreSound}
@@ -24,9 +22,9 @@ use Rattle.link_worlds.proofs.Live.{live_part}
 use Rattle.output_module.specs.Filled.{Reads}
 use Rattle.output_module.specs.Outputs.{IsCoded}
 use Rattle.link_facts.specs.Faults.{NoFault}
-use Rattle.link_facts.specs.Facts.{IsFrom, Facts, FactsHold, bytes_of}
+use Rattle.link_facts.specs.Facts.{IsFrom, IsReading, Facts, FactsHold, bytes_of}
 use Rattle.link_runs.specs.Runs.{IsRun, IsAccepted, Gives, OutputRuns}
-use Rattle.link_runs.specs.Links.{ReadsAddresses, LinksRun}
+use Rattle.link_runs.specs.Links.{LinksRun}
 use Rattle.link_runs.proofs.Ranges.{IsRanged}
 use Rattle.link_runs.proofs.Candidates.{found, candidates_read}
 use Rattle.image_emit.specs.Bytes.{Tree, bytes_of as bytes_of_tree}
@@ -42,9 +40,9 @@ use Rattle.object_parts.specs.declared.parts.GlobalDef.{GlobalDef}
 use Rattle.link_plan.specs.Plan.{IsPlan}
 use Rattle.link_rules.specs.Output.{image}
 use Rattle.link_rules.specs.LinkOf.{output_fault}
-use Rattle.link_facts.specs.Loaded.{AreLoaded}
+use Rattle.link_facts.proofs.Loads.{are_loaded}
+use Rattle.link_facts.proofs.Steps.{is_marked, is_linked, is_link}
 use Rattle.name_rules.specs.Entries.{entries as entries_of}
-use Rattle.link_runs.proofs.Steps.{is_marked, is_linked, is_link}
 
 is_from : (plan : Plan) (files : List (List ℕ)) (all : List Candidate) (objects : List Object) → candidates_of the_readers plan files ≡ Ok all → IsLoaded files all objects (map home_of all)
     → (o : Object) → Has objects o → IsFrom files all o
@@ -58,20 +56,17 @@ is_from plan files all objects c loaded o h =
       is = object_found o.input (bytes_of files d) o (ap (λ n. object_of n (bytes_of files d)) (sym each.2.input) ∙ sym r ∙ each.2.object);
     }
 
-run : (p : Program) (exports : List InputSymbol) → ReadsAddresses p exports → (part : Part) → Has (live p exports) part → part.chunk.kind ≡ 0 → (part.chunk.input ≡ 0 → ⊥) → IsCoded p part → IsRun p part
-run p exports opens part h k i c = record {
-  coded = c;
-  reads = λ x m. subst (λ ns. Reads ns x) c.named (opens.reads part h k i c.body (body_again (part_bytes p part) c.body c.spelled) x m);
-}
+run : (p : Program) (part : Part) → IsReading p part → IsCoded p part → IsRun p part
+run p part reads c = record { coded = c; reads = λ x m. subst (λ ns. Reads ns x) c.named (reads c.body c.spelled x m) }
 
-accepted : ((t : Tree) → entries t ≤ length (bytes_of_tree t)) → (p : Program) (exports : List InputSymbol) → ReadsAddresses p exports → IsRanged (linked_tree p (live p exports) exports (layout_of p exports))
+accepted : ((t : Tree) → entries t ≤ length (bytes_of_tree t)) → (p : Program) (exports : List InputSymbol) → IsRanged (linked_tree p (live p exports) exports (layout_of p exports))
     → Facts p exports → NoFault p exports (layout_of p exports) → IsAccepted p exports
-accepted law p exports opens ranged f n = record {
+accepted law p exports ranged f n = record {
   sound = f.sound;
   exported = f.exported;
   measured = f.measured;
   no_fault = n;
-  functions = λ part h k i. run p exports opens part h k i (f.coded part (live_part p exports part h) k i);
+  functions = λ part h k i. let l = live_part p exports part h in run p part (f.reads part l k i) (f.coded part l k i);
   calls = λ part ref h. f.calls part ref (live_part p exports part h);
   made = λ part n h. f.made part n (live_part p exports part h);
   constants = λ part h. f.constants part (live_part p exports part h);
@@ -88,12 +83,6 @@ module _ (plan : Plan) (files : List (List ℕ)) (all : List Candidate) (objects
   unfolding program_of
   entries_are = refl
 
-  are_loaded : IsLoaded files all objects (map home_of all) → AreLoaded objects
-  are_loaded loaded = record {
-    rise = loaded.rise;
-    each = λ o h. let each = all_has (λ (o : Object). (c : Candidate) × (slice_get all (o.input - 1) ≡ Some c) × IsReadFrom files c o) objects loaded.each o h in (each.0.len, each.2.sound);
-  }
-
   in_ranges : ((t : Tree) → entries t ≤ length (bytes_of_tree t)) → IsPlan plan → (loaded : IsLoaded files all objects (map home_of all)) → ((o : Object) → Has objects o → IsFrom files all o)
       → clash (program_of Plain plan files all objects).entries ≡ None
       → (let p = program_of Plain plan files all objects in let x = exported Plain p in Facts p x → NoFault p x (layout_of p x)
@@ -101,7 +90,7 @@ module _ (plan : Plan) (files : List (List ℕ)) (all : List Candidate) (objects
   in_ranges law fit loaded from clear f n o =
       let p = program_of Plain plan files all objects in
       let x = exported Plain p in
-      let are = are_loaded loaded in
+      let are = are_loaded files all objects (map home_of all) loaded in
       let clear' = ap clash (sym entries_are) ∙ clear in
       let named : (o : Object) → Has objects o → ObjectNamed o = λ o h. names_of o.input (bytes_of files (from o h).candidate) o (from o h).is in
       let fits : (o : Object) → Has objects o → (g : GlobalDef) → Has o.globals g → IsInRange g.value = λ o h g m. (constants_of o.input (bytes_of files (from o h).candidate) o (from o h).is g m).1 in
@@ -113,7 +102,7 @@ module _ (plan : Plan) (files : List (List ℕ)) (all : List Candidate) (objects
       (memory_fits p x (subst IsPlan (sym plan_is) fit) n.memory) s (table_fits p x n.table)
 
 pub links_law : ((t : Tree) → entries t ≤ length (bytes_of_tree t)) → OutputRuns → FactsHold → LoadedAreSound → LinksRun
-links_law law runs facts loads plan files bytes all objects fit long c l opens e =
+links_law law runs facts loads plan files bytes all objects fit long c l e =
     let p = program_of Plain plan files all objects in
     let loaded = (loads Plain plan files (asked_names plan) all objects long c l).1 in
     let from = is_from plan files all objects c loaded in
@@ -121,4 +110,4 @@ links_law law runs facts loads plan files bytes all objects fit long c l opens e
     let m = is_marked p (exported Plain p) bytes k.1 in
     let f = facts plan files all objects (map home_of all) (record { loaded = loaded; each = from; constants = λ o h g k. (constants_of o.input (bytes_of files (from o h).candidate) o (from o h).is g k).0 }) k.0 in
     let r = in_ranges plan files all objects law fit loaded from k.0 f m.0 m.2 in
-    subst (Gives p (exported Plain p)) m.1 (runs p (exported Plain p) (accepted law p (exported Plain p) opens r f m.0))
+    subst (Gives p (exported Plain p)) m.1 (runs p (exported Plain p) (accepted law p (exported Plain p) r f m.0))

@@ -16,9 +16,7 @@ pub fn outputs_run()
     link_facts::values_and_segments_fit();
 }
 
-/// Where `link_of` gives bytes, the same holds of them. This rests on one premise that no law of the
-/// readers says yet, `ReadsAddresses`: no live function sets a global of which the window names a
-/// datum or a function.
+/// Where `link_of` gives bytes, the same holds of them.
 pub fn links_run()
     ensures { LinksRun }
 {

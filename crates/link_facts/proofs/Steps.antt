@@ -1,7 +1,7 @@
 -- Where a link gives bytes, no fault applies.
-use Rattle.std.proofs.Common.{◌≡◌, ℕ, List, refl, subst, None, arith}
+use Rattle.std.proofs.Common.{◌≡◌, ℕ, List, refl, subst, Option, Some, None, arith}
 use Rattle.std.specs.Prelude.{Result, Ok}
-use Rattle.wl_base.specs.Choice.{◌>>=◌}
+use Rattle.wl_base.specs.Choice.{unless, ◌>>=◌}
 use Rattle.object_file.specs.declared.object.Object.{Object}
 use Rattle.round_rules.specs.Rounds.{Candidate, load}
 use Rattle.link_plan.specs.declared.plan.Plan.{Plan}
@@ -15,7 +15,10 @@ use Rattle.link_rules.specs.Output.{image, source_windows}
 use Rattle.link_rules.specs.LinkOf.{asked_names, the_readers, link_of, link_by, link_program, marked, laid_out, written, output_bytes, too_many_names, memory_fault, table_fault, output_fault, reference_fault}
 use Rattle.link_worlds.specs.Worlds.{layout_of}
 use Rattle.link_facts.specs.Faults.{NoFault}
-use Rattle.link_runs.proofs.Candidates.{guard}
+
+pub guard : {A B F : Type 0} (t : Option F) (x : A) (f : A → Result B F) (y : B) → (unless t x >>= f) ≡ Ok y → (t ≡ None) × (f x ≡ Ok y)
+guard None x f y e = (refl, e)
+guard (Some g) x f y e = absurd (grind arith)
 
 ok_is : {A F : Type 0} (x y : A) (r : Result A F) → r ≡ Ok x → r ≡ Ok y → x ≡ y
 ok_is x y r a b = grind arith
