@@ -13,7 +13,7 @@ use Rattle.linking_section.specs.declared.symbol.SymbolKind.TheVariants.{Functio
 use Rattle.made_symbols.specs.declared.mode.Mode.TheVariants.{Plain}
 use Rattle.mark_bits.specs.declared.chunk.Chunk.{Chunk}
 use Rattle.live_mark.specs.Live.{ReachedLaw}
-use Rattle.name_rules.specs.Entries.{InputSymbol, ImportKey, is_kind, name_of}
+use Rattle.name_rules.specs.Entries.{InputSymbol, ImportKey, is_kind, name_of, same_import}
 use Rattle.name_rules.specs.Meanings.{Meaning, here, imported, null, nothing}
 use Rattle.link_rules.specs.Program.{Program, Part, Ref, refs, same_chunk, chunk_at, chunk_of, chunk_by, meant_chunk}
 use Rattle.link_rules.specs.Marks.{live, unresolved, refs_of}
@@ -26,7 +26,7 @@ use Rattle.link_worlds.proofs.Keys.{functions_same, types_same, import_itself, c
 use Rattle.link_worlds.proofs.Live.{live_part, live_closed, ref_listed, resolved}
 use Rattle.link_worlds.proofs.Refs.{distinct_has, own_here, function_pairs}
 use Rattle.key_laws.specs.Standing.{IsNumbered, HasFunction, HasSlot, HasType, HasSegment, HasDatum, HasAddress}
-use Rattle.key_laws.proofs.Kinds.{IsAsked}
+use Rattle.key_laws.proofs.Asked.{IsAsked}
 
 -- ---- numbers of keys that are there
 

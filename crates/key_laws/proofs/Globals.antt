@@ -26,7 +26,7 @@ use Rattle.link_worlds.proofs.Refs.{distinct_has, own_here, cell_pairs}
 use Rattle.object_rules.specs.Relocs.{may_name}
 use Rattle.link_facts.proofs.Meant.{code_kind}
 use Rattle.key_laws.specs.Standing.{HasFunction, HasSlot, HasGlobal, HasDatum, HasCell, HasHeld, HasExported}
-use Rattle.key_laws.proofs.Kinds.{IsAsked, cell_names}
+use Rattle.key_laws.proofs.Asked.{IsAsked, cell_names}
 use Rattle.key_laws.proofs.Functions.{numbered, by_place, function_there, segment_there, slot_there, datum_there, known}
 
 module _ (p : Program) (parts : List Part) (exports : List InputSymbol) where

@@ -1,7 +1,7 @@
 mod Stretches
 mod Lists
 mod Loaded
-mod Kinds
+mod Asked
 mod Functions
 mod Globals
 mod Standing

@@ -22,7 +22,7 @@ use Rattle.link_worlds.proofs.Live.{live_part}
 use Rattle.link_worlds.proofs.Functions.{stood}
 use Rattle.link_facts.specs.Loaded.{AreLoaded, ProgramsAreSound}
 use Rattle.key_laws.specs.Standing.{HasFunction, HasType, HasNamed, HasAsked, HasImported, AllStand, KeysStand}
-use Rattle.key_laws.proofs.Kinds.{IsAsked, slot_names, address_names, asked, calls}
+use Rattle.key_laws.proofs.Asked.{IsAsked, slot_names, address_names, asked, calls}
 use Rattle.key_laws.proofs.Functions.{known, called, slot_there, address_there, type_there, function_there, function_type, segment_there}
 use Rattle.key_laws.proofs.Globals.{each_global, read, export_there, held}
 
