@@ -1,7 +1,6 @@
 -- What was loaded from files was read, and its inputs rise.
 use Rattle.std.proofs.Common.{◌≡◌, ℕ, ◌-◌, List, Some}
 use Rattle.std.specs.Prelude.{slice_get}
-use Rattle.list_places.specs.Has.{Has}
 use Rattle.list_places.proofs.Lists.{all_has}
 use Rattle.object_file.specs.declared.object.Object.{Object}
 use Rattle.round_rules.specs.Rounds.{Candidate}

@@ -1,11 +1,8 @@
 -- The functions of objects read the addresses that they take from cells.
 use Rattle.std.proofs.Common.{◌≡◌, ℕ, List, length, Option, Some, None, Bool, false, refl, sym, ap, ◌∙◌, subst, arith}
 use Rattle.std.specs.Prelude.{◌==◌, slice_get, filter_map, option_map, ℤ}
-use Rattle.std.specs.List.{All}
 use Rattle.std.proofs.lemmas.Bool.{eqb-true}
-use Rattle.list_places.specs.Has.{Has}
 use Rattle.list_places.proofs.Lists.{all_has, find_has, has_pick, some_is}
-use Rattle.wasm_instr.specs.declared.body.Body.{Body}
 use Rattle.wasm_instr.specs.declared.body.Placed.{Placed}
 use Rattle.wasm_instr.specs.declared.instr.Instr.{Instr}
 use Rattle.wasm_instr.specs.declared.instr.Instr.TheVariants.{GlobalAt}
