@@ -1,5 +1,5 @@
 -- What references of the parts of loaded objects name: a symbol of a kind that the reference's type names, which means what is of the same kind.
-use Rattle.std.proofs.Common.{◌≡◌, ℕ, List, map, Some, true, false, refl, sym, ap, ◌∙◌, subst, inl, inr, ⊎_elim, arith}
+use Rattle.std.proofs.Common.{◌≡◌, ℕ, List, map, Some, None, true, false, refl, sym, ap, ◌∙◌, subst, inl, inr, ⊎_elim, arith}
 use Rattle.std.specs.Prelude.{◌⊎◌, ◌==◌, ◌||◌}
 use Rattle.std.proofs.lemmas.Bool.{eqb-true, or_cases}
 use Rattle.list_places.specs.Has.{Has}
