@@ -1,5 +1,5 @@
 -- What references of the parts of loaded objects name: a symbol of a kind that the reference's type names, which means what is of the same kind.
-use Rattle.std.proofs.Common.{◌≡◌, ℕ, List, map, Some, None, true, false, refl, sym, ap, ◌∙◌, subst, inl, inr, ⊎_elim, arith}
+use Rattle.std.proofs.Common.{◌≡◌, ℕ, List, map, None, true, false, refl, sym, ap, ◌∙◌, subst, inl, inr, ⊎_elim, arith}
 use Rattle.std.specs.Prelude.{◌⊎◌, ◌==◌, ◌||◌}
 use Rattle.std.proofs.lemmas.Bool.{eqb-true, or_cases}
 use Rattle.list_places.specs.Has.{Has}
@@ -13,7 +13,7 @@ use Rattle.made_symbols.specs.declared.mode.Mode.TheVariants.{Plain}
 use Rattle.round_rules.specs.Rounds.{Candidate}
 use Rattle.link_plan.specs.declared.plan.Plan.{Plan}
 use Rattle.name_rules.specs.Entries.{InputSymbol, ImportKey, is_entry, is_named, name_of, entries}
-use Rattle.name_rules.specs.Meanings.{Meaning, here, imported, nothing, Resolved, resolved_in, no_uses, meaning}
+use Rattle.name_rules.specs.Meanings.{Meaning, here, imported, Resolved, resolved_in, no_uses}
 use Rattle.name_rules.specs.Cases.{clash}
 use Rattle.link_rules.specs.Program.{Program, program_of, Part, Ref, refs, parts_of, init_calls}
 use Rattle.link_rules.specs.Keys.{is_function_type}

@@ -1,14 +1,12 @@
 -- The functions, slots, types and segments that live parts name stand in their lists.
-use Rattle.std.proofs.Common.{◌≡◌, ℕ, List, ◌++◌, map, Option, Some, None, Bool, true, false, refl, sym, ap, ◌∙◌, subst, ⊎_elim, arith}
-use Rattle.std.specs.Prelude.{◌⊎◌, ◌==◌, ◌&&◌, ◌||◌, not, slice_get, filter, filter_map, position, option_and_then, unwrap_or}
-use Rattle.std.specs.List.{list_any}
-use Rattle.std.proofs.lemmas.Bool.{and_from, eq-eqb, eqb-true, cond-false, not_from_false, or_left, or_right}
+use Rattle.std.proofs.Common.{◌≡◌, ℕ, List, ◌++◌, map, Option, Some, None, Bool, true, false, refl, sym, ap, ◌∙◌, subst, arith}
+use Rattle.std.specs.Prelude.{◌==◌, ◌&&◌, ◌||◌, slice_get, filter, position, option_and_then, unwrap_or}
+use Rattle.std.proofs.lemmas.Bool.{and_from, eq-eqb, eqb-true, cond-false, not_from_false}
 use Rattle.std.proofs.lemmas.Option.{option_and_then_some}
 use Rattle.list_places.specs.Has.{Has, Same, Stands}
-use Rattle.list_places.proofs.Lists.{by_test, has_left, has_right, placed, stands, some_is, map_has, pick_has, filter_has, has_filter, any_has}
+use Rattle.list_places.proofs.Lists.{by_test, has_left, placed, stands, some_is, map_has, pick_has, filter_has, any_has}
 use Rattle.wasm_types.specs.declared.function.FuncType.{FuncType}
 use Rattle.wasm_types.specs.Same.{same_type}
-use Rattle.linking_section.specs.declared.symbol.SymbolKind.{SymbolKind}
 use Rattle.linking_section.specs.declared.symbol.SymbolKind.TheVariants.{Function, Datum}
 use Rattle.made_symbols.specs.declared.mode.Mode.TheVariants.{Plain}
 use Rattle.mark_bits.specs.declared.chunk.Chunk.{Chunk}
@@ -17,11 +15,11 @@ use Rattle.name_rules.specs.Entries.{InputSymbol, ImportKey, is_kind, name_of, s
 use Rattle.name_rules.specs.Meanings.{Meaning, here, imported, null, nothing}
 use Rattle.link_rules.specs.Program.{Program, Part, Ref, refs, same_chunk, chunk_at, chunk_of, chunk_by, meant_chunk}
 use Rattle.link_rules.specs.Marks.{live, unresolved, refs_of}
-use Rattle.link_rules.specs.Keys.{FunctionKey, outside, stub, same_function, functions, function_imports_of, defined_functions, is_function_type, has_import, used_imports, imports_by, import_of, imports_in_order, ref_function, meant_function, function_of, is_null, takes_slot, may_have_slot, slots, is_taken, types, type_of, window_types, function_number}
+use Rattle.link_rules.specs.Keys.{FunctionKey, outside, same_function, functions, function_imports_of, defined_functions, is_function_type, has_import, used_imports, imports_by, import_of, imports_in_order, ref_function, meant_function, is_null, takes_slot, may_have_slot, slots, is_taken, types, type_of, window_types, function_number}
 use Rattle.link_rules.specs.Values.{Layout, segments}
 use Rattle.link_rules.specs.Output.{layout}
 use Rattle.link_worlds.specs.Names.{all_functions, renaming, FunctionGets}
-use Rattle.link_worlds.specs.Sound.{Sound, SoundRef, SoundHere, SoundImport, SoundMeaning, PartOf}
+use Rattle.link_worlds.specs.Sound.{Sound, SoundRef, SoundHere, SoundMeaning, PartOf}
 use Rattle.link_worlds.proofs.Keys.{functions_same, types_same, import_itself, chunk_itself}
 use Rattle.link_worlds.proofs.Live.{live_part, live_closed, ref_listed, resolved}
 use Rattle.link_worlds.proofs.Refs.{distinct_has, own_here, function_pairs}

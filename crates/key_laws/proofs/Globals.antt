@@ -2,7 +2,7 @@
 use Rattle.std.proofs.Common.{◌≡◌, ℕ, List, [], ◌++◌, map, Option, Some, None, Bool, true, false, refl, sym, ap, ◌∙◌, subst, inl, inr, ⊎_elim, arith}
 use Rattle.std.specs.Prelude.{◌⊎◌, ◌==◌, ◌&&◌, ◌||◌, not, filter, filter_map, position}
 use Rattle.std.proofs.lemmas.Bool.{and_from, and_parts, eq-eqb, eqb-true, cond-true, cond-false, not_from_false, or_right}
-use Rattle.list_places.specs.Has.{Has, Stands}
+use Rattle.list_places.specs.Has.{Has}
 use Rattle.list_places.proofs.Lists.{by_test, not_both, has_left, has_right, has_either, first_of, second_of, third_of, map_has, has_map, pick_has, has_pick, filter_has, has_filter, has_flat, distinct_only, given_some}
 use Rattle.wl_base.specs.Choice.{given}
 use Rattle.linking_section.specs.declared.symbol.SymbolKind.{SymbolKind}
@@ -15,7 +15,7 @@ use Rattle.name_rules.specs.Entries.{InputSymbol, ImportKey, is_kind, name_of}
 use Rattle.name_rules.specs.Meanings.{Meaning, here, imported, null, nothing}
 use Rattle.link_rules.specs.Program.{Program, Part, Ref, refs, chunk_at, chunk_of, chunk_by}
 use Rattle.link_rules.specs.Marks.{live, unresolved, refs_of}
-use Rattle.link_rules.specs.Keys.{GlobalKey, outside_global, linker_global, own_global, got, exported_datum, GotKey, got_entry, got_import, got_null, same_global, same_got, globals, used_globals, made_global_key, own_global_key, got_entries, needs_got, parts_of_kind, ref_got, got_of, datum_key, ref_global, meant_global, meant_function, global_of, function_of, is_null, is_global_type, has_import, used_imports, imports_by, imports_in_order, global_number}
+use Rattle.link_rules.specs.Keys.{GlobalKey, outside_global, linker_global, own_global, got, exported_datum, GotKey, same_global, same_got, globals, used_globals, made_global_key, own_global_key, got_entries, needs_got, parts_of_kind, ref_got, got_of, datum_key, ref_global, meant_global, meant_function, global_of, function_of, is_null, is_global_type, has_import, used_imports, imports_by, imports_in_order, global_number}
 use Rattle.link_rules.specs.Values.{Layout}
 use Rattle.link_rules.specs.Output.{layout}
 use Rattle.link_worlds.specs.Names.{all_cells, renaming, CellGets}
@@ -25,7 +25,7 @@ use Rattle.link_worlds.proofs.Live.{live_part, live_root, ref_listed}
 use Rattle.link_worlds.proofs.Refs.{distinct_has, own_here, cell_pairs}
 use Rattle.object_rules.specs.Relocs.{may_name}
 use Rattle.link_facts.proofs.Meant.{code_kind}
-use Rattle.key_laws.specs.Standing.{HasFunction, HasSlot, HasGlobal, HasDatum, HasCell, HasHeld, HasExported}
+use Rattle.key_laws.specs.Standing.{HasSlot, HasGlobal, HasDatum, HasCell, HasHeld, HasExported}
 use Rattle.key_laws.proofs.Asked.{IsAsked, cell_names}
 use Rattle.key_laws.proofs.Functions.{numbered, by_place, function_there, segment_there, slot_there, datum_there, known}
 

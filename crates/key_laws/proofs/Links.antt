@@ -1,7 +1,5 @@
 -- A link that gives bytes was of objects that were loaded, of which no names clash and nothing is unresolved.
-use Rattle.std.proofs.Common.{◌≡◌, ℕ, List, map}
-use Rattle.std.specs.Prelude.{Ok}
-use Rattle.object_file.specs.declared.object.Object.{Object}
+use Rattle.std.proofs.Common.{map}
 use Rattle.made_symbols.specs.declared.mode.Mode.TheVariants.{Plain}
 use Rattle.link_program.specs.Loaded.{home_of}
 use Rattle.link_inputs.specs.Loaded.{LoadedAreSound}

@@ -1,19 +1,17 @@
 -- The lists of keys have no repeats, whichever parts without repeats are live.
-use Rattle.std.proofs.Common.{◌≡◌, ℕ, List, [], ◌++◌, map, Some, Bool, true, refl, sym, ap, ◌∙◌, subst, arith}
+use Rattle.std.proofs.Common.{◌≡◌, ℕ, List, [], ◌++◌, map, Some, Bool, true, refl, sym, ap, ◌∙◌, arith}
 use Rattle.std.specs.Prelude.{◌==◌, ◌&&◌, not, filter, filter_map, bytes_eq}
 use Rattle.std.specs.List.{list_any}
-use Rattle.list_places.specs.Has.{Has, Apart, Same}
+use Rattle.list_places.specs.Has.{Apart, Same}
 use Rattle.list_places.proofs.Lists.{has_map, has_pick, turned, apart_map, apart_pick, apart_filter, apart_distinct, given_some}
-use Rattle.wl_base.specs.Choice.{given}
 use Rattle.wasm_types.specs.Same.{same_type}
 use Rattle.linking_section.specs.declared.symbol.SymbolKind.TheVariants.{Datum}
 use Rattle.made_symbols.specs.declared.mode.Mode.TheVariants.{Plain}
-use Rattle.mark_bits.specs.declared.chunk.Chunk.{Chunk}
 use Rattle.name_rules.specs.Entries.{InputSymbol, ImportKey, is_kind, name_of, same_import, same_entry}
 use Rattle.link_rules.specs.Program.{Program, Part, same_chunk}
 use Rattle.link_rules.specs.Marks.{refs_of}
 use Rattle.link_rules.specs.Keys.{FunctionKey, outside, linker_function, stub, own, GlobalKey, outside_global, linker_global, own_global, got, exported_datum, same_function, same_global, same_got, functions, function_imports_of, stub_names, calls_stub, made_function_key, own_function_key, is_function_type, is_global_type, has_import, used_imports, imports_by, imports_in_order, slots, is_taken, takes_slot, ref_function, globals, used_globals, made_global_key, own_global_key, got_entries, needs_got, parts_of_kind, ref_got, datum_key, types, type_of, window_types}
-use Rattle.link_rules.specs.Values.{Layout, segments}
+use Rattle.link_rules.specs.Values.{segments}
 use Rattle.link_rules.specs.Output.{layout}
 use Rattle.link_worlds.specs.Sound.{same_part}
 use Rattle.link_worlds.proofs.Apart.{imports_apart}
@@ -80,12 +78,12 @@ module _ (p : Program) (parts : List Part) (apart : Apart same_part parts) where
       let owns = filter_map own_function_key parts in
       let a : S 0 1 outs = one_sort same_function function_sort functions_sorted 0 outs (apart_map same_import same_function outside (λ x y h. h) ins (imports_for test)) (λ k h. let r = has_map outside ins k h in ap function_sort (sym r.2)) in
       let b : S 1 2 mades = one_sort same_function function_sort functions_sorted 1 mades (apart_pick same_part same_function made_function_key (made_pick same_function 0 linker_function (λ i j h. h)) parts apart)
-          (λ k h. let r = has_pick made_function_key parts k h in ap function_sort (sym (given_some ((r.0.chunk.input == 0) && (r.0.chunk.kind == 0)) (linker_function r.0.chunk.index) k r.2).1)) in
+      (λ k h. let r = has_pick made_function_key parts k h in ap function_sort (sym (given_some ((r.0.chunk.input == 0) && (r.0.chunk.kind == 0)) (linker_function r.0.chunk.index) k r.2).1)) in
       let c : S 2 3 stubs = one_sort same_function function_sort functions_sorted 2 stubs
-          (apart_map bytes_eq same_function stub (λ x y h. h) names (apart_distinct bytes_eq (turned bytes_eq bytes_same) [] (map name_of (filter (λ (e : InputSymbol). list_any (calls_stub (name_of e)) (refs_of parts)) p.entries)) tt))
-          (λ k h. let r = has_map stub names k h in ap function_sort (sym r.2)) in
+      (apart_map bytes_eq same_function stub (λ x y h. h) names (apart_distinct bytes_eq (turned bytes_eq bytes_same) [] (map name_of (filter (λ (e : InputSymbol). list_any (calls_stub (name_of e)) (refs_of parts)) p.entries)) tt))
+      (λ k h. let r = has_map stub names k h in ap function_sort (sym r.2)) in
       let d : S 3 4 owns = one_sort same_function function_sort functions_sorted 3 owns (apart_pick same_part same_function own_function_key (own_pick same_function 0 own (λ i x j y h. h)) parts apart)
-          (λ k h. let r = has_pick own_function_key parts k h in ap function_sort (sym (given_some (not (r.0.chunk.input == 0) && (r.0.chunk.kind == 0)) (own r.0.chunk.input r.0.chunk.index) k r.2).1)) in
+      (λ k h. let r = has_pick own_function_key parts k h in ap function_sort (sym (given_some (not (r.0.chunk.input == 0) && (r.0.chunk.kind == 0)) (own r.0.chunk.input r.0.chunk.index) k r.2).1)) in
       let e = beside same_function function_sort functions_sorted 1 2 3 mades stubs (omega arith) (omega arith) b c in
       let f = beside same_function function_sort functions_sorted 1 3 4 (mades ++ stubs) owns (omega arith) (omega arith) e d in
       (beside same_function function_sort functions_sorted 0 1 4 outs (mades ++ stubs ++ owns) (omega arith) (omega arith) a f).apart
@@ -116,14 +114,14 @@ module _ (p : Program) (parts : List Part) (apart : Apart same_part parts) where
         let dates = filter_map datum_key exports in
         let a : S 0 1 outs = one_sort same_global global_sort globals_sorted 0 outs (apart_map same_import same_global outside_global (λ x y h. h) ins (imports_for test)) (λ k h. let r = has_map outside_global ins k h in ap global_sort (sym r.2)) in
         let b : S 1 2 mades = one_sort same_global global_sort globals_sorted 1 mades (apart_pick same_part same_global made_global_key (made_pick same_global 2 linker_global (λ i j h. h)) parts apart)
-            (λ k h. let r = has_pick made_global_key parts k h in ap global_sort (sym (given_some ((r.0.chunk.input == 0) && (r.0.chunk.kind == 2)) (linker_global r.0.chunk.index) k r.2).1)) in
+        (λ k h. let r = has_pick made_global_key parts k h in ap global_sort (sym (given_some ((r.0.chunk.input == 0) && (r.0.chunk.kind == 2)) (linker_global r.0.chunk.index) k r.2).1)) in
         let c : S 2 3 owns = one_sort same_global global_sort globals_sorted 2 owns (apart_pick same_part same_global own_global_key (own_pick same_global 2 own_global (λ i x j y h. h)) parts apart)
-            (λ k h. let r = has_pick own_global_key parts k h in ap global_sort (sym (given_some (not (r.0.chunk.input == 0) && (r.0.chunk.kind == 2)) (own_global r.0.chunk.input r.0.chunk.index) k r.2).1)) in
+        (λ k h. let r = has_pick own_global_key parts k h in ap global_sort (sym (given_some (not (r.0.chunk.input == 0) && (r.0.chunk.kind == 2)) (own_global r.0.chunk.input r.0.chunk.index) k r.2).1)) in
         let d : S 3 4 gots = one_sort same_global global_sort globals_sorted 3 gots
-            (apart_map same_got same_global got (λ x y h. h) cells (apart_distinct same_got (turned same_got gots_same) [] (map ref_got (filter (needs_got Plain) (refs_of (parts_of_kind 0 parts)))) tt))
-            (λ k h. let r = has_map got cells k h in ap global_sort (sym r.2)) in
+        (apart_map same_got same_global got (λ x y h. h) cells (apart_distinct same_got (turned same_got gots_same) [] (map ref_got (filter (needs_got Plain) (refs_of (parts_of_kind 0 parts)))) tt))
+        (λ k h. let r = has_map got cells k h in ap global_sort (sym r.2)) in
         let e : S 4 5 dates = one_sort same_global global_sort globals_sorted 4 dates (apart_pick same_entry same_global datum_key datum_pick exports others)
-            (λ k h. let r = has_pick datum_key exports k h in ap global_sort (sym (given_some (is_kind Datum r.0) (exported_datum r.0) k r.2).1)) in
+        (λ k h. let r = has_pick datum_key exports k h in ap global_sort (sym (given_some (is_kind Datum r.0) (exported_datum r.0) k r.2).1)) in
         let f = beside same_global global_sort globals_sorted 1 2 3 mades owns (omega arith) (omega arith) b c in
         let g = beside same_global global_sort globals_sorted 1 3 4 (mades ++ owns) gots (omega arith) (omega arith) f d in
         let h = beside same_global global_sort globals_sorted 1 4 5 (mades ++ owns ++ gots) dates (omega arith) (omega arith) g e in

@@ -1,5 +1,5 @@
 -- Of loaded objects no two entries are the same, so no winner is exported twice; and no two parts are one, live or dead.
-use Rattle.std.proofs.Common.{◌≡◌, ℕ, ◌+◌, ◌<◌, ◌≤◌, List, [], ◌∷◌, ◌++◌, map, Bool, true, false, refl, sym, ap, ◌∙◌, subst, inl, inr, arith}
+use Rattle.std.proofs.Common.{◌≡◌, ℕ, ◌+◌, ◌<◌, ◌≤◌, List, [], ◌∷◌, map, Bool, true, false, refl, sym, ap, ◌∙◌, inl, inr, arith}
 use Rattle.std.specs.Prelude.{◌==◌, cond, filter, flat_map}
 use Rattle.std.proofs.lemmas.Bool.{and_parts, eqb-true}
 use Rattle.list_places.specs.Has.{Has, Apart}
@@ -9,7 +9,7 @@ use Rattle.made_symbols.specs.Made.{MadeSymbol, made}
 use Rattle.made_symbols.specs.declared.mode.Mode.TheVariants.{Plain}
 use Rattle.object_file.specs.declared.object.Object.{Object}
 use Rattle.name_entries.specs.View.{InputsRise}
-use Rattle.name_rules.specs.Entries.{InputSymbol, entry_in, entries_from, symbols_of, made_entry, made_from, entries, is_entry, same_entry}
+use Rattle.name_rules.specs.Entries.{InputSymbol, entries_from, symbols_of, made_from, entries, is_entry, same_entry}
 use Rattle.name_rules.specs.Meanings.{Resolved, resolved_in, resolve, no_uses}
 use Rattle.round_rules.specs.Rounds.{Candidate}
 use Rattle.link_plan.specs.declared.plan.Plan.{Plan}

@@ -1,6 +1,6 @@
 -- All keys that live parts, exports, imports, types, slots and cells name stand in their lists.
-use Rattle.std.proofs.Common.{◌≡◌, ℕ, List, ◌++◌, ◌∙◌, map, None, Bool, true, false, refl, sym, ap, subst, inl, inr, ⊎_elim, arith}
-use Rattle.std.specs.Prelude.{◌⊎◌, ◌==◌, ◌&&◌, ◌||◌, cond}
+use Rattle.std.proofs.Common.{◌≡◌, ℕ, List, ◌∙◌, map, None, Bool, true, false, refl, sym, ap, subst, ⊎_elim, arith}
+use Rattle.std.specs.Prelude.{◌==◌, ◌&&◌, ◌||◌, cond}
 use Rattle.std.proofs.lemmas.Bool.{eqb-true, or_left}
 use Rattle.list_places.specs.Has.{Has}
 use Rattle.list_places.proofs.Lists.{has_filter, pick_has, has_right, flat_has}
@@ -14,13 +14,13 @@ use Rattle.name_rules.specs.Entries.{InputSymbol, ImportKey, SymbolType, of_func
 use Rattle.name_rules.specs.Cases.{clash}
 use Rattle.link_rules.specs.Program.{Program, program_of, Part, Ref, refs, Named, a_symbol, a_type, named_ref, named_type, types_named}
 use Rattle.link_rules.specs.Marks.{exported, live, unresolved}
-use Rattle.link_rules.specs.Keys.{FunctionKey, outside, outside_global, GlobalKey, functions, slots, is_function_type, is_global_type, function_type_of, ref_function, type_of, window_types}
+use Rattle.link_rules.specs.Keys.{FunctionKey, outside, outside_global, GlobalKey, functions, slots, is_function_type, is_global_type, function_type_of, type_of, window_types}
 use Rattle.link_rules.specs.Values.{Layout, Asks, a_function, a_slot, an_address, a_global, a_table, asks}
 use Rattle.link_rules.specs.Output.{layout}
 use Rattle.link_worlds.specs.Sound.{Sound, SoundExports}
 use Rattle.link_worlds.proofs.Live.{live_part}
 use Rattle.link_worlds.proofs.Functions.{stood}
-use Rattle.link_facts.specs.Loaded.{AreLoaded, ProgramsAreSound}
+use Rattle.link_facts.specs.Loaded.{ProgramsAreSound}
 use Rattle.key_laws.specs.Standing.{HasFunction, HasType, HasNamed, HasAsked, HasImported, AllStand, KeysStand}
 use Rattle.key_laws.proofs.Asked.{IsAsked, slot_names, address_names, asked, calls}
 use Rattle.key_laws.proofs.Functions.{known, called, slot_there, address_there, type_there, function_there, function_type, segment_there}
