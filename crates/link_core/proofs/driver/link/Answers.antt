@@ -22,6 +22,11 @@ returns-in_err-ready-clause-exact g c =
     (goes_on_loaded c.args.plan.now c.args.files.now all c.in_ok-inputs.inputs.loaded (Err p.0) c.in_ok-inputs.ensures.found.candidates c.in_ok-inputs.ensures.found.objects
     (fails_by (link_program Plain (program_in l)) c.in_err-ready.field-0.0 p.0 p.2 c.in_err-ready.ensures.exact))
 
+pub returns-in_err-bytes-clause-exact : goal.returns-in_err-bytes-clause-exact
+returns-in_err-bytes-clause-exact g c =
+    let p = err_from_is_err_and c.from_residual-in_err-bytes.result c.from_residual-in_err-bytes.ensures.1 in
+    rw (p.1, p.2) tt
+
 pub returns-clause-exact : goal.returns-clause-exact
 returns-clause-exact g c =
     goes_on_loaded c.args.plan.now c.args.files.now (the_candidates c.args.plan.now c.args.files.now) c.in_ok-inputs.inputs.loaded (Ok (output_of c.args.files.now c.in_ok-ready.ready))
