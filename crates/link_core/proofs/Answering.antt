@@ -163,13 +163,6 @@ layout_is p parts es d ns program stand live meant numbering placed =
 
 -- ---- the output
 
--- The image of a stage, and the windows of its sources.
-abbrev pub the_image : Stage → Image
-the_image s = image Plain s.program s.parts s.exports (layout Plain s.program s.parts s.exports)
-
-abbrev pub the_windows : Stage → List (List Window)
-the_windows s = source_windows Plain s.program s.parts s.exports (layout Plain s.program s.parts s.exports)
-
 pub lie_there : (files others : List (List ℕ)) (i j : Image) → files ≡ others → j ≡ i → LieIn others i → LieIn files j
 lie_there files others i j same made lie = subst (λ k. LieIn files k) (sym made) (subst (λ fs. LieIn fs i) (sym same) lie)
 

@@ -3,3 +3,4 @@ pub mod Loading
 pub mod Linking
 pub mod Chosen
 pub mod Prepared
+pub mod Making

@@ -4,7 +4,8 @@ ghost use Rattle.std.specs.Prelude.{◌≡◌, length, unwrap_or, IfOk};
 ghost use Rattle.link_program.specs.made_symbols.declared.mode.Mode.TheVariants as modes;
 ghost use Rattle.link_program.specs.link_plan.Plan.{IsPlan};
 ghost use Rattle.link_program.specs.link_rules.Program as rules;
-ghost use Rattle.link_program.specs.link_rules.LinkOf.{link_of, link_program, laid_out};
+ghost use Rattle.link_program.specs.link_rules.LinkOf.{link_of, link_program, laid_out, written};
+ghost use Rattle.link_layout.specs.Layout.{IsLayout};
 ghost use Rattle.link_program.specs.Loaded.{IsLoaded};
 ghost use Rattle.link_program.specs.Program.{IsProgram};
 ghost use Rattle.link_program.specs.Stand.{PartsStand};
@@ -13,6 +14,7 @@ ghost use Rattle.link_core.specs.Answers.{Answers, IsShort};
 ghost use Rattle.link_core.specs.Chosen.{IsChosen, Chooses};
 ghost use Rattle.link_core.specs.Linking.{IsLinking};
 ghost use Rattle.link_core.specs.Loading.{Loading, program_in};
+ghost use Rattle.link_core.specs.Making.{the_image, the_windows};
 ghost use Rattle.link_core.specs.Prepared.{outputs, IsReady};
 
 use crate::chosen::Chosen;
@@ -147,22 +149,36 @@ fn lay_out(
 {
     let placed = place_segments(alloc, program, files, live)?;
     let numbering = number(alloc, program, entries, exports, live)?;
-    windows_stand_in_sources();
-    values_are_judged_in_turn();
-    patches_make_the_output();
     let layout = Layout {
         program,
         numbering: &numbering,
         placed: &placed,
     };
+    let prepared = make_ready(alloc, layout, files, exports, live);
+    prepared
+}
+
+// Makes the output's image, measures it, and finds what its windows hold.
+fn make_ready(
+    alloc: Global,
+    layout: Layout<'_>,
+    files: &[Seq<u8>],
+    exports: &[Winner],
+    live: &[u32],
+) -> Result<Prepared, LinkError>
+    ghost s: { Stage }
+    requires layout { IsLayout s.program s.parts s.exports layout }
+    requires chosen { IsChosen s layout.program exports.now live.now }
+    requires files { files.now ≡ s.program.files }
+    ensures exact { Answers (outputs files.now result) (written modes.Plain s.program (the_image s) (the_windows s)) }
+    ensures ready { IfOk result (IsReady files.now) }
+{
+    windows_stand_in_sources();
+    values_are_judged_in_turn();
+    patches_make_the_output();
     let image = image(alloc, layout, exports, live)?;
     let measured = measured(alloc, files, &image)?;
-    let again = Layout {
-        program,
-        numbering: &numbering,
-        placed: &placed,
-    };
-    let patches = again.patches(alloc, live, measured.places.as_slice())?;
+    let patches = layout.patches(alloc, live, measured.places.as_slice())?;
     Ok(Prepared {
         image,
         measured,

@@ -1,11 +1,7 @@
-use Rattle.std.proofs.Common.{◌∙◌, ℕ, Ok, Err, ap, sym, subst}
+use Rattle.std.proofs.Common.{ℕ}
 use Rattle.std.proofs.lemmas.Result.{err_from_is_err_and}
-use Rattle.link_program.specs.wl_base.Answers.{Answers}
-use Rattle.link_program.specs.reloc_apply.declared.window.Patches.{Patches}
-use Rattle.link_program.specs.reloc_apply.Windows.{patches_of, filled}
-use Rattle.link_program.specs.image_emit.Bytes.{bytes_of, tree_of}
-use Rattle.link_program.specs.Moved.{moved_windows}
-use Rattle.link_core.proofs.Answering.{place_failed, number_failed, goes_on_placed, layout_is, the_image, the_windows, lie_there, stand_there, measure_failed, write_failed, wrote}
+use Rattle.link_core.specs.Prepared.{outputs}
+use Rattle.link_core.proofs.Answering.{place_failed, number_failed, goes_on_placed, layout_is}
 use Rattle.link_core.proofs.driver.lay_out.Goals as goal
 
 pub place_segments-requires : goal.place_segments-requires
@@ -33,75 +29,14 @@ returns-in_err-numbering-clause-exact g c =
     let p = err_from_is_err_and c.from_residual-in_err-numbering.result c.from_residual-in_err-numbering.ensures.1 in
     rw (p.1) (number_failed g.s.program g.s.exports g.s.parts ℕ c.in_err-numbering.field-0.0 p.0 p.2 c.in_ok-placed.ensures.0 c.in_err-numbering.ensures.table)
 
-pub image-requires : goal.image-requires
-image-requires g c = (
+pub make_ready-prepared-requires : goal.make_ready-prepared-requires
+make_ready-prepared-requires g c = (
   layout_is g.s.program g.s.parts g.s.exports _ c.args.live.now c.requires.0.program c.requires.0.stand c.requires.1.live c.requires.1.meant c.in_ok-numbering.ensures.numbers
       c.in_ok-placed.ensures.1,
-  (c.requires.1.live, (c.requires.1.among, c.requires.1.exports)),
+  (c.requires.1, c.requires.0.files),
 )
-
-pub returns-in_err-image-clause-exact : goal.returns-in_err-image-clause-exact
-returns-in_err-image-clause-exact g c =
-    let p = err_from_is_err_and c.from_residual-in_err-image.result c.from_residual-in_err-image.ensures.1 in
-    rw (p.1, p.2) tt
-
-pub measured-requires : goal.measured-requires
-measured-requires g c =
-    lie_there c.args.files.now g.s.program.files (the_image g.s) c.in_ok-image.image c.requires.0.files c.in_ok-image.ensures
-    (c.windows_stand_in_sources.ensures.lie g.s.program c.args.live.now g.s.parts g.s.exports c.requires.0.stand c.requires.1.live)
-
-pub returns-in_err-measured-clause-exact : goal.returns-in_err-measured-clause-exact
-returns-in_err-measured-clause-exact g c =
-    let p = err_from_is_err_and c.from_residual-in_err-measured.result c.from_residual-in_err-measured.ensures.1 in
-    rw (p.1)
-    (goes_on_placed g.s.program g.s.exports g.s.parts (Err p.0) c.in_ok-placed.ensures.0 c.in_ok-numbering.ensures.table
-    (measure_failed g.s.program (the_image g.s) (the_windows g.s) c.args.files.now c.in_ok-image.image c.requires.0.files c.in_ok-image.ensures c.in_err-measured.field-0.0 p.0 p.2 c.in_err-measured.ensures))
-
-pub patches-requires : goal.patches-requires
-patches-requires g c = (
-  layout_is g.s.program g.s.parts g.s.exports _ c.args.live.now c.requires.0.program c.requires.0.stand c.requires.1.live c.requires.1.meant c.in_ok-numbering.ensures.numbers
-      c.in_ok-placed.ensures.1,
-  c.requires.1.live,
-)
-
-pub returns-in_err-patches-clause-exact : goal.returns-in_err-patches-clause-exact
-returns-in_err-patches-clause-exact g c =
-    let p = err_from_is_err_and c.from_residual-in_err-patches.result c.from_residual-in_err-patches.ensures.1 in
-    let files =
-    lie_there c.args.files.now g.s.program.files (the_image g.s) c.in_ok-image.image c.requires.0.files c.in_ok-image.ensures
-    (c.windows_stand_in_sources.ensures.lie g.s.program c.args.live.now g.s.parts g.s.exports c.requires.0.stand c.requires.1.live) in
-    let stand =
-    stand_there c.args.files.now g.s.program.files (the_image g.s) c.in_ok-image.image (the_windows g.s) c.requires.0.files c.in_ok-image.ensures
-    (c.windows_stand_in_sources.ensures.stand g.s.program c.args.live.now g.s.parts g.s.exports c.requires.0.stand c.requires.1.live) in
-    let told = subst (λ ks. Answers {A = Patches} (Err c.in_err-patches.field-0.0) (patches_of (moved_windows ks (the_windows g.s)))) c.as_slice.ensures c.in_err-patches.ensures in
-    rw (p.1)
-    (goes_on_placed g.s.program g.s.exports g.s.parts (Err p.0) c.in_ok-placed.ensures.0 c.in_ok-numbering.ensures.table
-    (write_failed g.s.program (the_image g.s) (the_windows g.s) c.args.files.now c.in_ok-image.image c.requires.0.files c.in_ok-image.ensures c.in_ok-measured.measured c.in_err-patches.field-0.0 p.0 p.2
-    c.in_ok-measured.ensures
-    (c.values_are_judged_in_turn.ensures c.args.files.now c.in_ok-image.image c.in_ok-measured.measured (the_windows g.s) c.in_err-patches.field-0.0 files c.in_ok-measured.ensures.0 stand told)))
 
 pub returns-clause-exact : goal.returns-clause-exact
 returns-clause-exact g c =
-    let files =
-    lie_there c.args.files.now g.s.program.files (the_image g.s) c.in_ok-image.image c.requires.0.files c.in_ok-image.ensures
-    (c.windows_stand_in_sources.ensures.lie g.s.program c.args.live.now g.s.parts g.s.exports c.requires.0.stand c.requires.1.live) in
-    let stand =
-    stand_there c.args.files.now g.s.program.files (the_image g.s) c.in_ok-image.image (the_windows g.s) c.requires.0.files c.in_ok-image.ensures
-    (c.windows_stand_in_sources.ensures.stand g.s.program c.args.live.now g.s.parts g.s.exports c.requires.0.stand c.requires.1.live) in
-    let told = sym (ap (λ ks. patches_of (moved_windows ks (the_windows g.s))) c.as_slice.ensures) ∙ c.in_ok-patches.ensures in
-    let law = c.patches_make_the_output.ensures c.args.files.now c.in_ok-image.image c.in_ok-measured.measured (the_windows g.s) c.in_ok-patches.patches files c.in_ok-measured.ensures.0 stand told in
-    let made = filled c.in_ok-patches.patches.patches (bytes_of (tree_of c.args.files.now c.in_ok-image.image)) in
-    goes_on_placed g.s.program g.s.exports g.s.parts (Ok made) c.in_ok-placed.ensures.0 c.in_ok-numbering.ensures.table
-    (wrote g.s.program (the_image g.s) (the_windows g.s) c.args.files.now c.in_ok-image.image c.requires.0.files c.in_ok-image.ensures c.in_ok-measured.measured made c.in_ok-measured.ensures law.1)
-
-pub returns-clause-ready : goal.returns-clause-ready
-returns-clause-ready g c =
-    let files =
-    lie_there c.args.files.now g.s.program.files (the_image g.s) c.in_ok-image.image c.requires.0.files c.in_ok-image.ensures
-    (c.windows_stand_in_sources.ensures.lie g.s.program c.args.live.now g.s.parts g.s.exports c.requires.0.stand c.requires.1.live) in
-    let stand =
-    stand_there c.args.files.now g.s.program.files (the_image g.s) c.in_ok-image.image (the_windows g.s) c.requires.0.files c.in_ok-image.ensures
-    (c.windows_stand_in_sources.ensures.stand g.s.program c.args.live.now g.s.parts g.s.exports c.requires.0.stand c.requires.1.live) in
-    let told = sym (ap (λ ks. patches_of (moved_windows ks (the_windows g.s))) c.as_slice.ensures) ∙ c.in_ok-patches.ensures in
-    let law = c.patches_make_the_output.ensures c.args.files.now c.in_ok-image.image c.in_ok-measured.measured (the_windows g.s) c.in_ok-patches.patches files c.in_ok-measured.ensures.0 stand told in
-    record { measured = c.in_ok-measured.ensures.0; lie = files; apart = law.0; short = c.in_ok-measured.ensures.3 }
+    goes_on_placed g.s.program g.s.exports g.s.parts (outputs c.args.files.now c.make_ready-prepared.result) c.in_ok-placed.ensures.0 c.in_ok-numbering.ensures.table
+    c.make_ready-prepared.ensures.exact

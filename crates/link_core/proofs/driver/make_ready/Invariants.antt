@@ -1,0 +1,7 @@
+use Rattle.link_core.proofs.driver.make_ready.Given as goal
+
+abbrev pub ghost-image : goal.ghost-image
+ghost-image g a = g.s
+
+abbrev pub ghost-patches : goal.ghost-patches
+ghost-patches g a = g.s
