@@ -7,17 +7,19 @@ use leb_codec::{
 use std::test::Fail;
 
 // Whether these are the bytes that are written, and alone touched, and whether they are read again
-// whatever follows.
+// alone and whatever follows.
 fn is_u32(n: u32, bytes: &[u8]) -> bool {
     let mut to = [0xee; 10];
     let len = write_u32(n, &mut to);
-    &to[..len] == bytes && to[9] == 0xee && read_u32(&to) == Ok((n, bytes.len()))
+    let read = Ok((n, bytes.len()));
+    &to[..len] == bytes && to[9] == 0xee && read_u32(&to) == read && read_u32(bytes) == read
 }
 
 fn is_s32(n: i32, bytes: &[u8]) -> bool {
     let mut to = [0xee; 10];
     let len = write_s32(n, &mut to);
-    &to[..len] == bytes && to[9] == 0xee && read_s32(&to) == Ok((n, bytes.len()))
+    let read = Ok((n, bytes.len()));
+    &to[..len] == bytes && to[9] == 0xee && read_s32(&to) == read && read_s32(bytes) == read
 }
 
 fn is_s64(n: i64, bytes: &[u8]) -> bool {

@@ -4,3 +4,5 @@ pub mod Steps
 pub mod Order
 pub mod Within
 pub mod Walk
+pub mod Skims
+pub mod Passing

@@ -2,7 +2,7 @@
 use Rattle.std.proofs.Common.{◌≡◌, ℕ, zero, suc, ◌+◌, ◌<◌, ◌≤◌, ◌∙◌, cond, List, [], ◌∷◌, ◌++◌, length, drop, map, get_or, refl, sym, ap, append_assoc}
 use Rattle.std.specs.Prelude.{replicate}
 use Rattle.std.specs.List.{filter}
-use Rattle.std.proofs.lemmas.List.{at_drop_more, drop_all}
+use Rattle.std.proofs.lemmas.List.{at_drop_more, drop_all, replicate-append-replicate}
 use Rattle.body_windows.specs.declared.operand.Operand.{Operand}
 use Rattle.body_windows.specs.declared.operand.Operand.TheVariants.{Number}
 use Rattle.body_windows.specs.declared.operands.Reference.{Reference}
@@ -18,6 +18,13 @@ spread_number [] n = replicate_more n
 spread_number (r ∷ rs) n =
     ap (λ (xs : List Operand). replicate r.numbers Number ++ (operand_of r ∷ xs)) (spread_number rs n)
     ∙ sym (append_assoc (replicate r.numbers Number) (operand_of r ∷ spread rs n) (Number ∷ []))
+
+-- so many numbers more
+pub spread_numbers : (rs : List Reference) (n m : ℕ) → spread rs (n + m) ≡ spread rs n ++ replicate m Number
+spread_numbers [] n m = sym (replicate-append-replicate n m Number)
+spread_numbers (r ∷ rs) n m =
+    ap (λ (xs : List Operand). replicate r.numbers Number ++ (operand_of r ∷ xs)) (spread_numbers rs n m)
+    ∙ sym (append_assoc (replicate r.numbers Number) (operand_of r ∷ spread rs n) (replicate m Number))
 
 -- one reference more
 pub spread_reference : (rs : List Reference) (kept : Reference) → spread (rs ++ kept ∷ []) 0 ≡ spread rs kept.numbers ++ operand_of kept ∷ []

@@ -102,6 +102,7 @@ impl Immediate {
     }
 
     /// The operand where this relocation stands on it.
+    #[inline(always)]
     pub fn operand_of(&self, reloc: &Reloc) -> Operand
         ensures { result ≡ operand_of self.now reloc.now }
     {

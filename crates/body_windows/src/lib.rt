@@ -3,15 +3,21 @@
 //! Sections'; WebAssembly Core Specification 2.0, 5.4).
 #![tactic(auto)]
 
+mod course;
 mod fault;
+mod free;
 mod immediate;
 mod laws;
 mod merging;
+mod named;
+mod opcodes;
 mod operand;
 mod operands;
 mod overlap;
+mod quick;
 mod reading;
 mod scanning;
+mod shapes;
 
 pub use fault::{Mismatch, WindowFault};
 pub use immediate::{Immediate, ImmediateKind};

@@ -1,6 +1,7 @@
 //! Immediates and relocations, merged by their places.
-ghost use Rattle.std.specs.Prelude.{◌≡◌, ◌+◌, ◌<◌, ◌^◌, [], None, OnOk};
+ghost use Rattle.std.specs.Prelude.{◌≡◌, ◌+◌, ◌<◌, ◌^◌, [], None, IsTrue, OnOk};
 ghost use Rattle.body_windows.specs.Merging.{State, left_bare, offered, offered_all, outlined_immediates, Fit, finished};
+ghost use Rattle.body_windows.specs.Quick.{numbered, IsClear, Takes};
 
 use crate::fault::Mismatch;
 use crate::immediate::{Immediate, ImmediateKind};
@@ -84,6 +85,66 @@ impl<'a> Merger<'a> {
             }
             _ => self.leave(immediate),
         }
+    }
+
+    /// Whether no window is off.
+    #[inline(always)]
+    pub fn is_on(&self) -> bool
+        ensures { IsTrue result → self.now.off ≡ None }
+    {
+        self.off.is_none()
+    }
+
+    /// How many bytes there are from the place `from` up to the next window.
+    #[inline(always)]
+    pub fn clear(&self, from: usize) -> usize
+        requires { self.now.base + from < 2 ^ 32 }
+        ensures { IsClear self.now.left (self.now.base + from) result }
+    {
+        match self.left {
+            [reloc, ..] => (reloc.offset as usize).saturating_sub(self.base as usize + from),
+            _ => usize::MAX,
+        }
+    }
+
+    /// Takes so many numbers, and then the next immediate, where it is the window of the next relocation
+    /// and there is room for it: whether that is so. Where it isn't, nothing changes.
+    #[inline(always)]
+    pub fn take(&mut self, numbers: usize, immediate: Immediate) -> bool
+        requires on { self.old.off ≡ None }
+        requires room { self.old.base + immediate.place < 2 ^ 32 }
+        requires few { numbers < 2 ^ 32 }
+        ensures { Takes result self.old numbers immediate self.new }
+    {
+        match self.left {
+            [reloc, after @ ..] if immediate.fills(self.base, reloc) => {
+                if !self
+                    .operands
+                    .push_behind(numbers, immediate.operand_of(reloc))
+                {
+                    return false;
+                }
+                self.left = after;
+                true
+            }
+            _ => false,
+        }
+    }
+
+    /// Room for the operands of the relocations.
+    pub fn reserve(&mut self) -> Result<(), OutOfMemory>
+        ensures { OnOk result (self.new ≡ self.old) }
+    {
+        self.operands.reserve(self.left.len())
+    }
+
+    /// Takes so many numbers.
+    #[inline(always)]
+    pub fn push_numbers(&mut self, numbers: usize) -> Result<(), OutOfMemory>
+        requires { numbers < 2 ^ 32 }
+        ensures { OnOk result (self.new ≡ numbered self.old numbers) }
+    {
+        self.operands.push_numbers(numbers)
     }
 
     /// Takes the immediates of an instruction of this outline. Its opcode stands at the place `at`,

@@ -1,5 +1,5 @@
 //! The operands of a body, kept short.
-ghost use Rattle.std.specs.Prelude.{◌≡◌, ◌++◌, ◌∷◌, [], replicate, OnOk, OnErr, IfOk};
+ghost use Rattle.std.specs.Prelude.{◌≡◌, ◌<◌, ◌^◌, ◌++◌, ◌∷◌, [], true, false, replicate, OnOk, OnErr, IfOk};
 ghost use Rattle.body_windows.specs.Operands.{operand_of, operands_seen};
 ghost use Rattle.body_windows.specs.declared.operand.Operand.TheVariants.{Number};
 
@@ -34,6 +34,7 @@ const _: () = prove!(size_of::<Reference>() == 16);
 
 impl Reference {
     /// The operand, with so many numbers before it.
+    #[inline(always)]
     fn of(numbers: u16, operand: Operand) -> Self
         ensures numbers { result.numbers ≡ numbers }
         ensures operand { operand_of result ≡ operand }
@@ -107,7 +108,7 @@ impl Reference {
 #[derive(Debug, Drop)]
 pub struct Operands {
     /// The operands that are kept, in order.
-    references: Seq<Reference>,
+    references: Vec<Reference>,
     /// How many numbers stand behind the last of them.
     behind: u16,
 }
@@ -119,7 +120,7 @@ impl Model for Operands {
 
     ghost Value = { List Operand };
 
-    ghost view = { λ o. spread o.references o.behind };
+    ghost view = { λ o. spread o.references.items o.behind };
 }
 
 /// A list of operands, lent.
@@ -138,7 +139,7 @@ impl Operands {
         ensures { result ≡ [] }
     {
         Operands {
-            references: Seq::new(alloc),
+            references: Vec::new(alloc),
             behind: 0,
         }
     }
@@ -166,6 +167,57 @@ impl Operands {
             }
             None => self.push_reference(Operand::Number),
         }
+    }
+
+    /// So many numbers more.
+    #[inline(always)]
+    pub fn push_numbers(&mut self, count: usize) -> Result<(), OutOfMemory>
+        requires { count < 2 ^ 32 }
+        ensures { OnOk result (self.new ≡ self.old ++ replicate count Number) }
+    {
+        let behind = usize::from(self.behind) + count;
+        if behind <= 0xffff {
+            self.behind = behind as u16;
+            return Ok(());
+        }
+        self.push_many(count)
+    }
+
+    /// The same, one by one.
+    #[inline(never)]
+    fn push_many(&mut self, count: usize) -> Result<(), OutOfMemory>
+        ensures { OnOk result (self.new ≡ self.old ++ replicate count Number) }
+    {
+        for _ in 0..count {
+            self.push_number()?;
+        }
+        Ok(())
+    }
+
+    /// Room for so many operands more that are kept.
+    pub fn reserve(&mut self, count: usize) -> Result<(), OutOfMemory>
+        ensures { OnOk result (self.new ≡ self.old) }
+    {
+        self.references.reserve_exact(count)?;
+        Ok(())
+    }
+
+    /// So many numbers more, and then an operand, which is kept, where there is room for it: whether
+    /// there is. Where there is none, nothing changes.
+    #[inline(always)]
+    pub fn push_behind(&mut self, numbers: usize, operand: Operand) -> bool
+        requires { numbers < 2 ^ 32 }
+        ensures pushed { result ≡ true → self.new ≡ (self.old ++ replicate numbers Number) ++ operand ∷ [] }
+        ensures left { result ≡ false → self.new ≡ self.old }
+    {
+        let behind = usize::from(self.behind) + numbers;
+        if behind > 0xffff || self.references.len() >= self.references.capacity() {
+            return false;
+        }
+        self.references
+            .push_reserved(Reference::of(behind as u16, operand));
+        self.behind = 0;
+        true
     }
 
     /// One operand more, which is kept.
@@ -198,7 +250,7 @@ impl Operands {
         ensures { result ≡ self }
     {
         Operands {
-            references: shrunk(self.references),
+            references: shrunk(Seq::from_vec(self.references)).into_vec(),
             behind: self.behind,
         }
     }

@@ -10,6 +10,7 @@ use crate::fault::Mismatch;
 use crate::merging::Merger;
 use crate::operands::Operands;
 use crate::overlap::least_overlap;
+use crate::quick::pass_quick;
 use reloc_section::Reloc;
 use std::alloc::Global;
 use wasm_grammar::{ReadFault, none_at, place};
@@ -41,12 +42,13 @@ fn scan_code(
     opens.push(false)?;
     let mut rest = bytes;
     while opens.len() > 0 {
-        let (outline, last, after) = skim_at(end, rest)?;
+        let here = pass_quick(merger, opens, end, rest)?;
+        let (outline, last, after) = skim_at(end, here)?;
         if is_other(outline) {
             rest = after;
             continue;
         }
-        let at = place(end, rest);
+        let at = place(end, here);
         outline_step(opens, at, outline)?;
         let mid = place(end, last) as u32;
         let until = place(end, after) as u32;
@@ -76,6 +78,7 @@ pub fn scan(
 {
     let code = skip_locals_at(bytes.len(), bytes)?;
     let mut merger = Merger::new(alloc, base, relocs);
+    merger.reserve()?;
     scan_code(&mut merger, opens, bytes.len(), code)?;
     Ok(merger.finish(least_overlap(relocs)))
 }

@@ -9,6 +9,7 @@ use std::test::Fail;
 use std::thread::Threads;
 use test_kit::{Meeting, defines_a, library, needs_a};
 use wl_base::{Fault, OutOfMemory, Seq};
+use wl_fan::Workers;
 use wl_outside::{Gate, OpenGate, Phase};
 
 /// No object: its version is 2.
@@ -147,7 +148,10 @@ fn loaded<R: Threads + Sync, G: Gate>(
     let words = two_words(alloc, first, second)?;
     let files = two_files(alloc, first, second)?;
     let plan = plan_of(alloc, words, None, threads);
-    load_inputs(rt, alloc, &plan, files.as_slice(), gate)
+    let Some(workers) = Workers::new(threads) else {
+        unreachable!()
+    };
+    load_inputs(rt, alloc, &plan, files.as_slice(), workers, gate)
 }
 
 /// The call with two files in the place of generated objects.
@@ -159,7 +163,10 @@ fn generated<R: Threads + Sync>(
 ) -> Result<Inputs, LinkError> {
     let files = two_files(alloc, first, second)?;
     let plan = plan_of(alloc, Seq::new(alloc), Some(2), 2);
-    load_inputs(rt, alloc, &plan, files.as_slice(), &OpenGate)
+    let Some(workers) = Workers::new(2) else {
+        unreachable!()
+    };
+    load_inputs(rt, alloc, &plan, files.as_slice(), workers, &OpenGate)
 }
 
 /// The input of the object at this place, or 0.

@@ -6,6 +6,7 @@
 #![tactic(auto)]
 
 mod fault;
+mod five;
 mod form;
 pub mod number_laws;
 mod reading;

@@ -6,6 +6,7 @@ ghost use Rattle.leb_codec.specs.declared.form.Form.TheVariants.{U32, S32, S33, 
 ghost use Rattle.leb_codec.specs.declared.fault.LebFault.TheVariants.{Short, Long, BadTail};
 
 use crate::fault::LebFault;
+use crate::five::{s32_in_five, small, u32_in_five};
 use crate::form::Form;
 
 /// The low bits of the number at the front, joined byte by byte, and how many bytes it takes.
@@ -61,24 +62,14 @@ fn with_sign(bits: u64, front: &[u8]) -> i64
     }
 }
 
-/// The number of one byte, with its sign.
-#[inline]
-fn small(byte: u8) -> i32
-    requires { byte < 128 }
-    ensures { result ≡ signed_value (byte ∷ []) }
-{
-    if byte < 0x40 {
-        i32::from(byte)
-    } else {
-        i32::from(byte) - 0x80
-    }
-}
-
 /// The u32 at the front, of any length.
 #[inline(never)]
 fn long_u32(bytes: &[u8]) -> Result<(u32, usize), LebFault>
     ensures { result ≡ number_at magnitude U32 bytes.now }
 {
+    if bytes.len() >= 5 {
+        return u32_in_five(bytes);
+    }
     let (bits, used) = bits_at(Form::U32, bytes)?;
     Ok((bits as u32, used))
 }
@@ -99,6 +90,9 @@ fn u32_at(bytes: &[u8]) -> Result<(u32, usize), LebFault>
 fn long_s32(bytes: &[u8]) -> Result<(i32, usize), LebFault>
     ensures { result ≡ number_at signed_value S32 bytes.now }
 {
+    if bytes.len() >= 5 {
+        return s32_in_five(bytes);
+    }
     let (bits, used) = bits_at(Form::S32, bytes)?;
     Ok((with_sign(bits, &bytes[..used]) as i32, used))
 }

@@ -13,13 +13,14 @@ ghost use Rattle.lib_rounds.specs.Begin.{IsPut, KnowsGiven, PutsAll, KnowsMember
 
 use crate::early::Early;
 use crate::error::RoundError;
+use crate::given::GivenObject;
 use crate::loading::load;
 use crate::offer::{Inputs, Offer};
 use crate::slot::Slot;
 use crate::table::{Table, define, put};
 use indexmap::IndexMap;
 use made_symbols::Mode;
-use round_rules::{GivenObject, LibraryFile};
+use round_rules::LibraryFile;
 use std::alloc::Global;
 use wl_base::{OutOfMemory, Seq};
 
@@ -94,14 +95,14 @@ fn put_one(
     requires { (0 < given.object.input) × (given.object.input ≤ length slots.old.items) }
     ensures { OnOk result (IsPut given slots.old.items slots.new.items (shown lazies.old) (shown lazies.new) (shown definers.old) (shown definers.new)) }
 {
-    let GivenObject { object, lazy } = given;
+    let object = given.object();
     let input = object.input;
-    if lazy {
-        define(alloc, lazies, &object, input)?;
+    if given.is_lazy() {
+        define(alloc, lazies, object, input)?;
     } else {
-        define(alloc, definers, &object, input)?;
+        define(alloc, definers, object, input)?;
     }
-    slots[input as usize - 1] = Slot::holding(alloc, object, !lazy)?;
+    slots[input as usize - 1] = given.into_slot();
     Ok(())
 }
 

@@ -52,8 +52,8 @@ impl<'a> Early<'a> {
     }
 
     /// The object that these bytes are as this input, where it is read.
-    pub fn object_of(self, input: InputId, bytes: &[u8]) -> Option<Object>
-        ensures { IfSome result (λ o. object_of input bytes.now ≡ Ok o) }
+    pub fn object_of(self, input: InputId, bytes: &[u8]) -> Option<Box<Object>>
+        ensures { IfSome result (λ o. object_of input bytes.now ≡ Ok o.value) }
     {
         let Early {
             input: own,
@@ -61,7 +61,7 @@ impl<'a> Early<'a> {
             object,
         } = self;
         match object {
-            Some(object) if own == input && read == bytes => Some(Box::into_inner(object)),
+            Some(object) if own == input && read == bytes => Some(object),
             _ => None,
         }
     }

@@ -5,12 +5,13 @@
 //! back, and its faults aren't told.
 
 use crate::early::Early;
+use crate::given::GivenObject;
 use crate::needs::Needs;
 use crate::offer::Inputs;
 use crate::reading::read_all;
 use crate::table::wanted_at;
 use object_file::Object;
-use round_rules::{GivenObject, LibraryFile};
+use round_rules::LibraryFile;
 use std::thread::Threads;
 use wl_base::{InputId, Name, OutOfMemory};
 use wl_fan::Workers;
@@ -96,7 +97,7 @@ impl<'a> Foreseen<'a> {
     /// Looks at the names that the objects of the words refer to strongly.
     fn look_given(&mut self, inputs: Inputs<'a>, given: &[GivenObject]) -> Result<(), OutOfMemory> {
         for at in 0..given.len() {
-            self.look_object(inputs, &given[at].object)?;
+            self.look_object(inputs, given[at].object())?;
         }
         Ok(())
     }

@@ -9,6 +9,7 @@ mod early;
 mod error;
 mod foresight;
 mod gather;
+mod given;
 pub mod laws;
 mod lies;
 mod loaded;
@@ -22,5 +23,6 @@ mod table;
 
 pub use call::load_rounds;
 pub use error::RoundError;
+pub use given::GivenObject;
 pub use loaded::Loaded;
-pub use round_rules::{GivenObject, LibraryFile};
+pub use round_rules::LibraryFile;

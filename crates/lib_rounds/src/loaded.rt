@@ -7,6 +7,7 @@ use object_file::Object;
 use std::alloc::Global;
 use std::marker::Model;
 use wl_base::{OutOfMemory, Seq};
+use wl_lists::with_room;
 
 /// The loaded objects of a link, by rising input.
 #[derive(Debug, Drop)]
@@ -23,6 +24,17 @@ impl Model for Loaded {
     ghost view = { λ l. l.objects };
 }
 
+/// How many slots are loaded.
+fn count_loaded(slots: &[Slot<'_>]) -> usize {
+    let mut count: usize = 0;
+    for slot in slots {
+        if slot.is_loaded() {
+            count = count.saturating_add(1);
+        }
+    }
+    count
+}
+
 impl Loaded {
     /// The objects.
     pub fn objects(&self) -> &[Object]
@@ -35,11 +47,11 @@ impl Loaded {
     pub(crate) fn of(alloc: Global, slots: Vec<Slot<'_>>) -> Result<Loaded, OutOfMemory>
         ensures { IfOk result (λ l. l ≡ loaded_objects slots.entry.items) }
     {
-        let mut objects = Seq::new(alloc);
+        let mut objects = with_room(alloc, count_loaded(slots.as_slice()))?;
         let mut left = slots.into_iter();
         while let Some(slot) = left.next() {
             if let Some(object) = slot.into_loaded() {
-                objects.push(object)?;
+                objects.push(Box::into_inner(object))?;
             }
         }
         Ok(Loaded { objects })

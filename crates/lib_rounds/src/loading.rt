@@ -23,10 +23,14 @@ use std::alloc::Global;
 use wl_base::{Fault, InputId, Seq};
 
 /// The object of a library's member, which was read early or is read now.
-fn read_member(inputs: Inputs<'_>, slot: &mut Slot<'_>, offer: Offer) -> Result<Object, RoundError>
+fn read_member(
+    inputs: Inputs<'_>,
+    slot: &mut Slot<'_>,
+    offer: Offer,
+) -> Result<Box<Object>, RoundError>
     requires { (read : Result Read Why) × IsMember inputs.libraries.now inputs.files.now offer read }
     ensures same { slot.new ≡ slot.old }
-    ensures is { (read : Result Read Why) → IsMember inputs.entry.libraries.now inputs.entry.files.now offer read → Answers (λ x. x) result read }
+    ensures is { (read : Result Read Why) → IsMember inputs.entry.libraries.now inputs.entry.files.now offer read → Answers (λ o. o.value) result read }
 {
     let library = &inputs.libraries[offer.library];
     let span = library.library.member(offer.member);
@@ -36,7 +40,10 @@ fn read_member(inputs: Inputs<'_>, slot: &mut Slot<'_>, offer: Offer) -> Result<
         return Ok(object);
     }
     match read_object(inputs.alloc, offer.input, member) {
-        Ok(object) => Ok(object),
+        Ok(object) => match Box::new(inputs.alloc, object) {
+            Ok(object) => Ok(object),
+            Err(_) => Err(RoundError::OutOfMemory),
+        },
         Err(ObjectError::Refused(fault)) => Err(RoundError::Refused(fault)),
         Err(ObjectError::OutOfMemory) => Err(RoundError::OutOfMemory),
     }
@@ -56,7 +63,7 @@ fn fill(inputs: Inputs<'_>, slots: &mut Vec<Slot<'_>>, offer: Offer) -> Result<(
         return Ok(());
     }
     let object = read_member(inputs, &mut slots[at], offer)?;
-    slots[at] = Slot::holding(inputs.alloc, object, true)?;
+    slots[at] = Slot::holding(object, true);
     Ok(())
 }
 

@@ -1,13 +1,12 @@
 //! What is kept of an input.
-ghost use Rattle.std.specs.Prelude.{◌≡◌, Bool, Ok, option_copied, IfOk, IfSome};
+ghost use Rattle.std.specs.Prelude.{◌≡◌, Bool, Ok, option_copied, option_map, IfSome};
 ghost use Rattle.object_file.specs.ObjectOf.{object_of};
 ghost use Rattle.lib_rounds.specs.Held.{absent, holding, is_loaded_slot, is_waiting_slot, object_held, loaded_in, as_loaded};
 
 use crate::early::Early;
 use object_file::Object;
-use std::alloc::Global;
 use std::marker::Model;
-use wl_base::{InputId, OutOfMemory};
+use wl_base::InputId;
 
 /// The object of an input, where it is read, and whether the input is loaded. What is read early isn't
 /// told of.
@@ -39,14 +38,14 @@ impl<'a> Slot<'a> {
     }
 
     /// The slot of an input that is read.
-    pub fn holding(alloc: Global, object: Object, loaded: bool) -> Result<Slot<'a>, OutOfMemory>
-        ensures { IfOk result (λ s. s ≡ holding loaded object) }
+    pub fn holding(object: Box<Object>, loaded: bool) -> Slot<'a>
+        ensures { result ≡ holding loaded object.value }
     {
-        Ok(Slot {
-            object: Some(Box::new(alloc, object)?),
+        Slot {
+            object: Some(object),
             loaded,
             early: None,
-        })
+        }
     }
 
     /// Keeps the input as it was read early.
@@ -57,9 +56,9 @@ impl<'a> Slot<'a> {
     }
 
     /// The object that these bytes are as this input, where it was read early. It isn't kept.
-    pub fn take_early(&mut self, input: InputId, bytes: &[u8]) -> Option<Object>
+    pub fn take_early(&mut self, input: InputId, bytes: &[u8]) -> Option<Box<Object>>
         ensures same { self.new ≡ self.old }
-        ensures is { IfSome result (λ o. object_of input bytes.now ≡ Ok o) }
+        ensures is { IfSome result (λ o. object_of input bytes.now ≡ Ok o.value) }
     {
         let early = self.early.take()?;
         early.object_of(input, bytes)
@@ -107,12 +106,12 @@ impl<'a> Slot<'a> {
     }
 
     /// The object, where the input is loaded.
-    pub fn into_loaded(self) -> Option<Object>
-        ensures { result ≡ loaded_in self.entry }
+    pub fn into_loaded(self) -> Option<Box<Object>>
+        ensures { option_map (λ o. o.value) result ≡ loaded_in self.entry }
     {
         let Slot { object, loaded, .. } = self;
         match object {
-            Some(object) if loaded => Some(Box::into_inner(object)),
+            Some(object) if loaded => Some(object),
             _ => None,
         }
     }

@@ -39,11 +39,17 @@ use wl_base::Seq;
 use wl_fan::Workers;
 use wl_outside::Gate;
 
+/// How many bytes to read are worth threads.
+const LEAST_WORK: usize = 6 << 20;
+
+/// How many bytes of a file take as long to read as what each file takes by itself.
+const FILE_WORK: usize = 4 << 10;
+
 /// Links the files as the plan asks: the bytes of the module, or the first fault that applies. There is one file for each input of the
 /// plan, or as many as objects were generated.
 ///
 /// Given objects are read, groups and names are raced for, live parts are marked and the output is filled by as many workers as the plan
-/// has threads; each passes the gate before a job. The answer doesn't depend on them. From the moment that the output's buffer is
+/// has threads, or by one where the gate is open and little is to be linked; each passes the gate before a job. The answer doesn't depend on them. From the moment that the output's buffer is
 /// reserved nothing can want memory.
 ///
 /// What was read of the files isn't given back, but kept until the process ends: that would be a free for each small piece, which takes up
@@ -62,8 +68,8 @@ pub fn link<R: Threads + Sync, G: Gate>(
     // The module has fewer than 2^31 bytes.
     ensures short { IsShort result }
 {
-    let inputs = load_inputs(rt, alloc, plan, files, gate)?;
-    let workers = workers_of(plan);
+    let workers = workers_of(plan, files, gate);
+    let inputs = load_inputs(rt, alloc, plan, files, workers, gate)?;
     let prepared = prepare(rt, alloc, plan, files, &inputs, workers, gate);
     forget(inputs);
     let ready = prepared?;
@@ -100,7 +106,7 @@ fn prepare<R: Threads + Sync, G: Gate>(
     ensures ready { IfOk result (IsReady files.now) }
 {
     let objects = inputs.objects();
-    let found = find(rt, alloc, plan, objects, inputs.homes(), gate)?;
+    let found = find(rt, alloc, plan, objects, inputs.homes(), workers, gate)?;
     parts_stand();
     let program = found.program(plan, objects);
     let entries = found.view(objects);
@@ -127,7 +133,7 @@ fn choose<R: Threads + Sync, G: Gate>(
     let exports = exports(alloc, program)?;
     repeated_export(alloc, program, exports.as_slice())?;
     let live = live_parts(rt, alloc, program, exports.as_slice(), workers, gate)?;
-    unresolved(rt, alloc, program, &live)?;
+    unresolved(rt, alloc, program, &live, workers)?;
     all_are_meant();
     Ok(Chosen { exports, live })
 }
@@ -186,12 +192,30 @@ fn make_ready(
     })
 }
 
-// As many workers as the plan has threads.
-fn workers_of(plan: &Plan) -> Workers
+// How many workers a link is worth: as many as the plan has threads, but one where little is to be read and nobody waits at the gate.
+fn workers_of<G: Gate>(plan: &Plan, files: &[Seq<u8>], gate: &G) -> Workers
     requires { IsPlan plan.now }
 {
-    let Some(workers) = Workers::new(plan.threads) else {
+    let threads = if gate.is_open() && is_small(files) {
+        1
+    } else {
+        plan.threads
+    };
+    let Some(workers) = Workers::new(threads) else {
         unreachable!()
     };
     workers
+}
+
+// Whether a link of these files is done before threads would have helped it.
+fn is_small(files: &[Seq<u8>]) -> bool {
+    let mut left = LEAST_WORK;
+    for file in files {
+        let work = file.len().saturating_add(FILE_WORK);
+        if work >= left {
+            return false;
+        }
+        left -= work;
+    }
+    true
 }

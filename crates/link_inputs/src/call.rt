@@ -34,15 +34,16 @@ fn load_given<R: Threads + Sync>(
     files: &[Seq<u8>],
     given: Seq<GivenObject>,
     libraries: &[LibraryFile],
+    workers: u32,
 ) -> Result<Loaded, LinkError>
     ghost all: { List Candidate }
-    requires workers { (1 ≤ plan.now.threads) × (plan.now.threads ≤ 64) }
+    requires workers { (1 ≤ workers) × (workers ≤ 64) }
     requires are { AreCandidates all given libraries.now files.now }
     requires read { All (IsRead files.now) libraries.now }
     ensures { Answers (λ l. l) result (load Plain (asked_names plan.now) all) }
 {
     let wanted = asked_names(alloc, plan)?;
-    let Some(workers) = Workers::new(plan.threads) else {
+    let Some(workers) = Workers::new(workers) else {
         unreachable!()
     };
     match load_rounds(
@@ -68,9 +69,10 @@ fn load_sources<R: Threads + Sync, G: Gate>(
     plan: &Plan,
     files: &[Seq<u8>],
     sources: Sources,
+    workers: u32,
     gate: &G,
 ) -> Result<Inputs, LinkError>
-    requires workers { (1 ≤ plan.now.threads) × (plan.now.threads ≤ 64) }
+    requires workers { (1 ≤ workers) × (workers ≤ 64) }
     requires sources { Sourced plan.now files.now sources }
     ensures { LoadsAll result plan.now files.now }
 {
@@ -79,9 +81,9 @@ fn load_sources<R: Threads + Sync, G: Gate>(
         libraries,
         homes,
     } = sources;
-    match read_given(rt, alloc, files, objects.as_slice(), plan.threads, gate) {
+    match read_given(rt, alloc, files, objects.as_slice(), workers, gate) {
         Ok(given) => {
-            let loaded = load_given(rt, alloc, plan, files, given, libraries.as_slice())?;
+            let loaded = load_given(rt, alloc, plan, files, given, libraries.as_slice(), workers)?;
             Ok(Inputs { loaded, homes })
         }
         Err(first) => {
@@ -94,7 +96,7 @@ fn load_sources<R: Threads + Sync, G: Gate>(
 /// Loads the inputs of a link from its files, one for each input word, or the generated objects.
 ///
 /// A file that begins with a magic of `ar` is a library, which is read by its index; any other is an
-/// object. The objects of the words are read by as many workers as the plan says, who pass the gate
+/// object. The objects of the words are read by the workers, who pass the gate
 /// before each; then the needed members are loaded, round after round, of which as many workers read
 /// ahead what they can.
 ///
@@ -105,6 +107,7 @@ pub fn load_inputs<R: Threads + Sync, G: Gate>(
     alloc: Global,
     plan: &Plan,
     files: &[Seq<u8>],
+    workers: Workers,
     gate: &G,
 ) -> Result<Inputs, LinkError>
     requires plan { IsPlan plan.now }
@@ -117,5 +120,5 @@ pub fn load_inputs<R: Threads + Sync, G: Gate>(
     let opened = open_files(alloc, files)?;
     let words = words_of(alloc, plan, files.len())?;
     let sources = number_inputs(alloc, words.as_slice(), opened)?;
-    load_sources(rt, alloc, plan, files, sources, gate)
+    load_sources(rt, alloc, plan, files, sources, workers.count(), gate)
 }

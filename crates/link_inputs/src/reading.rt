@@ -44,7 +44,7 @@ fn read_one(alloc: Global, bytes: &[u8], input: InputId, lazy: bool) -> Slot
     ensures { Reads result (given_by input lazy (object_of input bytes.now)) }
 {
     match read_object(alloc, input, bytes) {
-        Ok(object) => Ok(GivenObject { object, lazy }),
+        Ok(object) => Ok(GivenObject::of(alloc, object, lazy)?),
         Err(ObjectError::Refused(fault)) => Err(ReadError::Refused { input, fault }),
         Err(ObjectError::OutOfMemory) => Err(ReadError::OutOfMemory),
     }

@@ -23,6 +23,7 @@ use std::alloc::Global;
 use std::thread::Threads;
 use symbol_race::Winners;
 use wl_base::{Fault, InputId, Name, OutOfMemory, Seq};
+use wl_fan::Workers;
 
 /// A name that has no winner.
 fn missing(
@@ -131,6 +132,7 @@ fn first_open<R: Threads + Sync>(
     alloc: Global,
     program: Program<'_>,
     live: &Live,
+    workers: Workers,
 ) -> Result<Option<Fault>, OutOfMemory>
     requires inputs { InputsRise 0 program.objects.now }
     requires meant { IsResolution program.resolution.now (resolve Plain program.plan.now.allow_undefined (entries Plain program.objects.now) program.objects.now) }
@@ -145,6 +147,7 @@ fn first_open<R: Threads + Sync>(
         program.resolution,
         &live.set,
         &program.tables.chunks,
+        workers,
     )?;
     let fault = open_fault(alloc, program.objects, symbol)?;
     Ok(fault)
@@ -157,6 +160,7 @@ pub fn unresolved<R: Threads + Sync>(
     alloc: Global,
     program: Program<'_>,
     live: &Live,
+    workers: Workers,
 ) -> Result<(), LinkError>
     ghost w: { Living }
     requires program { IsProgram Plain program w.program }
@@ -165,6 +169,6 @@ pub fn unresolved<R: Threads + Sync>(
 {
     let demanded = missing_demanded(alloc, program.names, program.ranks, program.plan)?;
     refuse(demanded)?;
-    let open = first_open(rt, alloc, program, live)?;
+    let open = first_open(rt, alloc, program, live, workers)?;
     refuse(open)
 }

@@ -16,8 +16,12 @@ use rayon::prelude::*;
 use std::alloc::Global;
 use std::thread::Threads;
 use wl_base::OutOfMemory;
+use wl_fan::Workers;
 
-/// How few rows are worth a thread of their own.
+/// How many symbols are worth threads.
+const LEAST_SYMBOLS: u32 = 50_000;
+
+/// How few rows are worth a thread of their own, where there are threads.
 const LEAST_ROWS: usize = 8;
 
 /// The symbols of a link, beside the least entry of each name that counts.
@@ -60,8 +64,21 @@ impl Comparison<'_> {
     }
 }
 
+/// The least case of all rows, one after the other.
+fn least_alone(comparison: &Comparison<'_>) -> Option<PairCase>
+    requires { IsReady comparison.now }
+    ensures { result ≡ least_case comparison.now.question comparison.now.rows }
+{
+    for row in 0..comparison.rows.count() {
+        if let Some(case) = comparison.case_in(row) {
+            return Some(case);
+        }
+    }
+    None
+}
+
 /// The least case of all rows: of each row by a thread, and the first of these.
-fn least<R: Threads + Sync>(rt: &R, comparison: &Comparison<'_>) -> Option<PairCase>
+fn least_by_threads<R: Threads + Sync>(rt: &R, comparison: &Comparison<'_>) -> Option<PairCase>
     requires { IsReady comparison.now }
     ensures { result ≡ least_case comparison.now.question comparison.now.rows }
 {
@@ -83,12 +100,29 @@ fn least<R: Threads + Sync>(rt: &R, comparison: &Comparison<'_>) -> Option<PairC
         .flatten()
 }
 
+/// The least case of all rows, by threads where they are worth it.
+fn least<R: Threads + Sync>(
+    rt: &R,
+    comparison: &Comparison<'_>,
+    workers: Workers,
+) -> Option<PairCase>
+    requires { IsReady comparison.now }
+    ensures { result ≡ least_case comparison.now.question comparison.now.rows }
+{
+    if workers.count() > 1 && comparison.rows.have_symbols(LEAST_SYMBOLS) {
+        least_by_threads(rt, comparison)
+    } else {
+        least_alone(comparison)
+    }
+}
+
 /// The least case in the rows of a link.
 fn first_case<R: Threads + Sync>(
     rt: &R,
     alloc: Global,
     rows: Rows<'_>,
     question: Question,
+    workers: Workers,
 ) -> Result<Option<PairCase>, OutOfMemory>
     requires { RowsFit rows }
     ensures { IfOk result (λ c. c ≡ least_case question rows.entry) }
@@ -99,36 +133,39 @@ fn first_case<R: Threads + Sync>(
         question,
         firsts: firsts.as_slice(),
     };
-    Ok(least(rt, &comparison))
+    Ok(least(rt, &comparison, workers))
 }
 
 /// The least entry that clashes with the least one of its name: they differ in kind or type, or both name imports themselves and name
-/// different ones. `None` exactly where there is no clash.
+/// different ones. `None` exactly where there is no clash. Several workers share a large list of symbols by threads of `rayon`'s own.
 pub fn first_clash<R: Threads + Sync>(
     rt: &R,
     alloc: Global,
     view: Entries<'_>,
     mode: Mode,
+    workers: Workers,
 ) -> Result<Option<PairCase>, OutOfMemory>
     requires { Fits mode view }
     ensures is { IfOk result (λ c. option_map (clash_told view.entry.names.now.names) c ≡ clash (entries mode view.entry.objects.now)) }
     ensures named { IfOk result (λ c. IsNamed view.entry.names.now.names c) }
 {
     let rows = Rows { view, mode };
-    first_case(rt, alloc, rows, Question::Clashes)
+    first_case(rt, alloc, rows, Question::Clashes, workers)
 }
 
 /// The least strong definition of a name that has a lesser one, with the least one. `None` exactly where each name has one at most.
+/// Several workers share it as in [`first_clash`].
 pub fn first_duplicate<R: Threads + Sync>(
     rt: &R,
     alloc: Global,
     view: Entries<'_>,
     mode: Mode,
+    workers: Workers,
 ) -> Result<Option<PairCase>, OutOfMemory>
     requires { Fits mode view }
     ensures is { IfOk result (λ c. option_map (duplicate_told view.entry.names.now.names) c ≡ duplicate (entries mode view.entry.objects.now)) }
     ensures named { IfOk result (λ c. IsNamed view.entry.names.now.names c) }
 {
     let rows = Rows { view, mode };
-    first_case(rt, alloc, rows, Question::Duplicates)
+    first_case(rt, alloc, rows, Question::Duplicates, workers)
 }

@@ -89,6 +89,21 @@ impl<'a> Rows<'a> {
         self.view.count() + 1
     }
 
+    /// Whether there are at least so many symbols in all rows.
+    pub(crate) fn have_symbols(&self, count: u32) -> bool
+        requires { RowsFit self.now }
+    {
+        let mut left = count;
+        for row in 0..self.count() {
+            let here = self.len(row);
+            if here >= left {
+                return true;
+            }
+            left -= here;
+        }
+        false
+    }
+
     /// How many symbols a row has.
     #[tactic(auto, unfolding(crate::specs::Rows::rows_shown))]
     pub(crate) fn len(&self, row: u32) -> u32

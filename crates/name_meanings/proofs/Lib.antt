@@ -2,6 +2,7 @@ mod Filters
 mod SameImport
 mod Noted
 mod Flattened
+pub mod Something
 pub mod ByNumber
 mod Ruled
 mod Placed

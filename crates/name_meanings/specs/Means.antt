@@ -1,5 +1,5 @@
 -- What a symbol's answer tells, with imports by number.
-use Rattle.std.specs.Prelude.{◌≡◌, ℕ, ◌<◌, List, [], filter_map, flat_map, Option, Some, None, slice_get, slice_index_or}
+use Rattle.std.specs.Prelude.{◌≡◌, ℕ, ◌<◌, Bool, true, false, List, [], filter_map, flat_map, Option, Some, None, slice_get, slice_index_or}
 use Rattle.std.specs.List.{All, AllZip}
 use Rattle.name_entries.specs.wl_base.Choice.{distinct}
 use Rattle.name_entries.specs.name_rules.declared.meaning.Meaning.{Meaning as Told}
@@ -39,6 +39,11 @@ pub record Answers : Type 0 where
 -- the answers for the symbols of an input
 abbrev pub row_of : List (List Told) → ℕ → List Told
 row_of rows input = slice_index_or rows input []
+
+-- whether the answer is something
+abbrev pub means_something : Told → Bool
+means_something Nothing = false
+means_something m = true
 
 abbrev pub answer_at : Answers → ℕ → ℕ → Option Told
 answer_at r input symbol = slice_get (row_of r.rows input) symbol

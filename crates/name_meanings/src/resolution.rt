@@ -1,7 +1,8 @@
 //! What all symbols mean.
 ghost use Rattle.std.specs.Prelude.{◌≡◌, ◌<◌, [], Some, length, slice_get, slice_index_or, option_map, IsSome};
 ghost use Rattle.name_meanings.specs.Kept.{type_kept};
-ghost use Rattle.name_meanings.specs.Means.{row_of, answer_at};
+ghost use Rattle.std.specs.List.{list_all};
+ghost use Rattle.name_meanings.specs.Means.{row_of, answer_at, means_something};
 
 use crate::imports::{ImportTable, ImportType};
 use name_entries::Meaning;
@@ -38,7 +39,40 @@ fn row_of(rows: &Lists<Meaning>, input: InputId) -> &[Meaning]
     }
 }
 
+/// Whether each of these answers is something.
+fn all_mean(row: &[Meaning]) -> bool
+    ensures { result ≡ list_all means_something row.now }
+{
+    for meaning in row {
+        if let Meaning::Nothing = meaning {
+            return false;
+        }
+    }
+    true
+}
+
+/// Whether each of these rows has no other answers.
+fn all_rows_mean(rows: &Lists<Meaning>) -> bool
+    ensures { result ≡ list_all (list_all means_something) rows.now }
+{
+    for at in 0..rows.len() {
+        if let Some(row) = rows.get(at) {
+            if !all_mean(row) {
+                return false;
+            }
+        }
+    }
+    true
+}
+
 impl Resolution {
+    /// Whether each symbol means something. No reference is unresolved then.
+    pub fn all_mean(&self) -> bool
+        ensures { result ≡ list_all (list_all means_something) self.now.rows }
+    {
+        all_rows_mean(&self.rows)
+    }
+
     /// These answers by input, with no imports.
     pub fn of_rows(alloc: Global, rows: Lists<Meaning>) -> Resolution
         ensures rows { result.rows ≡ rows }

@@ -65,8 +65,9 @@ fn imports_of<R: Threads + Sync>(rt: &R, alloc: Global, entries: Entries<'_>) ->
 fn told_of<R: Threads + Sync>(rt: &R, alloc: Global, entries: Entries<'_>) -> Option<Answers>
     requires { Fits Plain entries }
 {
-    let clash = first_clash(rt, alloc, entries, Mode::Plain).ok()?;
-    let duplicate = first_duplicate(rt, alloc, entries, Mode::Plain).ok()?;
+    let workers = Workers::new(2)?;
+    let clash = first_clash(rt, alloc, entries, Mode::Plain, workers).ok()?;
+    let duplicate = first_duplicate(rt, alloc, entries, Mode::Plain, workers).ok()?;
     Some(Answers {
         defines: [defines(&entries, 0), defines(&entries, 1)],
         clash: inputs_of(clash),

@@ -19,6 +19,7 @@ use std::thread::Threads;
 use test_kit::reloc;
 use weak_rules::inputs_rise;
 use wl_base::{InputId, OutOfMemory, Seq, Span};
+use wl_fan::Workers;
 use wl_lists::Lists;
 
 const SPAN: Span = Span { start: 0, len: 20 };
@@ -199,7 +200,10 @@ fn first_of<R: Threads + Sync>(
         return Ok(None);
     }
     let resolution = Resolution::of_rows(alloc, rows);
-    let first = first_unresolved(rt, alloc, objects, &resolution, live, chunks)?;
+    let Some(workers) = Workers::new(2) else {
+        unreachable!()
+    };
+    let first = first_unresolved(rt, alloc, objects, &resolution, live, chunks, workers)?;
     Ok(Some(first))
 }
 

@@ -1,5 +1,6 @@
 mod Least
 mod Places
 mod Pieces
+mod Closed
 mod Live
 mod Meant

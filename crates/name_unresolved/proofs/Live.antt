@@ -1,5 +1,5 @@
 -- The live chunks by their numbers.
-use Rattle.std.proofs.Common.{◌≡◌, ℕ, suc, zero, ◌+◌, ◌<◌, cond, List, [], ◌∷◌, length, get_or, map, slice_get, Some, None, refl, sym, ap, ◌∙◌, arith, add-one, subst}
+use Rattle.std.proofs.Common.{◌≡◌, ℕ, suc, zero, ◌+◌, ◌<◌, cond, List, [], ◌∷◌, length, get_or, drop, map, slice_get, Option, Some, None, refl, sym, ap, ◌∙◌, arith, add-one, subst}
 use Rattle.std.specs.Prelude.{◌==◌}
 use Rattle.std.specs.List.{flat_map, range_with_len, fold}
 use Rattle.std.specs.Option.{option_and_then}
@@ -9,11 +9,12 @@ use Rattle.mark_bits.specs.declared.chunk.Chunk.{Chunk}
 use Rattle.mark_bits.specs.Words.{bit_of}
 use Rattle.name_entries.specs.View.{InputsRise}
 use Rattle.name_unresolved.specs.declared.search.Search.{Search}
-use Rattle.name_unresolved.specs.Refers.{open_inits, refers}
+use Rattle.std.proofs.lemmas.List.FromFn.{get_or-range_with_len, length-range_with_len}
+use Rattle.name_unresolved.specs.Refers.{SymbolAt, open_inits, refers}
 use Rattle.name_unresolved.specs.Least.{lesser, least_by}
 use Rattle.name_unresolved.specs.Unresolved.{is_open, live_from, first_unresolved_of}
 use Rattle.name_unresolved.specs.Search.{opened, least_open, rows_of, chunk_least, number_least}
-use Rattle.name_unresolved.proofs.Least.{filter_is, flat_map_is, fold_is, by_number}
+use Rattle.name_unresolved.proofs.Least.{filter_is, flat_map_is, fold_is, by_number, goes_on, ends}
 
 pub inits_together : (s : Search)
     → least_by (λ o. least_open (rows_of s) (open_inits o)) s.objects.now ≡ least_open (rows_of s) (flat_map open_inits s.objects.now)
@@ -49,3 +50,20 @@ module _ where
   inputs_increase os h k lt =
       let xs = map (λ (o : Object). o.input) os in
       subst (λ j. get_or xs k 0 < get_or xs j 0) (sym (add-one k)) (rising_from 0 os h k (omega (arith, lt)))
+
+-- the numbers one after the other
+pub numbers_go_on : (s : Search) (k : ℕ) (so_far next whole : Option SymbolAt) → k < length s.chunks.now → next ≡ lesser so_far (number_least s k)
+    → lesser so_far (least_by (number_least s) (drop k (range_with_len 0 (length s.chunks.now)))) ≡ whole
+    → lesser next (least_by (number_least s) (drop (k + 1) (range_with_len 0 (length s.chunks.now)))) ≡ whole
+numbers_go_on s k so_far next whole below is all =
+    let n = length s.chunks.now in
+    let at : get_or (range_with_len 0 n) k 0 ≡ k = get_or-range_with_len 0 n k 0 below ∙ omega arith in
+    goes_on (number_least s) (range_with_len 0 n) k 0 so_far next whole (subst (λ m. k < m) (sym (length-range_with_len 0 n)) below) (is ∙ ap (λ m. lesser so_far (number_least s m)) (sym at)) all
+
+pub numbers_end : (s : Search) (k : ℕ) (so_far : Option SymbolAt) → k ≡ length s.chunks.now
+    → lesser so_far (least_by (number_least s) (drop k (range_with_len 0 (length s.chunks.now)))) ≡ least_by (number_least s) (range_with_len 0 (length s.chunks.now))
+    → so_far ≡ first_unresolved_of s.objects.now (rows_of s) s.live.now.words s.chunks.now
+numbers_end s k so_far end all =
+    let n = length s.chunks.now in
+    ends (number_least s) (range_with_len 0 n) k so_far (least_by (number_least s) (range_with_len 0 n)) (end ∙ sym (length-range_with_len 0 n)) all
+    ∙ sym (fold_is (number_least s) (range_with_len 0 n)) ∙ numbers_are s

@@ -16,8 +16,12 @@ use rayon::prelude::*;
 use std::alloc::Global;
 use std::thread::Threads;
 use wl_base::{InputId, OutOfMemory, Seq};
+use wl_fan::Workers;
 
-/// How few chunks are worth a thread of their own.
+/// How many chunks are worth threads.
+const LEAST_WORK: u32 = 50_000;
+
+/// How few chunks are worth a thread of their own, where there are threads.
 const LEAST_CHUNKS: usize = 1024;
 
 /// The objects, what their symbols mean, and the live chunks.
@@ -109,9 +113,21 @@ impl Search<'_> {
     }
 }
 
+/// The least of the open symbols to which live chunks refer, one chunk after the other.
+fn least_alone(search: &Search<'_>) -> Option<(InputId, u32)>
+    requires { IsReady search.now }
+    ensures { result ≡ first_unresolved_of search.now.objects.now (rows_of search.now) search.now.live.now.words search.now.chunks.now }
+{
+    let mut least = None;
+    for number in 0..search.chunks.count() {
+        least = lesser(least, search.in_live(number));
+    }
+    least
+}
+
 /// The least of the open symbols to which live chunks refer: the chunks are looked at by several threads, and the least of what each
 /// finds is taken.
-fn least_live<R: Threads + Sync>(rt: &R, search: &Search<'_>) -> Option<(InputId, u32)>
+fn least_by_threads<R: Threads + Sync>(rt: &R, search: &Search<'_>) -> Option<(InputId, u32)>
     requires { IsReady search.now }
     ensures { result ≡ first_unresolved_of search.now.objects.now (rows_of search.now) search.now.live.now.words search.now.chunks.now }
 {
@@ -135,8 +151,28 @@ fn least_live<R: Threads + Sync>(rt: &R, search: &Search<'_>) -> Option<(InputId
         )
 }
 
+/// The least of the open symbols to which live chunks refer, by threads where they are worth it. Where each symbol means something, as in
+/// nearly all links, no chunk is looked at.
+fn least_live<R: Threads + Sync>(
+    rt: &R,
+    search: &Search<'_>,
+    workers: Workers,
+) -> Option<(InputId, u32)>
+    requires { IsReady search.now }
+    ensures { result ≡ first_unresolved_of search.now.objects.now (rows_of search.now) search.now.live.now.words search.now.chunks.now }
+{
+    if search.resolution.all_mean() {
+        None
+    } else if workers.count() > 1 && search.chunks.count() >= LEAST_WORK {
+        least_by_threads(rt, search)
+    } else {
+        least_alone(search)
+    }
+}
+
 /// The least symbol, by input and place, to which a live chunk refers and that means nothing: it is unresolved where it is used. `None`
 /// exactly where there is none. The chunk of `__wasm_call_ctors` refers to the init functions. It takes memory for a number for each object.
+/// Several workers share many chunks by threads of `rayon`'s own.
 pub fn first_unresolved<R: Threads + Sync>(
     rt: &R,
     alloc: Global,
@@ -144,6 +180,7 @@ pub fn first_unresolved<R: Threads + Sync>(
     resolution: &Resolution,
     live: &MarkSet,
     chunks: &ChunkTable,
+    workers: Workers,
 ) -> Result<Option<(InputId, u32)>, OutOfMemory>
     requires inputs { InputsRise 0 objects.now }
     requires meant { AreMeant resolution.now.rows objects.now }
@@ -158,5 +195,5 @@ pub fn first_unresolved<R: Threads + Sync>(
         live,
         chunks,
     };
-    Ok(least_live(rt, &search))
+    Ok(least_live(rt, &search, workers))
 }

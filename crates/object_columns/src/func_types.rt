@@ -51,11 +51,27 @@ impl FuncTypes {
     pub fn of(alloc: Global, types: &[FuncType]) -> Result<Self, OutOfMemory>
         ensures { IfOk result (λ list. list ≡ types.now) }
     {
-        let mut list = FuncTypes::new(alloc);
+        let mut list = FuncTypes::with_room(alloc, types)?;
         for kind in types {
             list.push(kind)?;
         }
-        Ok(list.shrunk())
+        Ok(list)
+    }
+
+    /// The empty list, with room for these types.
+    fn with_room(alloc: Global, types: &[FuncType]) -> Result<Self, OutOfMemory>
+        ensures { IfOk result (λ list. list ≡ []) }
+    {
+        let mut params: usize = 0;
+        let mut results: usize = 0;
+        for kind in types {
+            params = params.saturating_add(kind.params.len());
+            results = results.saturating_add(kind.results.len());
+        }
+        Ok(FuncTypes {
+            params: Lists::with_room(alloc, types.len(), params)?,
+            results: Lists::with_room(alloc, types.len(), results)?,
+        })
     }
 
     /// How many types there are.

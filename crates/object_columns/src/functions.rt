@@ -1,5 +1,5 @@
 //! Defined functions.
-ghost use Rattle.std.specs.Prelude.{◌≡◌, ◌++◌, ◌∷◌, [], length, slice_get, option_map, OnOk, OnErr};
+ghost use Rattle.std.specs.Prelude.{◌≡◌, ◌++◌, ◌∷◌, [], length, slice_get, option_map, IfOk, OnOk, OnErr};
 ghost use Rattle.object_columns.specs.Columns.{function_of};
 ghost use Rattle.object_columns.specs.Seen.{function_seen};
 
@@ -9,7 +9,7 @@ use body_windows::{Operands, OperandsRef, Reference};
 use std::alloc::Global;
 use std::marker::Model;
 use wl_base::{Name, OutOfMemory, Seq, Span};
-use wl_lists::{Lists, shrunk};
+use wl_lists::{Lists, shrunk, with_room};
 
 /// A defined function, as contracts see it.
 #[derive(Debug, Drop)]
@@ -98,6 +98,23 @@ impl Functions {
             references: Lists::new(alloc),
             names: Lists::new(alloc),
         }
+    }
+
+    /// The empty list, with room for so many functions, and for so many references and bytes of names
+    /// of all of them.
+    pub fn with_room(
+        alloc: Global,
+        functions: usize,
+        references: usize,
+        names: usize,
+    ) -> Result<Self, OutOfMemory>
+        ensures { IfOk result (λ list. list ≡ []) }
+    {
+        Ok(Functions {
+            rows: with_room(alloc, functions)?,
+            references: Lists::with_room(alloc, functions, references)?,
+            names: Lists::with_room(alloc, functions, names)?,
+        })
     }
 
     /// How many functions there are.

@@ -6,7 +6,7 @@ use std::alloc::Global;
 use std::marker::Model;
 use wasm_types::{Import, ImportKind};
 use wl_base::{OutOfMemory, Seq};
-use wl_lists::{Lists, shrunk};
+use wl_lists::{Lists, shrunk, with_room};
 
 /// An import, lent (Core 5.5.5).
 #[derive(Clone, Copy, Debug)]
@@ -55,11 +55,28 @@ impl Imports {
     pub fn of(alloc: Global, imports: &[Import]) -> Result<Self, OutOfMemory>
         ensures { IfOk result (λ list. list ≡ imports.now) }
     {
-        let mut list = Imports::new(alloc);
+        let mut list = Imports::with_room(alloc, imports)?;
         for import in imports {
             list.push(import)?;
         }
-        Ok(list.shrunk())
+        Ok(list)
+    }
+
+    /// The empty list, with room for these imports.
+    fn with_room(alloc: Global, imports: &[Import]) -> Result<Self, OutOfMemory>
+        ensures { IfOk result (λ list. list ≡ []) }
+    {
+        let mut modules: usize = 0;
+        let mut fields: usize = 0;
+        for import in imports {
+            modules = modules.saturating_add(import.module.len());
+            fields = fields.saturating_add(import.field.len());
+        }
+        Ok(Imports {
+            kinds: with_room(alloc, imports.len())?,
+            modules: Lists::with_room(alloc, imports.len(), modules)?,
+            fields: Lists::with_room(alloc, imports.len(), fields)?,
+        })
     }
 
     /// How many imports there are.

@@ -1,5 +1,5 @@
 //! Data segments.
-ghost use Rattle.std.specs.Prelude.{◌≡◌, ◌++◌, ◌∷◌, [], length, slice_get, option_map, OnOk, OnErr};
+ghost use Rattle.std.specs.Prelude.{◌≡◌, ◌++◌, ◌∷◌, [], length, slice_get, option_map, IfOk, OnOk, OnErr};
 ghost use Rattle.object_columns.specs.Seen.{segment_seen};
 
 use crate::short_span::ShortSpan;
@@ -8,7 +8,7 @@ use reloc_section::Reloc;
 use std::alloc::Global;
 use std::marker::Model;
 use wl_base::{OutOfMemory, Seq, Span};
-use wl_lists::{Lists, shrunk};
+use wl_lists::{Lists, shrunk, with_room};
 
 /// An active data segment, as contracts see it.
 #[derive(Debug, Drop)]
@@ -77,6 +77,23 @@ impl Segments {
             names: Lists::new(alloc),
             windows: Lists::new(alloc),
         }
+    }
+
+    /// The empty list, with room for so many segments, and for so many bytes of names and windows of
+    /// all of them.
+    pub fn with_room(
+        alloc: Global,
+        segments: usize,
+        names: usize,
+        windows: usize,
+    ) -> Result<Self, OutOfMemory>
+        ensures { IfOk result (λ list. list ≡ []) }
+    {
+        Ok(Segments {
+            rows: with_room(alloc, segments)?,
+            names: Lists::with_room(alloc, segments, names)?,
+            windows: Lists::with_room(alloc, segments, windows)?,
+        })
     }
 
     /// How many segments there are.

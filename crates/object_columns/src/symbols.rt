@@ -1,5 +1,5 @@
 //! Symbols.
-ghost use Rattle.std.specs.Prelude.{◌≡◌, ◌++◌, ◌∷◌, [], length, slice_get, option_map, OnOk, OnErr};
+ghost use Rattle.std.specs.Prelude.{◌≡◌, ◌++◌, ◌∷◌, [], length, slice_get, option_map, IfOk, OnOk, OnErr};
 ghost use Rattle.object_columns.specs.Columns.{symbol_of};
 ghost use Rattle.object_columns.specs.Seen.{symbol_seen};
 
@@ -8,7 +8,7 @@ use linking_section::SymbolKind;
 use std::alloc::Global;
 use std::marker::Model;
 use wl_base::{OutOfMemory, Seq};
-use wl_lists::{Lists, shrunk};
+use wl_lists::{Lists, shrunk, with_room};
 
 /// A symbol, lent (Linking.md, 'Linking Metadata Section'). Fields that its kind doesn't have are 0.
 #[derive(Clone, Copy, Debug)]
@@ -86,6 +86,16 @@ impl Symbols {
             rows: Seq::new(alloc),
             names: Lists::new(alloc),
         }
+    }
+
+    /// The empty list, with room for so many symbols, and for so many bytes of names of all of them.
+    pub fn with_room(alloc: Global, symbols: usize, names: usize) -> Result<Self, OutOfMemory>
+        ensures { IfOk result (λ list. list ≡ []) }
+    {
+        Ok(Symbols {
+            rows: with_room(alloc, symbols)?,
+            names: Lists::with_room(alloc, symbols, names)?,
+        })
     }
 
     /// How many symbols there are.

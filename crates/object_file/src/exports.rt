@@ -64,3 +64,14 @@ fn name_of(exports: &[Export], place: usize) -> Option<&[u8]>
         Some(export) => Some(export.name.as_slice()),
     }
 }
+
+/// How many bytes the names of the exports at these places have.
+pub fn names_in(exports: &[Export], places: &[Option<usize>]) -> usize {
+    let mut len: usize = 0;
+    for place in places {
+        if let Some(name) = name_at(exports, *place) {
+            len = len.saturating_add(name.len());
+        }
+    }
+    len
+}

@@ -1,10 +1,10 @@
 //! The functions of an object.
-ghost use Rattle.std.specs.Prelude.{◌≡◌, ◌+◌, ◌<◌, ◌^◌, length, slice_get, option_copied, IfOk};
+ghost use Rattle.std.specs.Prelude.{◌≡◌, ◌+◌, ◌<◌, ◌^◌, [], length, slice_get, option_copied, IfOk};
 ghost use Rattle.object_file.specs.Objects.{operands_of, functions_from};
 ghost use Rattle.object_file.specs.Exports.{AreLast};
 ghost use Rattle.object_rules.specs.body_windows.Operands.{operands_seen};
 
-use crate::exports::{last_exports, name_at, place_of};
+use crate::exports::{last_exports, name_at, names_in, place_of};
 use object_columns::{FunctionRef, Functions};
 use object_rules::{CodeBody, Export, Mismatch, Operands, OperandsRef};
 use std::alloc::Global;
@@ -33,6 +33,34 @@ fn body_at(bodies: &[CodeBody], at: usize) -> Option<&CodeBody>
     }
 }
 
+/// How many references the bodies have.
+fn references_in(bodies: &[CodeBody]) -> usize {
+    let mut count: usize = 0;
+    for body in bodies {
+        count = count.saturating_add(operands_of(&body.windows).references.len());
+    }
+    count
+}
+
+/// The empty list, with room for so many functions of these bodies. `last` has the place of the last
+/// export of each function.
+fn room_for(
+    alloc: Global,
+    exports: &[Export],
+    last: &[Option<usize>],
+    functions: usize,
+    bodies: &[CodeBody],
+) -> Result<Functions, OutOfMemory>
+    ensures { IfOk result (λ functions. functions ≡ []) }
+{
+    Functions::with_room(
+        alloc,
+        functions,
+        references_in(bodies),
+        names_in(exports, last),
+    )
+}
+
 /// The defined functions, whose indexes begin at `first`: each type with its body. `last` has the
 /// place of the last export of each function.
 fn named_functions(
@@ -47,7 +75,7 @@ fn named_functions(
     requires counted { first + length types.now < 2 ^ 64 }
     ensures { IfOk result (λ functions. functions ≡ functions_from exports.now first types.now bodies.now) }
 {
-    let mut functions = Functions::new(alloc);
+    let mut functions = room_for(alloc, exports, last, types.len(), bodies)?;
     for (at, type_index) in types.iter().enumerate() {
         let Some(body) = body_at(bodies, at) else {
             return Ok(functions);
@@ -76,6 +104,5 @@ pub fn functions_from(
     ensures { IfOk result (λ functions. functions ≡ functions_from exports.now first types.now bodies.now) }
 {
     let last = last_exports(alloc, functions, exports)?;
-    let functions = named_functions(alloc, exports, last.as_slice(), first, types, bodies)?;
-    Ok(functions.shrunk())
+    named_functions(alloc, exports, last.as_slice(), first, types, bodies)
 }

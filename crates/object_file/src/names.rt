@@ -25,6 +25,19 @@ fn with_name<'a>(imports: &'a [Import], places: &ImportPlaces, symbol: &'a Symbo
     }
 }
 
+/// How many bytes the names of the symbols have.
+fn names_in(imports: &[Import], places: &ImportPlaces, symbols: &[Symbol]) -> usize
+    requires { ArePlaces imports.now places.now }
+{
+    let mut len: usize = 0;
+    for symbol in symbols {
+        if let Some(name) = name_of(imports, places, symbol) {
+            len = len.saturating_add(name.len());
+        }
+    }
+    len
+}
+
 /// The symbols with their names: a symbol without one takes that of the import that it names.
 pub fn with_names(
     alloc: Global,
@@ -34,9 +47,10 @@ pub fn with_names(
     ensures { IfOk result (λ named. named ≡ map (with_name imports.now) symbols.now) }
 {
     let places = ImportPlaces::of(alloc, imports)?;
-    let mut named = Symbols::new(alloc);
+    let room = names_in(imports, &places, symbols);
+    let mut named = Symbols::with_room(alloc, symbols.len(), room)?;
     for symbol in symbols {
         named.push(with_name(imports, &places, symbol))?;
     }
-    Ok(named.shrunk())
+    Ok(named)
 }

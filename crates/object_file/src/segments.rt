@@ -1,5 +1,5 @@
 //! The data segments of an object.
-ghost use Rattle.std.specs.Prelude.{◌≡◌, drop, map, IfOk};
+ghost use Rattle.std.specs.Prelude.{◌≡◌, drop, map, IfOk, OnOk};
 ghost use Rattle.object_columns.specs.Seen.{segment_seen};
 ghost use Rattle.object_rules.specs.object_parts.Code.{end_in};
 ghost use Rattle.object_file.specs.Objects.{first_info, window_from, segments_from};
@@ -44,15 +44,25 @@ fn window_from(base: u64, reloc: &Reloc) -> Reloc
     Reloc { offset, ..*reloc }
 }
 
-/// The relocations with offsets that count from this place of the payload.
-fn windows_from(alloc: Global, base: u64, relocs: &[Reloc]) -> Result<Seq<Reloc>, OutOfMemory>
-    ensures { IfOk result (λ windows. windows ≡ map (window_from base) relocs.now) }
+/// Puts the relocations, with offsets that count from this place of the payload, in place of what
+/// `windows` has.
+fn put_windows(windows: &mut Seq<Reloc>, base: u64, relocs: &[Reloc]) -> Result<(), OutOfMemory>
+    ensures { OnOk result (windows.new ≡ map (window_from base) relocs.now) }
 {
-    let mut windows = Seq::new(alloc);
+    windows.truncate(0);
     for reloc in relocs {
         windows.push(window_from(base, reloc))?;
     }
-    Ok(windows)
+    Ok(())
+}
+
+/// How many bytes the names of the segments have.
+fn names_in(infos: &[SegmentInfo]) -> usize {
+    let mut len: usize = 0;
+    for info in infos {
+        len = len.saturating_add(info.name.len());
+    }
+    len
 }
 
 /// Where a part of the object ends in a payload that begins at `start`.
@@ -73,14 +83,15 @@ pub fn segments_from(
 ) -> Result<Segments, OutOfMemory>
     ensures { IfOk result (λ segments. segments ≡ segments_from start relocs.now infos.now parts.now) }
 {
-    let mut segments = Segments::new(alloc);
+    let mut segments = Segments::with_room(alloc, parts.len(), names_in(infos), relocs.len())?;
+    let mut windows = Seq::new(alloc);
     let mut left = relocs;
     for (at, part) in parts.iter().enumerate() {
         let span = part.span;
         let (own, behind) = split_before(end_in(start, span), left);
-        let windows = windows_from(alloc, span.start.saturating_sub(start), own)?;
+        put_windows(&mut windows, span.start.saturating_sub(start), own)?;
         segments.push(with_info(span, infos, at, windows.as_slice()))?;
         left = behind;
     }
-    Ok(segments.shrunk())
+    Ok(segments)
 }

@@ -1,5 +1,6 @@
 pub mod Loop
 pub mod Sections
+pub mod ReadEarly
 pub mod Stays
 pub mod Turned
 pub mod Items

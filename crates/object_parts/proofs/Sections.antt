@@ -1,5 +1,5 @@
 -- Sections one after another, as loops go over them.
-use Rattle.std.proofs.Common.{◌≡◌, ℕ, ◌+◌, ◌≤◌, ◌<◌, List, [], ◌∷◌, ◌++◌, length, drop, get_or, Option, Some, None, Result, Ok, Err, refl, sym, ap, ◌∙◌, arith}
+use Rattle.std.proofs.Common.{◌≡◌, ℕ, ◌+◌, ◌≤◌, ◌<◌, List, [], ◌∷◌, length, drop, get_or, Some, None, Result, Ok, Err, refl, sym, ap, ◌∙◌, arith}
 use Rattle.std.proofs.lemmas.List.{at_drop_more, length-append, drop_all}
 use Rattle.wasm_instr.specs.wasm_grammar.declared.fault.Stop.{Stop}
 use Rattle.wasm_instr.specs.wasm_grammar.declared.fault.ReadFault.{ReadFault}
@@ -14,7 +14,7 @@ use Rattle.object_parts.specs.declared.reading.SectionStop.{SectionStop}
 use Rattle.object_parts.specs.Kinds.{kind_of}
 use Rattle.object_parts.specs.Adding.{no_parts, add_kind}
 use Rattle.object_parts.specs.Sections.{bytes_in, AddInTurn}
-use Rattle.object_parts.specs.Reading.{◌>=>◌, in_section, code_relocs_in, code_relocs, parts_from, parts_of, fault_in, GivesParts}
+use Rattle.object_parts.specs.Reading.{◌>=>◌, in_section, code_relocs_in, code_relocs, parts_from, parts_of, fault_in, GivesParts, GivesMore}
 use Rattle.object_parts.specs.declared.reading.PartsFault.{PartsFault}
 use Rattle.object_parts.proofs.Added.{kind_found, kind_again}
 use Rattle.std.specs.Prelude.{IfOk}
@@ -54,31 +54,34 @@ nowhere all bytes sections i total le so_far =
 
 -- ---- the parts
 
-module _ (all : List SectionSpan) (relocs : List Reloc) (bytes : List ℕ) where
+-- the sections count from the place where the first of them stands
+module _ (all : List SectionSpan) (relocs : List Reloc) (bytes : List ℕ) (from : ℕ) where
   pub added : (sections : List SectionSpan) (i : ℕ) (d : SectionSpan) (parts more : Parts) (total : Result Parts SectionStop) → i < length sections
       → add_kind all relocs (kind_of (get_or sections i d).id) parts (get_or sections i d).payload (bytes_in bytes (get_or sections i d).payload) ≡ Ok more
-      → parts_from all relocs bytes i parts (drop i sections) ≡ total → parts_from all relocs bytes (i + 1) more (drop (i + 1) sections) ≡ total
+      → parts_from all relocs bytes (from + i) parts (drop i sections) ≡ total → parts_from all relocs bytes (from + (i + 1)) more (drop (i + 1) sections) ≡ total
   unfolding parts_from
   added sections i d parts more total lt h so_far =
-      let one : parts_from all relocs bytes i parts (drop i sections) ≡ parts_from all relocs bytes (i + 1) more (drop (i + 1) sections)
-      = at_drop_more (parts_from all relocs bytes i parts) sections i d lt ∙ rw h refl in
+      let next : from + i + 1 ≡ from + (i + 1) = omega arith in
+      let one : parts_from all relocs bytes (from + i) parts (drop i sections) ≡ parts_from all relocs bytes (from + (i + 1)) more (drop (i + 1) sections)
+      = at_drop_more (parts_from all relocs bytes (from + i) parts) sections i d lt ∙ rw (h, next) refl in
       sym one ∙ so_far
 
-  pub stopped : (fault : ReadFault) (sections : List SectionSpan) (i : ℕ) (d : SectionSpan) (parts : Parts) (total : Result Parts SectionStop) → i < length sections
+  pub stopped : (A : Type 0) (fault : ReadFault) (sections : List SectionSpan) (i : ℕ) (d : SectionSpan) (parts more : Parts) (total : Result Parts SectionStop) → i < length sections
       → Fails fault (add_kind all relocs (kind_of (get_or sections i d).id) parts (get_or sections i d).payload (bytes_in bytes (get_or sections i d).payload))
-      → parts_from all relocs bytes i parts (drop i sections) ≡ total → GivesParts (Err (fault_in i fault)) total
+      → parts_from all relocs bytes (from + i) parts (drop i sections) ≡ total
+      → (let r : Result A PartsFault = Err (fault_in (from + i) fault) in GivesMore r more total)
   unfolding parts_from
-  stopped OutOfMemory sections i d parts total lt h so_far = tt
-  stopped (Stopped e) sections i d parts total lt h so_far =
-      let one : parts_from all relocs bytes i parts (drop i sections) ≡ Err (record { section = i; stop = e })
-      = at_drop_more (parts_from all relocs bytes i parts) sections i d lt ∙ rw h refl in
+  stopped A OutOfMemory sections i d parts more total lt h so_far = tt
+  stopped A (Stopped e) sections i d parts more total lt h so_far =
+      let one : parts_from all relocs bytes (from + i) parts (drop i sections) ≡ Err (record { section = from + i; stop = e })
+      = at_drop_more (parts_from all relocs bytes (from + i) parts) sections i d lt ∙ rw h refl in
       sym so_far ∙ one
 
   pub all_added : (sections : List SectionSpan) (i : ℕ) (parts : Parts) (total : Result Parts SectionStop) → length sections ≤ i
-      → parts_from all relocs bytes i parts (drop i sections) ≡ total → total ≡ Ok parts
+      → parts_from all relocs bytes (from + i) parts (drop i sections) ≡ total → total ≡ Ok parts
   unfolding parts_from
   all_added sections i parts total le so_far =
-      let one : parts_from all relocs bytes i parts (drop i sections) ≡ Ok parts = rw (drop_all i sections le) refl in
+      let one : parts_from all relocs bytes (from + i) parts (drop i sections) ≡ Ok parts = rw (drop_all i sections le) refl in
       sym so_far ∙ one
 
 -- ---- what the sections spell

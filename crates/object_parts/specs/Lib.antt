@@ -6,6 +6,7 @@ pub mod Code
 pub mod Adding
 pub mod Sections
 pub mod Reading
+pub mod Early
 pub mod Spans
 pub use Rattle.wasm_instr.specs.wl_base as wl_base
 pub use Rattle.wl_lists.specs as wl_lists

@@ -87,3 +87,9 @@ abbrev pub GivesParts : Result Parts PartsFault → Result Parts SectionStop →
 GivesParts (Ok parts) said = said ≡ Ok parts
 GivesParts (Err (faults.Stopped stop)) said = said ≡ Err stop
 GivesParts (Err faults.OutOfMemory) said = Unit {0}
+
+-- The same of a step that adds to the parts.
+abbrev pub GivesMore : {A : Type 0} → Result A PartsFault → Parts → Result Parts SectionStop → Type 0
+GivesMore (Ok x) parts said = said ≡ Ok parts
+GivesMore (Err (faults.Stopped stop)) parts said = said ≡ Err stop
+GivesMore (Err faults.OutOfMemory) parts said = Unit {0}

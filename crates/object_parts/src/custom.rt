@@ -65,7 +65,8 @@ fn with_linking(parts: &mut Parts, linking: Linking)
     }
 }
 
-fn with_relocs(parts: &mut Parts, relocs: RelocSection) -> Result<(), OutOfMemory>
+/// A section of relocations more.
+pub fn with_relocs(parts: &mut Parts, relocs: RelocSection) -> Result<(), OutOfMemory>
     ensures { OnOk result (parts.new ≡ with_relocs parts.old relocs) }
 {
     parts.relocs.push(relocs)?;

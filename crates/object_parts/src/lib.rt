@@ -9,6 +9,7 @@ mod adding;
 mod code;
 mod custom;
 mod data;
+mod early;
 mod elements;
 mod globals;
 mod imports;

@@ -1,21 +1,22 @@
 //! The sections of an object in file order.
-ghost use Rattle.std.specs.Prelude.{◌≡◌, ◌+◌, ◌≤◌, ◌<◌, ◌^◌, length, All, IfOk};
-ghost use Rattle.wasm_instr.specs.wasm_grammar.Reading.{u32_at, name_at};
-ghost use Rattle.reloc_section.specs.Relocs.{relocs_at};
+ghost use Rattle.std.specs.Prelude.{◌≡◌, ◌+◌, ◌≤◌, ◌<◌, ◌^◌, ◌==◌, not, true, length, drop, All, IfOk};
+ghost use Rattle.std.specs.List.{list_all};
 ghost use Rattle.object_parts.specs.Adding.{no_parts};
 ghost use Rattle.object_parts.specs.Sections.{AddInTurn};
 ghost use Rattle.object_parts.specs.Spans.{LieIn};
 ghost use Rattle.object_parts.specs.declared.parts.Parts.{Parts as Told};
-ghost use Rattle.object_parts.specs.Reading.{entries_or_none, code_target, code_relocs_of, code_relocs_named, code_relocs_in, code_relocs, parts_from, parts_of, fault_in, GivesParts};
+ghost use Rattle.object_parts.specs.Reading.{code_relocs, parts_from, parts_of, fault_in, GivesParts, GivesMore};
+ghost use Rattle.object_parts.specs.Early.{StandsIn};
 
 use crate::adding::add_kind;
-use crate::custom::has_id;
-use crate::kind::{CustomKind, SectionKind};
+use crate::custom::with_relocs;
+use crate::early::{Early, code_relocs};
+use crate::kind::SectionKind;
 use crate::parts::Parts;
 use crate::placed::bytes_in;
-use reloc_section::{Reloc, relocs_at};
+use reloc_section::Reloc;
 use std::alloc::Global;
-use wasm_grammar::{ReadFault, Stop, name_at, u32_at};
+use wasm_grammar::{ReadFault, Stop};
 use wasm_sections::SectionSpan;
 use wl_base::{OutOfMemory, Seq};
 
@@ -45,100 +46,6 @@ impl From<OutOfMemory> for PartsFault {
     fn from(_e: OutOfMemory) -> PartsFault {
         PartsFault::OutOfMemory
     }
-}
-
-/// The entries of a section of relocations; none where it isn't spelled.
-fn entries_or_none(alloc: Global, end: usize, bytes: &[u8]) -> Result<Seq<Reloc>, OutOfMemory>
-    ensures { IfOk result (λ entries. entries ≡ entries_or_none (relocs_at end bytes.now)) }
-{
-    match relocs_at(alloc, end, bytes) {
-        Ok(section) => Ok(section.entries),
-        Err(ReadFault::Stopped(_)) => Ok(Seq::new(alloc)),
-        Err(ReadFault::OutOfMemory) => Err(OutOfMemory),
-    }
-}
-
-/// The relocations, where they are for the code section.
-fn code_target(
-    alloc: Global,
-    all: &[SectionSpan],
-    end: usize,
-    bytes: &[u8],
-) -> Result<Option<Seq<Reloc>>, OutOfMemory>
-    ensures { IfOk result (λ relocs. relocs ≡ code_target all.now end bytes.now (u32_at end bytes.now)) }
-{
-    match u32_at(end, bytes) {
-        Ok((target, _)) if has_id(10, all, target) => {
-            let entries = entries_or_none(alloc, end, bytes)?;
-            Ok(Some(entries))
-        }
-        _ => Ok(None),
-    }
-}
-
-/// The relocations behind the name of a custom section, where they are for the code section.
-fn code_relocs_of(
-    alloc: Global,
-    all: &[SectionSpan],
-    kind: CustomKind,
-    end: usize,
-    bytes: &[u8],
-) -> Result<Option<Seq<Reloc>>, OutOfMemory>
-    ensures { IfOk result (λ relocs. relocs ≡ code_relocs_of all.now kind end bytes.now) }
-{
-    match kind {
-        CustomKind::Relocs => code_target(alloc, all, end, bytes),
-        CustomKind::Linking | CustomKind::Shared | CustomKind::Other => Ok(None),
-    }
-}
-
-/// The relocations of a custom section, where they are for the code section.
-fn code_relocs_named(
-    alloc: Global,
-    all: &[SectionSpan],
-    end: usize,
-    payload: &[u8],
-) -> Result<Option<Seq<Reloc>>, OutOfMemory>
-    ensures { IfOk result (λ relocs. relocs ≡ code_relocs_named all.now end (name_at end payload.now)) }
-{
-    match name_at(alloc, end, payload) {
-        Ok((name, rest)) => {
-            let kind = CustomKind::of(name.as_slice());
-            code_relocs_of(alloc, all, kind, end, rest)
-        }
-        Err(ReadFault::Stopped(_)) => Ok(None),
-        Err(ReadFault::OutOfMemory) => Err(OutOfMemory),
-    }
-}
-
-/// The relocations of one section, where they are for the code section.
-fn code_relocs_in(
-    alloc: Global,
-    all: &[SectionSpan],
-    bytes: &[u8],
-    section: SectionSpan,
-) -> Result<Option<Seq<Reloc>>, OutOfMemory>
-    requires lies { section.payload.start + section.payload.len ≤ length bytes.now }
-    ensures { IfOk result (λ relocs. relocs ≡ code_relocs_in all.now bytes.now section) }
-{
-    if section.id != 0 {
-        return Ok(None);
-    }
-    let end = (section.payload.start + section.payload.len) as usize;
-    code_relocs_named(alloc, all, end, bytes_in(bytes, section.payload))
-}
-
-/// The relocations of the code: those of the first section that is for the code section.
-fn code_relocs(alloc: Global, all: &[SectionSpan], bytes: &[u8]) -> Result<Seq<Reloc>, OutOfMemory>
-    requires lie { All (λ s. s.payload.start + s.payload.len ≤ length bytes.now) all.now }
-    ensures { IfOk result (λ relocs. relocs ≡ code_relocs all.now bytes.now all.now) }
-{
-    for section in all {
-        if let Some(relocs) = code_relocs_in(alloc, all, bytes, *section)? {
-            return Ok(relocs);
-        }
-    }
-    Ok(Seq::new(alloc))
 }
 
 impl Parts {
@@ -173,36 +80,86 @@ fn fault_in(section: u32, fault: ReadFault) -> PartsFault
     }
 }
 
-/// The parts of the sections, one after another.
-fn parts_from(
+/// Adds what each of these sections tells, one after another. The first of them stands at this
+/// place among all sections.
+fn add_sections(
     alloc: Global,
     all: &[SectionSpan],
     relocs: &[Reloc],
+    from: u32,
+    parts: &mut Parts,
+    sections: &[SectionSpan],
     bytes: &[u8],
-) -> Result<Parts, PartsFault>
+) -> Result<(), PartsFault>
+    requires lie { All (λ s. s.payload.start + s.payload.len ≤ length bytes.now) sections.now }
+    requires short { length bytes.now ≤ 2 ^ 30 }
+    requires few { from + length sections.now < 2 ^ 32 }
+    ensures { GivesMore result parts.new (parts_from all.now relocs.now bytes.now from parts.old sections.now) }
+{
+    for (at, section) in sections.iter().enumerate() {
+        let kind = SectionKind::of(section.id);
+        let payload = bytes_in(bytes, section.payload);
+        let added = add_kind(alloc, all, relocs, kind, parts, section.payload, payload);
+        if let Err(fault) = added {
+            return Err(fault_in(from + at as u32, fault));
+        }
+    }
+    Ok(())
+}
+
+/// Whether none of the sections has code.
+fn have_no_code(sections: &[SectionSpan]) -> bool
+    ensures { result ≡ list_all (λ s. not (s.id == 10)) sections.now }
+{
+    sections.iter().all(|section| section.id != 10)
+}
+
+/// Adds what all sections tell, where none behind the relocations of the code has code. These were
+/// read before their turn, and are put where they stand.
+fn add_around(
+    alloc: Global,
+    all: &[SectionSpan],
+    early: Early,
+    parts: &mut Parts,
+    bytes: &[u8],
+) -> Result<(), PartsFault>
     requires lie { All (λ s. s.payload.start + s.payload.len ≤ length bytes.now) all.now }
     requires short { length bytes.now ≤ 2 ^ 30 }
     requires few { length all.now < 2 ^ 32 }
-    ensures { GivesParts result (parts_from all.now relocs.now bytes.now 0 no_parts all.now) }
+    requires stands { StandsIn all.now bytes.now early }
+    requires no_code { list_all (λ s. not (s.id == 10)) (drop (early.place + 1) all.now) ≡ true }
+    ensures { GivesMore result parts.new (parts_from all.now early.relocs.entries bytes.now 0 parts.old all.now) }
 {
-    let mut parts = Parts::new(alloc);
-    for (at, section) in all.iter().enumerate() {
-        let kind = SectionKind::of(section.id);
-        let payload = bytes_in(bytes, section.payload);
-        let added = add_kind(
-            alloc,
-            all,
-            relocs,
-            kind,
-            &mut parts,
-            section.payload,
-            payload,
-        );
-        if let Err(fault) = added {
-            return Err(fault_in(at as u32, fault));
+    let Early { place, relocs } = early;
+    let code = relocs.entries.as_slice();
+    add_sections(alloc, all, code, 0, parts, &all[..place], bytes)?;
+    with_relocs(parts, relocs)?;
+    let behind = &all[place + 1..];
+    add_sections(alloc, all, &[], place as u32 + 1, parts, behind, bytes)
+}
+
+/// Adds what all sections tell.
+fn add_all(
+    alloc: Global,
+    all: &[SectionSpan],
+    parts: &mut Parts,
+    bytes: &[u8],
+) -> Result<(), PartsFault>
+    requires lie { All (λ s. s.payload.start + s.payload.len ≤ length bytes.now) all.now }
+    requires short { length bytes.now ≤ 2 ^ 30 }
+    requires few { length all.now < 2 ^ 32 }
+    ensures { GivesMore result parts.new (parts_from all.now (code_relocs all.now bytes.now all.now) bytes.now 0 parts.old all.now) }
+{
+    match code_relocs(alloc, all, bytes)? {
+        Some(early) if have_no_code(&all[early.place + 1..]) => {
+            add_around(alloc, all, early, parts, bytes)
         }
+        Some(early) => {
+            let code = early.relocs.entries.as_slice();
+            add_sections(alloc, all, code, 0, parts, all, bytes)
+        }
+        None => add_sections(alloc, all, &[], 0, parts, all, bytes),
     }
-    Ok(parts)
 }
 
 #[tactic(auto, unfolding(crate::specs::Reading::parts_of))]
@@ -212,8 +169,8 @@ fn parts_at(alloc: Global, all: &[SectionSpan], bytes: &[u8]) -> Result<Parts, P
     requires few { length all.now < 2 ^ 32 }
     ensures { GivesParts result (parts_of all.now bytes.now) }
 {
-    let relocs = code_relocs(alloc, all, bytes)?;
-    let parts = parts_from(alloc, all, relocs.as_slice(), bytes)?;
+    let mut parts = Parts::new(alloc);
+    add_all(alloc, all, &mut parts, bytes)?;
     Ok(parts)
 }
 

@@ -1,12 +1,12 @@
 //! Segment infos, init functions and groups.
 ghost use Rattle.std.specs.Prelude.{◌≡◌, ◌++◌, nat_le, map, flat_map, slice_get, IfOk, OnOk};
-ghost use Rattle.std.specs.List.{list_all};
+ghost use Rattle.std.specs.List.{list_all, list_any};
 ghost use Rattle.std.specs.Str.{bytes_eq};
 ghost use Rattle.object_rules.specs.Differ.{all_differ};
 ghost use Rattle.object_rules.specs.Spaces.{function_types};
 ghost use Rattle.object_rules.specs.Metadata.{infos_stand, is_plain, is_plain_at, is_function_kind, is_init, inits_stand, member_stands, member_key, groups_stand};
 
-use crate::differ::numbers_differ;
+use crate::differ::{FEW, numbers_differ};
 use crate::spaces::{Counts, function_types};
 use indexmap::IndexSet;
 use object_parts::{Group, InitFunc, Member, Parts, SegmentInfo, Symbol, SymbolKind, member_kinds};
@@ -130,9 +130,38 @@ fn member_keys(alloc: Global, groups: &[Group]) -> Result<Seq<u64>, OutOfMemory>
     Ok(keys)
 }
 
+/// Whether one of the groups has this name.
+fn is_named(groups: &[Group], name: &[u8]) -> bool
+    ensures { result ≡ list_any (bytes_eq name.now) (map (λ g. g.name) groups.now) }
+{
+    for group in groups {
+        if name == group.name.as_slice() {
+            return true;
+        }
+    }
+    false
+}
+
+/// Whether no two of a few groups have one name.
+fn pairs_differ(groups: &[Group]) -> bool
+    ensures { result ≡ all_differ bytes_eq (map (λ g. g.name) groups.now) }
+{
+    let mut left = groups;
+    while let [group, behind @ ..] = left {
+        if is_named(behind, group.name.as_slice()) {
+            return false;
+        }
+        left = behind;
+    }
+    true
+}
+
 fn names_differ(alloc: Global, groups: &[Group]) -> Result<bool, OutOfMemory>
     ensures { IfOk result (λ differ. differ ≡ all_differ bytes_eq (map (λ g. g.name) groups.now)) }
 {
+    if groups.len() <= FEW {
+        return Ok(pairs_differ(groups));
+    }
     let mut seen = IndexSet::new(alloc);
     for group in groups {
         if !seen.insert(group.name.as_slice())? {

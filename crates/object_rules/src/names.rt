@@ -1,8 +1,11 @@
 //! The names of symbols.
-ghost use Rattle.std.specs.Prelude.{◌≡◌, slice_get, option_copied, IfOk};
+ghost use Rattle.std.specs.Prelude.{◌≡◌, slice_get, filter_map, option_copied, IfOk};
+ghost use Rattle.std.specs.List.{list_any};
+ghost use Rattle.std.specs.Str.{bytes_eq};
 ghost use Rattle.object_rules.specs.Spaces.{ArePlaces};
 ghost use Rattle.object_rules.specs.Symbols.{field_of, import_name, name_of, is_seen, seen_name, names_differ};
 
+use crate::differ::FEW;
 use crate::spaces::ImportPlaces;
 use indexmap::IndexSet;
 use object_parts::{Symbol, SymbolKind};
@@ -71,6 +74,38 @@ fn seen_name<'a>(
     }
 }
 
+/// Whether other objects see this name at one of the symbols.
+fn is_seen_among(imports: &[Import], places: &ImportPlaces, symbols: &[Symbol], name: &[u8]) -> bool
+    requires { ArePlaces imports.now places.now }
+    ensures { result ≡ list_any (bytes_eq name.now) (filter_map (seen_name imports.now) symbols.now) }
+{
+    for symbol in symbols {
+        if let Some(other) = seen_name(imports, places, symbol) {
+            if name == other {
+                return true;
+            }
+        }
+    }
+    false
+}
+
+/// Whether no two names of a few symbols are equal.
+fn pairs_differ(imports: &[Import], places: &ImportPlaces, symbols: &[Symbol]) -> bool
+    requires { ArePlaces imports.now places.now }
+    ensures { result ≡ names_differ imports.now symbols.now }
+{
+    let mut left = symbols;
+    while let [symbol, behind @ ..] = left {
+        if let Some(name) = seen_name(imports, places, symbol) {
+            if is_seen_among(imports, places, behind, name) {
+                return false;
+            }
+        }
+        left = behind;
+    }
+    true
+}
+
 /// Whether no two of the names that other objects see are equal.
 pub fn names_differ(
     alloc: Global,
@@ -81,6 +116,9 @@ pub fn names_differ(
     requires { ArePlaces imports.now places.now }
     ensures { IfOk result (λ differ. differ ≡ names_differ imports.now symbols.now) }
 {
+    if symbols.len() <= FEW {
+        return Ok(pairs_differ(imports, places, symbols));
+    }
     let mut seen = IndexSet::new(alloc);
     for symbol in symbols {
         if let Some(name) = seen_name(imports, places, symbol) {

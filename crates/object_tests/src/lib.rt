@@ -12,4 +12,6 @@ mod refused;
 #[cfg(test)]
 mod rules;
 #[cfg(test)]
+mod short_forms;
+#[cfg(test)]
 mod windows;

@@ -119,17 +119,25 @@ fn stopped(section: u32, stop: Stop) -> Option<PartsFault> {
     Some(PartsFault::Stopped(SectionStop { section, stop }))
 }
 
-/// The object of two functions, of which `f` calls `g`, which gives 7.
-fn calls_are_read(alloc: Global) -> bool {
-    let bytes = calling_object();
+/// Whether this is the object of two functions, of which `f` calls `g`, which gives 7: where its bodies stand, and which section is its
+/// code.
+fn are_calls(alloc: Global, bytes: &[u8], starts: [u64; 2], code: u32) -> bool {
+    let [f, g] = starts;
     let both = [
-        Some((Span { start: 24, len: 8 }, true)),
-        Some((Span { start: 33, len: 4 }, true)),
+        Some((Span { start: f, len: 8 }, true)),
+        Some((Span { start: g, len: 4 }, true)),
     ];
     lengths(alloc, bytes) == Some([1, 2, 2, 0, 1])
         && metadata(alloc, bytes) == Some((true, true))
         && bodies(alloc, bytes) == Some(both)
-        && relocs(alloc, bytes) == Some((2, 1))
+        && relocs(alloc, bytes) == Some((code, 1))
+}
+
+/// The code before its relocations, and behind them.
+fn calls_are_read(alloc: Global) -> bool {
+    let late =
+        b"\0asm\x01\0\0\0\x01\x05\x01`\0\x01\x7f\x03\x03\x02\0\0\0\x16\x07linking\x02\x08\x0b\x02\0\0\0\x01f\0\0\x01\x01g\0\x10\x0areloc.CODE\x04\x01\0\x04\x01\x0a\x0f\x02\x08\0\x10\x81\x80\x80\x80\0\x0b\x04\0A\x07\x0b".as_slice();
+    are_calls(alloc, calling_object(), [24, 33], 2) && are_calls(alloc, late, [66, 75], 4)
 }
 
 /// Relocations before the section `linking`, a second one of those, and relocations of a custom section, which aren't read.

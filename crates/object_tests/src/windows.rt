@@ -13,9 +13,9 @@ use wasm_instr::read_body;
 use wl_base::{Item, OutOfMemory, Seq};
 
 /// Where the bodies of these tests stand in the code section.
-const BASE: u32 = 4;
+pub const BASE: u32 = 4;
 
-fn reloc(kind: u8, place: u8) -> Reloc {
+pub fn reloc(kind: u8, place: u8) -> Reloc {
     Reloc {
         kind,
         offset: BASE + place as u32,
@@ -24,7 +24,7 @@ fn reloc(kind: u8, place: u8) -> Reloc {
     }
 }
 
-fn symbol(kind: u8, place: u8) -> Operand {
+pub fn symbol(kind: u8, place: u8) -> Operand {
     Operand::Symbol {
         kind,
         place: place as u32,
@@ -41,7 +41,7 @@ fn type_ref(place: u8) -> Operand {
 }
 
 /// Whether the operands are these.
-fn are(alloc: Global, operands: &Operands, want: &[Operand]) -> bool {
+pub fn are(alloc: Global, operands: &Operands, want: &[Operand]) -> bool {
     match operands.as_ref().to_list(alloc) {
         Ok(list) => list.as_slice() == want,
         Err(_) => false,
@@ -49,7 +49,7 @@ fn are(alloc: Global, operands: &Operands, want: &[Operand]) -> bool {
 }
 
 /// What `windows` gives of the body that these bytes are.
-fn read(alloc: Global, bytes: &[u8], relocs: &[Reloc]) -> Option<Result<Operands, WindowFault>>
+pub fn read(alloc: Global, bytes: &[u8], relocs: &[Reloc]) -> Option<Result<Operands, WindowFault>>
     requires { length bytes.now ≤ 1000 }
 {
     match read_body(alloc, bytes) {
@@ -59,7 +59,7 @@ fn read(alloc: Global, bytes: &[u8], relocs: &[Reloc]) -> Option<Result<Operands
 }
 
 /// What `scan` gives of them.
-fn scanned(alloc: Global, bytes: &[u8], relocs: &[Reloc]) -> Option<Result<Operands, Mismatch>>
+pub fn scanned(alloc: Global, bytes: &[u8], relocs: &[Reloc]) -> Option<Result<Operands, Mismatch>>
     requires { length bytes.now ≤ 1000 }
 {
     let mut opens = Seq::new(alloc);

@@ -23,14 +23,15 @@ use wl_outside::Gate;
 /// their symbols, parts and references. `homes` has where the bytes of each candidate stand.
 ///
 /// It is `Refused` by the first of these faults: there are more than 2^24 different names; two entries of one name clash; a name has two
-/// strong definitions. The races for groups and names are the gate's phases `Groups` and `Names`, by as many workers as the plan has
-/// threads; what is answered doesn't depend on their number. `origin` has the files and the candidates, by which the program is defined.
+/// strong definitions. The races for groups and names are the gate's phases `Groups` and `Names`, by these workers;
+/// what is answered doesn't depend on their number. `origin` has the files and the candidates, by which the program is defined.
 pub fn find<G: Gate, R: Threads + Sync>(
     rt: &R,
     alloc: Global,
     plan: &Plan,
     objects: &[Object],
     homes: &[Home],
+    workers: Workers,
     gate: &G,
 ) -> Result<Found, LinkError>
     ghost origin: { Origin }
@@ -40,9 +41,6 @@ pub fn find<G: Gate, R: Threads + Sync>(
     ensures { Finds modes.Plain result plan.now objects.now (program_of modes.Plain plan.now origin.files origin.all objects.now) }
 {
     let names = numbers_of(alloc, plan, objects, Mode::Plain)?;
-    let Some(workers) = Workers::new(plan.threads) else {
-        unreachable!()
-    };
     let groups = group_winners(rt, alloc, objects, &names, workers, gate)?;
     let entries = EntryTable::new(alloc, objects, &names, &groups)?;
     let view = entries.view(objects, &names);

@@ -13,6 +13,7 @@ use name_cases::{first_clash, first_duplicate};
 use std::alloc::Global;
 use std::thread::Threads;
 use wl_base::{Fault, OutOfMemory, Seq};
+use wl_fan::Workers;
 
 /// A clash as a fault.
 fn clash_of(alloc: Global, names: &Names, case: PairCase) -> Result<Fault, OutOfMemory>
@@ -43,14 +44,15 @@ pub(crate) fn refuse_cases<R: Threads + Sync>(
     rt: &R,
     alloc: Global,
     view: Entries<'_>,
+    workers: Workers,
 ) -> Result<(), LinkError>
     requires { Fits modes.Plain view }
     ensures { Passes result (case_of (entries modes.Plain view.entry.objects.now)) }
 {
-    if let Some(case) = first_clash(rt, alloc, view, Mode::Plain)? {
+    if let Some(case) = first_clash(rt, alloc, view, Mode::Plain, workers)? {
         return Err(LinkError::Refused(clash_of(alloc, view.names, case)?));
     }
-    if let Some(case) = first_duplicate(rt, alloc, view, Mode::Plain)? {
+    if let Some(case) = first_duplicate(rt, alloc, view, Mode::Plain, workers)? {
         return Err(LinkError::Refused(duplicate_of(alloc, view.names, case)?));
     }
     Ok(())

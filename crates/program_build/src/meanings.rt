@@ -43,7 +43,7 @@ pub(crate) fn meanings_of<G: Gate, R: Threads + Sync>(
     ensures { MeansOrRefused modes.Plain result origin view.entry.objects.now view.entry.names.now.names }
 {
     let ranks = name_winners(rt, alloc, view, Mode::Plain, workers, gate)?;
-    refuse_cases(rt, alloc, view)?;
+    refuse_cases(rt, alloc, view, workers)?;
     let resolution = resolve(alloc, view, &ranks, plan.allow_undefined, Mode::Plain)?;
     let tables = tables_of(alloc, view, &ranks, &resolution, homes)?;
     Ok(Meanings {

@@ -75,18 +75,8 @@ fn given(alloc: Global, plain: &[u8], lazy: &[u8]) -> Option<Seq<GivenObject>> {
     let plain = read_object(alloc, 1, plain).ok()?;
     let lazy = read_object(alloc, 2, lazy).ok()?;
     let mut given = Seq::new(alloc);
-    given
-        .push(GivenObject {
-            object: plain,
-            lazy: false,
-        })
-        .ok()?;
-    given
-        .push(GivenObject {
-            object: lazy,
-            lazy: true,
-        })
-        .ok()?;
+    given.push(GivenObject::of(alloc, plain, false).ok()?).ok()?;
+    given.push(GivenObject::of(alloc, lazy, true).ok()?).ok()?;
     Some(given)
 }
 
@@ -96,10 +86,11 @@ fn are_numbered(given: &[GivenObject]) -> bool
 {
     let mut last = 0;
     for one in given {
-        if one.object.input <= last || one.object.input - last > 1 {
+        let input = one.object().input;
+        if input <= last || input - last > 1 {
             return false;
         }
-        last = one.object.input;
+        last = input;
     }
     true
 }

@@ -2,6 +2,7 @@
 //! output; the work is `link_command`.
 #![tactic(auto)]
 
+mod file_reading;
 mod file_shelf;
 mod manual;
 mod output_sink;
@@ -35,7 +36,7 @@ fn main(rt: HostRuntime) -> ExitCode {
             Err(_) => ExitCode::from(WRITE_FAULT),
         };
     }
-    let mut shelf = FileShelf::new(&rt);
+    let mut shelf = FileShelf::new(&rt, rt.alloc());
     let mut say = OutputSink::new(&rt);
     let status = link_command(
         &rt,

@@ -3,4 +3,4 @@
 
 mod lists;
 
-pub use lists::{Lists, shrunk};
+pub use lists::{Lists, shrunk, with_room};

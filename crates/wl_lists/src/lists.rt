@@ -1,5 +1,5 @@
 //! A list of lists in two pieces of memory.
-ghost use Rattle.std.specs.Prelude.{◌≡◌, ◌++◌, ◌∷◌, ◌-◌, ◌≤◌, [], length, take, drop, slice_get, slice_index_or, option_copied, OnOk, OnErr};
+ghost use Rattle.std.specs.Prelude.{◌≡◌, ◌++◌, ◌∷◌, ◌-◌, ◌≤◌, [], length, take, drop, slice_get, slice_index_or, option_copied, IfOk, OnOk, OnErr};
 
 use std::alloc::Global;
 use std::marker::Model;
@@ -60,6 +60,16 @@ impl<T> Lists<T> {
             ends: Seq::new(alloc),
             items: Seq::new(alloc),
         }
+    }
+
+    /// No list, with room for so many lists, and for so many items of all of them.
+    pub fn with_room(alloc: Global, lists: usize, items: usize) -> Result<Self, OutOfMemory>
+        ensures { IfOk result (λ made. made ≡ []) }
+    {
+        Ok(Lists {
+            ends: with_room(alloc, lists)?,
+            items: with_room(alloc, items)?,
+        })
     }
 
     /// How many lists there are.
@@ -128,6 +138,13 @@ impl<T: Copy> Lists<T> {
             }
         }
     }
+}
+
+/// No item, with room for so many.
+pub fn with_room<T>(alloc: Global, items: usize) -> Result<Seq<T>, OutOfMemory>
+    ensures { IfOk result (λ made. made ≡ []) }
+{
+    Ok(Seq::from_vec(Vec::with_capacity(alloc, items)?))
 }
 
 /// The same items in no more memory than they need.

@@ -18,6 +18,11 @@ pub enum Phase {
 /// Is called by each worker before it works on a job. It answers nothing and changes no answer.
 pub trait Gate: Sync {
     fn turn(&self, phase: Phase, worker: u32, job: u32);
+
+    /// Whether nobody waits at the gate, so that work that is worth no thread may be done by one worker.
+    fn is_open(&self) -> bool {
+        false
+    }
 }
 
 /// A gate that does nothing.
@@ -26,4 +31,8 @@ pub struct OpenGate;
 
 impl Gate for OpenGate {
     fn turn(&self, _phase: Phase, _worker: u32, _job: u32) {}
+
+    fn is_open(&self) -> bool {
+        true
+    }
 }

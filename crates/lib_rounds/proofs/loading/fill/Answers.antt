@@ -26,7 +26,7 @@ returns g c =
     let at = c.args.offer.input - 1 in
     let kept = subst (λ (h : Held). slice_set slots at h ≡ slots) (sym c.in_ok-object.ensures.same)
     (set_same slots at c.index_mut-2.result.now c.index_mut-2.ensures.value) in (
-      c.in_ok-object.object,
+      c.in_ok-object.object.value,
       c.in_ok-object.ensures.is g.c.object member,
-      ap (λ (hs : List Held). slice_set hs at c.in_ok-slots.field-0) kept ∙ ap (slice_set slots at) c.in_ok-slots.ensures,
+      ap (λ (hs : List Held). slice_set hs at c.holding.result) kept ∙ ap (slice_set slots at) c.holding.ensures,
     )

@@ -7,8 +7,8 @@ pub returns-clause-ok : goal.returns-clause-ok
 returns-clause-ok c =
     let o = c.self.inside in
     let kept = c.of.result in
-    ap (λ rs. spread rs 0) c.in_ok-push.ensures.ok
-    ∙ spread_reference o.references kept
-    ∙ ap (λ n. spread o.references n ++ operand_of kept ∷ []) c.of.ensures.numbers
-    ∙ ap (λ operand. spread o.references o.behind ++ operand ∷ []) c.of.ensures.operand
+    ap (λ rs. spread rs 0) c.in_ok-push.ensures.items
+    ∙ spread_reference o.references.items kept
+    ∙ ap (λ n. spread o.references.items n ++ operand_of kept ∷ []) c.of.ensures.numbers
+    ∙ ap (λ operand. spread o.references.items o.behind ++ operand ∷ []) c.of.ensures.operand
     ∙ ap (λ xs. xs ++ c.args.operand ∷ []) c.self.view_is

@@ -1,0 +1,54 @@
+use Rattle.std.proofs.Common.{◌≡◌, ℕ, ℤ, sym, ◌∙◌, refl, arith, get_or, Ok, Result}
+use Rattle.std.proofs.lemmas.Int.{ints}
+use Rattle.leb_codec.specs.declared.form.Form.TheVariants.{S32}
+use Rattle.leb_codec.specs.declared.fault.LebFault.{LebFault}
+use Rattle.leb_codec.specs.Spelling.{signed_value}
+use Rattle.leb_codec.proofs.FiveBytes.{in_five, signed_two, signed_three, signed_four, signed_five, last_within, fifth_within}
+use Rattle.leb_codec.proofs.five.s32_in_five.Goals as goal
+
+counted : (n m : ℤ) (used : ℕ) (said : Result (ℤ × ℕ) LebFault) → said ≡ Ok (m, used) → n ≡ m → (let r : Result (ℤ × ℕ) LebFault = Ok (n, used) in r ≡ said)
+counted n m used said is same = rw (is, same) refl
+
+pub returns-then-bytes-lt128 : goal.returns-then-bytes-lt128
+returns-then-bytes-lt128 c =
+    let f = in_five signed_value S32 c.args.bytes.now refl c.requires in
+    counted _ _ _ _ (f.one c.if-bytes-lt128.true) (omega (arith, ints, c.small.ensures))
+
+pub returns-then-bytes-lt128-2 : goal.returns-then-bytes-lt128-2
+returns-then-bytes-lt128-2 c =
+    let f = in_five signed_value S32 c.args.bytes.now refl c.requires in
+    let w = last_within _ c.if-bytes-lt128-2.true in
+    counted _ _ _ _ (f.two c.if-bytes-lt128.false c.if-bytes-lt128-2.true)
+    (omega (arith, ints, c.seven-one.ensures, c.small-then-bytes-lt128-2.ensures, c.small-then-bytes-lt128-2.type_inv, w.low, w.high, signed_two (get_or c.args.bytes.now 0 0) (get_or c.args.bytes.now 1 0)))
+
+pub returns-then-bytes-lt128-3 : goal.returns-then-bytes-lt128-3
+returns-then-bytes-lt128-3 c =
+    let f = in_five signed_value S32 c.args.bytes.now refl c.requires in
+    let w = last_within _ c.if-bytes-lt128-3.true in
+    counted _ _ _ _ (f.three c.if-bytes-lt128.false c.if-bytes-lt128-2.false c.if-bytes-lt128-3.true)
+    (omega (arith, ints, c.seven-one.ensures, c.seven.ensures, c.small-then-bytes-lt128-3.ensures, c.small-then-bytes-lt128-3.type_inv, w.low, w.high, signed_three (get_or c.args.bytes.now 0 0) (get_or c.args.bytes.now 1 0) (get_or c.args.bytes.now 2 0)))
+
+pub returns-then-bytes-lt128-4 : goal.returns-then-bytes-lt128-4
+returns-then-bytes-lt128-4 c =
+    let f = in_five signed_value S32 c.args.bytes.now refl c.requires in
+    let w = last_within _ c.if-bytes-lt128-4.true in
+    counted _ _ _ _ (f.four c.if-bytes-lt128.false c.if-bytes-lt128-2.false c.if-bytes-lt128-3.false c.if-bytes-lt128-4.true)
+    (omega (arith, ints, c.seven-one.ensures, c.seven.ensures, c.seven-2.ensures, c.small-then-bytes-lt128-4.ensures, c.small-then-bytes-lt128-4.type_inv, w.low, w.high, signed_four (get_or c.args.bytes.now 0 0) (get_or c.args.bytes.now 1 0) (get_or c.args.bytes.now 2 0) (get_or c.args.bytes.now 3 0)))
+
+pub returns-then-bytes-ge128 : goal.returns-then-bytes-ge128
+returns-then-bytes-ge128 c =
+    let f = in_five signed_value S32 c.args.bytes.now refl c.requires in
+    sym (f.long c.if-bytes-lt128.false c.if-bytes-lt128-2.false c.if-bytes-lt128-3.false c.if-bytes-lt128-4.false c.if-bytes-ge128.true)
+
+pub returns-then-not-allows : goal.returns-then-not-allows
+returns-then-not-allows c =
+    let f = in_five signed_value S32 c.args.bytes.now refl c.requires in
+    sym (f.tail c.if-bytes-lt128.false c.if-bytes-lt128-2.false c.if-bytes-lt128-3.false c.if-bytes-lt128-4.false (omega arith) (sym c.allows.ensures ∙ c.if-not-allows.true))
+
+pub returns : goal.returns
+returns c =
+    let f = in_five signed_value S32 c.args.bytes.now refl c.requires in
+    let may = sym c.allows.ensures ∙ c.if-not-allows.false in
+    let w = fifth_within (get_or c.args.bytes.now 4 0) (omega arith) may in
+    counted _ _ _ _ (f.five c.if-bytes-lt128.false c.if-bytes-lt128-2.false c.if-bytes-lt128-3.false c.if-bytes-lt128-4.false (omega arith) may)
+    (omega (arith, ints, c.seven-one.ensures, c.seven.ensures, c.seven-2.ensures, c.seven-3.ensures, c.small-2.ensures, c.small-2.type_inv, w.low, w.high, signed_five (get_or c.args.bytes.now 0 0) (get_or c.args.bytes.now 1 0) (get_or c.args.bytes.now 2 0) (get_or c.args.bytes.now 3 0) (get_or c.args.bytes.now 4 0)))

@@ -1,0 +1,60 @@
+//! A file is read whole.
+ghost use Rattle.std.specs.Prelude.{◌≤◌};
+
+use std::alloc::{AllocError, Global};
+use std::fs;
+use std::fs::OpenFile;
+use std::io::Read;
+use std::rt::Files;
+use wl_outside::LoadFault;
+
+// A longer file counts as a fault.
+const MAX_LEN: usize = 1 << 32;
+
+// A file is read through a piece of its own length, but of at least so many bytes and at most so many.
+const LEAST_PIECE: usize = 1 << 12;
+
+const PIECE: usize = 1 << 17;
+
+/// The bytes of a file, or why there are none.
+pub type Loaded = Result<Vec<u8>, LoadFault>;
+
+fn out_of_memory(_: AllocError) -> LoadFault {
+    LoadFault::OutOfMemory
+}
+
+/// Reads the file of this path, through a piece of memory that grows as far as the files that are read through it ask.
+pub fn read_file<R: Files>(rt: &R, alloc: Global, name: &str, piece: &mut Vec<u8>) -> Loaded {
+    let Ok(mut file) = fs::open(rt, name) else {
+        return Err(LoadFault::Failed);
+    };
+    let Ok(metadata) = file.metadata() else {
+        return Err(LoadFault::Failed);
+    };
+    // The length is a hint: the file may be none that has one, or grow.
+    let len = MAX_LEN.min(metadata.len() as usize);
+    read_all(alloc, len, &mut file, piece)
+}
+
+// Reads until a read gives no bytes.
+fn read_all<R: Read>(alloc: Global, len: usize, file: &mut R, piece: &mut Vec<u8>) -> Loaded
+    requires { len ≤ MAX_LEN }
+{
+    let mut bytes = Vec::with_capacity(alloc, len + 1).map_err(out_of_memory)?;
+    let size = (len + 1).max(LEAST_PIECE).min(PIECE);
+    if piece.len() < size {
+        piece.resize(size, 0).map_err(out_of_memory)?;
+    }
+    while bytes.len() <= MAX_LEN {
+        let Ok(count) = file.read(piece) else {
+            return Err(LoadFault::Failed);
+        };
+        if count == 0 {
+            return Ok(bytes);
+        }
+        bytes
+            .extend_from_slice(&piece[..count])
+            .map_err(out_of_memory)?;
+    }
+    Err(LoadFault::Failed)
+}
