@@ -3,9 +3,10 @@ use Rattle.std.proofs.Common.{◌≡◌, ◌⊎◌, inl, inr, ℕ, List, Option,
 use Rattle.wl_outside.specs.Shelf.{Shown, Same, SameBut, Grows, Torn, SaveFailed}
 use Rattle.link_plan.specs.declared.plan.Plan.{Plan}
 use Rattle.link_rules.specs.LinkOf.{link_of}
+use Rattle.link_runs.specs.Links.{Runs}
 use Rattle.link_command.specs.declared.status.Status.{Status}
 use Rattle.link_command.specs.declared.status.Status.TheVariants.{Linked, WriteFault}
-use Rattle.link_command.specs.Command.{Shows, IsTold, Saved, Cut, files_of}
+use Rattle.link_command.specs.Command.{Shows, IsTold, Saved, SavedRuns, Cut, files_of}
 
 told_on : (before mid : Shown) → Grows before mid → IsTrue before.tells → IsTrue mid.tells
 told_on before mid grows told = subst (λ b. IsTrue b) (sym grows.tells) told
@@ -64,3 +65,15 @@ save_shows status before mid after words plan files bytes (inr torn) same grows 
       λ told. (bytes, record { files = files; held = held told; link = link }, cut_on plan.output before mid after bytes same grows (cut torn)),
       failed_on plan.output before mid after grows (failed torn),
     )
+
+-- what was linked and saved runs
+pub save_runs : (status : Status) (before mid after : Shown) (words : List (List ℕ)) (plan : Plan) (files : List (List ℕ)) (bytes : List ℕ)
+    → Same before mid → Grows before mid → (IsTold plan.make_case before → files_of plan.make_case before words plan ≡ Some files) → Runs plan files bytes
+    → (status ≡ Linked → Saved mid after plan.output bytes) → status ≡ Linked → IsTold plan.make_case before → SavedRuns before after words plan
+save_runs status before mid after words plan files bytes same grows held runs saved linked told = record {
+  files = files;
+  held = held told;
+  bytes = bytes;
+  saved = saved_on plan.output before mid after bytes same grows (saved linked);
+  runs = runs;
+}

@@ -5,6 +5,7 @@ use Rattle.wl_outside.specs.Shelf.{Shown, Same, SameBut, Holds, Torn, LoadFailed
 use Rattle.link_plan.specs.declared.plan.Plan.{Plan}
 use Rattle.link_words.specs.Words.{word}
 use Rattle.link_rules.specs.LinkOf.{link_of}
+use Rattle.link_runs.specs.Links.{Runs}
 use Rattle.case_objects.specs.Objects.{objects}
 use Rattle.link_command.specs.declared.status.Status.{Status}
 use Rattle.link_command.specs.declared.status.Status.TheVariants.{Linked, Refused, Usage, ReadFault, WriteFault, NoMemory}
@@ -64,6 +65,14 @@ Shows WriteFault before after words plan =
     (IsTold plan.make_case before → (bytes : List ℕ) × LinkIs before words plan (Ok bytes) × Cut before after plan.output bytes)
     × IsSomeAnd plan.output (λ output. SaveFailed before after output)
 Shows NoMemory before after words plan = Same before after
+
+-- The output, where the plan names one, holds a module that runs as the plan and what is linked tell, with nothing linked.
+pub record SavedRuns (before after : Shown) (words : List (List ℕ)) (plan : Plan) : Type 0 where
+  pub files : List (List ℕ)
+  pub held : files_of plan.make_case before words plan ≡ Some files
+  pub bytes : List ℕ
+  pub saved : Saved before after plan.output bytes
+  pub runs : Runs plan files bytes
 
 -- no load of an input word failed, and no save of the output
 abbrev pub LoadsWork : Shown → Shown → List (List ℕ) → Plan → Type 0

@@ -6,7 +6,7 @@ ghost use Rattle.wl_outside.specs.Shelf.{Same, Grows, SaveFailed};
 ghost use Rattle.link_plan.specs.declared.plan.Plan.{Plan as ThePlan};
 ghost use Rattle.link_plan.specs.Plan.{IsPlan};
 ghost use Rattle.link_words.specs.Words.{plan_of};
-ghost use Rattle.link_command.specs.Command.{Shows, LinkIs, IsTold, LoadsWork, SaveWorks, IsUnlessMemory, Saved, Cut};
+ghost use Rattle.link_command.specs.Command.{Shows, LinkIs, IsTold, LoadsWork, SaveWorks, IsUnlessMemory, Saved, SavedRuns, Cut};
 ghost use Rattle.link_command.specs.Ending.{ending_line};
 ghost use Rattle.link_command.specs.Line.{status_line};
 ghost use Rattle.link_command.specs.Said.{Said};
@@ -37,6 +37,10 @@ pub fn link_command<R: Threads + Sync, F: Shelf, E: Sink, G: Gate>(
     ensures usage { (u : UsageFault) → result ≡ Status.Usage u → (plan_of words.now ≡ Err u) × Same (F.shown shelf.old) (F.shown shelf.new) }
     ensures cause { IfOk (plan_of words.now) (λ plan. Shows result (F.shown shelf.old) (F.shown shelf.new) words.now plan) }
     ensures memory { result ≡ Status.NoMemory → Same (F.shown shelf.old) (F.shown shelf.new) }
+
+    // What is linked runs as its files would.
+    ensures runs { (plan : ThePlan) → plan_of words.now ≡ Ok plan → result ≡ Status.Linked → IsTold plan.make_case (F.shown shelf.old)
+        → SavedRuns (F.shown shelf.old) (F.shown shelf.new) words.now plan }
 
     // No count falls, and a shelf that tells what it holds goes on telling it.
     ensures counts { Grows (F.shown shelf.old) (F.shown shelf.new) }
@@ -77,6 +81,8 @@ fn answer<R: Threads + Sync, F: Shelf, G: Gate>(
     ensures usage { (u : UsageFault) → result.status ≡ Status.Usage u → (plan_of words.now ≡ Err u) × Same (F.shown shelf.old) (F.shown shelf.new) }
     ensures cause { IfOk (plan_of words.now) (λ plan. Shows result.status (F.shown shelf.old) (F.shown shelf.new) words.now plan) }
     ensures memory { result.status ≡ Status.NoMemory → Same (F.shown shelf.old) (F.shown shelf.new) }
+    ensures runs { (plan : ThePlan) → plan_of words.now ≡ Ok plan → result.status ≡ Status.Linked → IsTold plan.make_case (F.shown shelf.old)
+        → SavedRuns (F.shown shelf.old) (F.shown shelf.new) words.now plan }
     ensures counts { Grows (F.shown shelf.old) (F.shown shelf.new) }
     ensures is_usage { IfErr (plan_of words.now) (λ u. IsUnlessMemory result.status (Status.Usage u)) }
     ensures is_refused { (plan : ThePlan) (fault : Fault) → plan_of words.now ≡ Ok plan
@@ -109,6 +115,7 @@ fn run_plan<R: Threads + Sync, F: Shelf, G: Gate>(
     requires plan { IsPlan plan.now }
     ensures counts { Grows (F.shown shelf.old) (F.shown shelf.new) }
     ensures cause { Shows result.status (F.shown shelf.old) (F.shown shelf.new) words.now plan.now }
+    ensures runs { result.status ≡ Status.Linked → IsTold plan.now.make_case (F.shown shelf.old) → SavedRuns (F.shown shelf.old) (F.shown shelf.new) words.now plan.now }
     ensures is_refused { (fault : Fault) → IsTold plan.now.make_case (F.shown shelf.old) → LinkIs (F.shown shelf.old) words.now plan.now (Err fault)
         → LoadsWork (F.shown shelf.old) (F.shown shelf.new) words.now plan.now → IsUnlessMemory result.status (Status.Refused fault) }
     ensures is_linked { (bytes : List ℕ) → IsTold plan.now.make_case (F.shown shelf.old) → LinkIs (F.shown shelf.old) words.now plan.now (Ok bytes)

@@ -1,3 +1,4 @@
 pub mod Steps
 pub mod Answering
 pub mod Loading
+pub mod Running

@@ -16,6 +16,7 @@ ghost use Rattle.link_core.specs.Linking.{IsLinking};
 ghost use Rattle.link_core.specs.Loading.{Loading, program_in};
 ghost use Rattle.link_core.specs.Making.{the_image, the_windows};
 ghost use Rattle.link_core.specs.Prepared.{outputs, IsReady};
+ghost use Rattle.link_runs.specs.Links.{Runs};
 
 use crate::chosen::Chosen;
 use crate::prepared::Prepared;
@@ -30,6 +31,7 @@ use link_output::laws::{
 use link_output::{measured, write};
 use link_plan::Plan;
 use link_program::{Entries, LinkError, Program, Winner};
+use link_runs::links_run;
 use program_build::find;
 use program_build::laws::parts_stand;
 use std::alloc::Global;
@@ -65,7 +67,27 @@ pub fn link<R: Threads + Sync, G: Gate>(
     requires files { length files.now ≡ unwrap_or plan.now.make_case (length plan.now.inputs) }
     // The answer is the definition's, or want of memory.
     ensures exact { Answers result (link_of plan.now files.now) }
+    // The module runs as the plan and the files tell, with nothing linked.
+    ensures runs { IfOk result (λ bytes. Runs plan.now files.now bytes) }
     // The module has fewer than 2^31 bytes.
+    ensures short { IsShort result }
+{
+    links_run();
+    let answer = link_files(rt, alloc, plan, files, gate);
+    answer
+}
+
+// The same, where no word is said of runs.
+fn link_files<R: Threads + Sync, G: Gate>(
+    rt: &R,
+    alloc: Global,
+    plan: &Plan,
+    files: &[Seq<u8>],
+    gate: &G,
+) -> Result<Seq<u8>, LinkError>
+    requires plan { IsPlan plan.now }
+    requires files { length files.now ≡ unwrap_or plan.now.make_case (length plan.now.inputs) }
+    ensures exact { Answers result (link_of plan.now files.now) }
     ensures short { IsShort result }
 {
     let workers = workers_of(plan, files, gate);

@@ -1,12 +1,14 @@
 -- A link that gives bytes is accepted in all that a run asks, so its output runs as the plan and the files tell.
-use Rattle.std.proofs.Common.{◌≡◌, ℕ, ◌-◌, ◌≤◌, List, length, refl, sym, ap, ◌∙◌, subst, map, Some, None}
-use Rattle.std.specs.Prelude.{Ok, slice_get}
+use Rattle.std.proofs.Common.{◌≡◌, ℕ, ◌-◌, ◌≤◌, List, length, refl, sym, ap, ◌∙◌, subst, map, Some, None, arith}
+use Rattle.std.specs.Prelude.{Result, Ok, Err, slice_get, unwrap_or}
+use Rattle.wl_base.specs.Choice.{◌>>=◌}
+use Rattle.wl_base.specs.declared.fault.Fault.{Fault}
 use Rattle.list_places.specs.Has.{Has}
 use Rattle.list_places.proofs.Lists.{has_at, all_has}
 use Rattle.object_file.specs.declared.object.Object.{Object}
 use Rattle.object_file.specs.ObjectOf.{object_of}
 use Rattle.object_file.proofs.Read.{object_found}
-use Rattle.round_rules.specs.Rounds.{Candidate}
+use Rattle.round_rules.specs.Rounds.{Candidate, load}
 use Rattle.link_plan.specs.declared.plan.Plan.{Plan}
 use Rattle.made_symbols.specs.declared.mode.Mode.TheVariants.{Plain}
 use Rattle.name_rules.specs.Entries.{InputSymbol}
@@ -14,7 +16,7 @@ use Rattle.name_rules.specs.Cases.{clash}
 use Rattle.link_rules.specs.Candidates.{candidates_of}
 use Rattle.link_rules.specs.Program.{Program, program_of, Part}
 use Rattle.link_rules.specs.Marks.{live, exported}
-use Rattle.link_rules.specs.LinkOf.{asked_names, the_readers}
+use Rattle.link_rules.specs.LinkOf.{asked_names, the_readers, link_of, link_by, link_program}
 use Rattle.link_program.specs.Loaded.{home_of, IsLoaded, IsReadFrom}
 use Rattle.link_inputs.specs.Loaded.{LoadedAreSound}
 use Rattle.link_worlds.specs.Worlds.{layout_of, linked_tree}
@@ -101,8 +103,11 @@ module _ (plan : Plan) (files : List (List ℕ)) (all : List Candidate) (objects
       (λ part h. contents plan files all objects are clear' named fits part (live_part p x part h))
       (memory_fits p x (subst IsPlan (sym plan_is) fit) n.memory) s (table_fits p x n.table)
 
-pub links_law : ((t : Tree) → entries t ≤ length (bytes_of_tree t)) → OutputRuns → FactsHold → LoadedAreSound → LinksRun
-links_law law runs facts loads plan files bytes all objects fit long c l e =
+gives_bytes : ((t : Tree) → entries t ≤ length (bytes_of_tree t)) → OutputRuns → FactsHold → LoadedAreSound → (plan : Plan) (files : List (List ℕ)) (bytes : List ℕ) (all : List Candidate) (objects : List Object)
+    → IsPlan plan → length files ≡ unwrap_or plan.make_case (length plan.inputs)
+    → candidates_of the_readers plan files ≡ Ok all → load Plain (asked_names plan) all ≡ Ok objects → link_of plan files ≡ Ok bytes
+    → Gives (program_of Plain plan files all objects) (exported Plain (program_of Plain plan files all objects)) bytes
+gives_bytes law runs facts loads plan files bytes all objects fit long c l e =
     let p = program_of Plain plan files all objects in
     let loaded = (loads Plain plan files (asked_names plan) all objects long c l).1 in
     let from = is_from plan files all objects c loaded in
@@ -111,3 +116,29 @@ links_law law runs facts loads plan files bytes all objects fit long c l e =
     let f = facts plan files all objects (map home_of all) (record { loaded = loaded; each = from; constants = λ o h g k. (constants_of o.input (bytes_of files (from o h).candidate) o (from o h).is g k).0 }) k.0 in
     let r = in_ranges plan files all objects law fit loaded from k.0 f m.0 m.2 in
     subst (Gives p (exported Plain p)) m.1 (runs p (exported Plain p) (accepted law p (exported Plain p) r f m.0))
+
+-- a step that ends in a value had one before
+step_gives : {A B F : Type 0} (r : Result A F) (f : A → Result B F) (y : B) → (r >>= f) ≡ Ok y → (x : A) × (r ≡ Ok x) × (f x ≡ Ok y)
+step_gives (Ok x) f y e = (x, refl, e)
+step_gives (Err g) f y e = absurd (grind arith)
+
+-- what a link that gives bytes found and loaded
+loads_of : (plan : Plan) (files : List (List ℕ)) (bytes : List ℕ) → link_of plan files ≡ Ok bytes
+    → (all : List Candidate) × (objects : List Object) × (candidates_of the_readers plan files ≡ Ok all) × (load Plain (asked_names plan) all ≡ Ok objects)
+unfolding link_of link_by
+loads_of plan files bytes e =
+    let linked : List Candidate → List Object → Result (List ℕ) Fault = λ all objects. link_program Plain (program_of Plain plan files all objects) in
+    let a = step_gives (candidates_of the_readers plan files) (λ all. load Plain (asked_names plan) all >>= linked all) bytes e in
+    let b = step_gives (load Plain (asked_names plan) a.0) (linked a.0) bytes a.2 in
+    (a.0, b.0, a.1, b.1)
+
+pub links_law : ((t : Tree) → entries t ≤ length (bytes_of_tree t)) → OutputRuns → FactsHold → LoadedAreSound → LinksRun
+links_law law runs facts loads plan files bytes fit long e =
+    let l = loads_of plan files bytes e in
+    record {
+      all = l.0;
+      objects = l.1;
+      found = l.2;
+      loaded = l.3;
+      gives = gives_bytes law runs facts loads plan files bytes l.0 l.1 fit long l.2 l.3 e;
+    }

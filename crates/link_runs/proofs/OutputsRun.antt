@@ -39,5 +39,8 @@ output_law agree read taken fit hold p exports a =
     record {
       is = r.is;
       read = r.read;
+      spelled = r.spelled;
+      only = r.only;
+      linked = r.linked;
       runs = λ s n e. agree s p exports n (linked taken fit p exports a) (hold s p exports a.sound a.measured a.no_fault e) ∙ sym (r.runs s n);
     }

@@ -11,10 +11,16 @@ use Rattle.link_rules.specs.Marks.{exported}
 use Rattle.link_rules.specs.Program.{program_of}
 use Rattle.link_runs.specs.Runs.{Gives}
 
--- Where a link gives bytes they are read as a module, which has for each session the trace of the plan and the files.
+-- The bytes are read as a module that runs as the plan and the files tell: for each session that gives an imported memory enough pages, and
+-- each number of steps, its trace is that of the loaded objects with nothing linked.
+pub record Runs (plan : Plan) (files : List (List ℕ)) (bytes : List ℕ) : Type 0 where
+  pub all : List Candidate
+  pub objects : List Object
+  pub found : candidates_of the_readers plan files ≡ Ok all
+  pub loaded : load Plain (asked_names plan) all ≡ Ok objects
+  pub gives : Gives (program_of Plain plan files all objects) (exported Plain (program_of Plain plan files all objects)) bytes
+
+-- So does each module that a link gives.
 abbrev pub LinksRun : Type 0
-LinksRun = (plan : Plan) (files : List (List ℕ)) (bytes : List ℕ) (all : List Candidate) (objects : List Object)
-    → IsPlan plan → length files ≡ unwrap_or plan.make_case (length plan.inputs)
-    → candidates_of the_readers plan files ≡ Ok all → load Plain (asked_names plan) all ≡ Ok objects
-    → link_of plan files ≡ Ok bytes
-    → Gives (program_of Plain plan files all objects) (exported Plain (program_of Plain plan files all objects)) bytes
+LinksRun = (plan : Plan) (files : List (List ℕ)) (bytes : List ℕ)
+    → IsPlan plan → length files ≡ unwrap_or plan.make_case (length plan.inputs) → link_of plan files ≡ Ok bytes → Runs plan files bytes

@@ -3,6 +3,7 @@ use Rattle.std.specs.Prelude.{◌≡◌, ℕ, ◌<◌, ◌^◌, List, length, tr
 use Rattle.list_places.specs.Has.{Has}
 use Rattle.wasm_instr.specs.declared.body.Placed.{Placed}
 use Rattle.wasm_module.specs.declared.structure.Module.{Module}
+use Rattle.wasm_module.specs.Modules.{IsModule, SameButPlaces}
 use Rattle.wasm_module.specs.ModuleReading.{module_of}
 use Rattle.made_symbols.specs.declared.mode.Mode.TheVariants.{Plain}
 use Rattle.name_rules.specs.Entries.{InputSymbol}
@@ -14,7 +15,7 @@ use Rattle.link_rules.specs.Marks.{live}
 use Rattle.link_rules.specs.Keys.{is_function_at}
 use Rattle.link_rules.specs.Output.{image, source_windows}
 use Rattle.link_rules.specs.LinkOf.{output_bytes}
-use Rattle.link_worlds.specs.Worlds.{layout_of, linked_tree, plan_trace}
+use Rattle.link_worlds.specs.Worlds.{layout_of, linked_module, linked_tree, plan_trace}
 use Rattle.link_worlds.specs.Sound.{Sound, SoundExports, IsGlobalPart}
 use Rattle.output_module.specs.Filled.{Reads, names_in}
 use Rattle.output_module.specs.Outputs.{IsCoded}
@@ -42,10 +43,14 @@ pub record IsAccepted (p : Program) (exports : List InputSymbol) : Type 0 where
   pub few : length (layout_of p exports).numbers.functions < 2 ^ 32
   pub spellable : IsSpellable (linked_tree p (live p exports) exports (layout_of p exports))
 
--- The bytes are read as a module that gives the traces of the plan and the files.
+-- The bytes spell one module by the grammar of modules (Core 5.5): the live functions of the program with numbers for their references, and
+-- nothing dead (`linked_module`), but for places. It gives the traces of the plan and the files.
 pub record Gives (p : Program) (exports : List InputSymbol) (bytes : List ℕ) : Type 0 where
   pub is : Module
   pub read : module_of bytes ≡ Ok is
+  pub spelled : IsModule is bytes
+  pub only : (other : Module) → IsModule other bytes → other ≡ is
+  pub linked : SameButPlaces (linked_module p exports) is
   pub runs : (s : Session) (n : ℕ) → Enough s (layout_of p exports) → plan_trace s p exports n ≡ module_trace s is n
 
 abbrev pub OutputRuns : Type 0

@@ -1,6 +1,6 @@
 -- The output's bytes are read as its module.
 use Rattle.std.proofs.Common.{◌≡◌, ◌<◌, List, [], ◌∷◌, ◌++◌, map, Option, Some, None, true, false, refl, sym, ap, ◌∙◌, subst, inl, inr, arith}
-use Rattle.std.specs.Prelude.{◌^◌, ◌==◌, ◌&&◌, find, cond, position, Ok}
+use Rattle.std.specs.Prelude.{◌^◌, ◌==◌, ◌&&◌, ◌↔◌, find, cond, position, Ok}
 use Rattle.std.specs.List.{AllZip}
 use Rattle.std.proofs.lemmas.Bool.{and_parts, eqb-true}
 use Rattle.list_places.specs.Has.{Has}
@@ -11,7 +11,7 @@ use Rattle.wasm_instr.specs.Bodies.{SpellsBody}
 use Rattle.wasm_instr.specs.BodyLaws.{body_again}
 use Rattle.wasm_instr.specs.Placeless.{instrs_of}
 use Rattle.wasm_module.specs.declared.structure.Module.{Module}
-use Rattle.wasm_module.specs.Modules.{placeless}
+use Rattle.wasm_module.specs.Modules.{IsModule, placeless}
 use Rattle.wasm_module.specs.ModuleReading.{module_of}
 use Rattle.ctor_call.specs.Body.{ctor_body}
 use Rattle.made_symbols.specs.declared.mode.Mode.TheVariants.{Plain}
@@ -38,6 +38,12 @@ use Rattle.output_module.specs.Filled.{names_in, linked_with, FilledBody}
 use Rattle.output_module.specs.Outputs.{IsCoded, IsWritten, IsRead, OutputIsRead}
 use Rattle.output_module.proofs.Placeless.{same_trace}
 use Rattle.output_module.proofs.Made.{ctor_is, stub_is}
+
+-- what the bytes of a tree spell
+pub record AreSpelled : Type 0 where
+  pub spelled : (t : Tree) (m : Module) → IsSpellable t → IsModule m (bytes_of t) ↔ IsTree m t
+  pub read : (t : Tree) (m : Module) → IsSpellable t → IsTree m t → module_of (bytes_of t) ≡ Ok m
+  pub only : (t : Tree) (m other : Module) → IsSpellable t → IsTree m t → IsModule other (bytes_of t) → other ≡ m
 
 map_twice : {A B C : Type 0} (f : B → C) (g : A → B) (xs : List A) → map f (map g xs) ≡ map (λ x. f (g x)) xs
 map_twice f g [] = refl
@@ -146,14 +152,16 @@ module _ (filled_body : FilledBody) (p : Program) (exports : List InputSymbol) (
   unfolding image source_windows
   is_tree = record { parts = refl; bodies = bodies_of.spell }
 
-  pub read_back : ((t : Tree) (m : Module) → IsSpellable t → IsTree m t → module_of (bytes_of t) ≡ Ok m)
-      → IsRead p exports (output_bytes Plain p (image Plain p parts exports lay) (source_windows Plain p parts exports lay))
+  pub read_back : AreSpelled → IsRead p exports (output_bytes Plain p (image Plain p parts exports lay) (source_windows Plain p parts exports lay))
   unfolding output_bytes module_by
   read_back law = record {
     is = module_with bodies_of.list (linked_tree p parts exports lay);
-    read = law (linked_tree p parts exports lay) (module_with bodies_of.list (linked_tree p parts exports lay)) w.spellable is_tree;
+    read = law.read (linked_tree p parts exports lay) (module_with bodies_of.list (linked_tree p parts exports lay)) w.spellable is_tree;
+    spelled = (law.spelled (linked_tree p parts exports lay) (module_with bodies_of.list (linked_tree p parts exports lay)) w.spellable).1 is_tree;
+    only = λ other s. law.only (linked_tree p parts exports lay) (module_with bodies_of.list (linked_tree p parts exports lay)) other w.spellable is_tree s;
+    linked = record { rest = refl; bodies = bodies_of.alike };
     runs = λ s n. same_trace s (linked_tree p parts exports lay) bodies_of.list (linked_bodies p parts exports lay) n bodies_of.alike;
   }
 
-pub output_is_read : FilledBody → ((t : Tree) (m : Module) → IsSpellable t → IsTree m t → module_of (bytes_of t) ≡ Ok m) → OutputIsRead
+pub output_is_read : FilledBody → AreSpelled → OutputIsRead
 output_is_read filled_body law p exports w = read_back filled_body p exports w law

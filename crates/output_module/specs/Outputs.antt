@@ -4,6 +4,7 @@ use Rattle.list_places.specs.Has.{Has}
 use Rattle.wasm_instr.specs.declared.body.Body.{Body}
 use Rattle.wasm_instr.specs.Bodies.{SpellsBody}
 use Rattle.wasm_module.specs.declared.structure.Module.{Module}
+use Rattle.wasm_module.specs.Modules.{IsModule, SameButPlaces}
 use Rattle.wasm_module.specs.ModuleReading.{module_of}
 use Rattle.body_windows.specs.Immediates.{immediates}
 use Rattle.made_symbols.specs.declared.mode.Mode.TheVariants.{Plain}
@@ -39,10 +40,14 @@ pub record IsWritten (p : Program) (exports : List InputSymbol) (l : Layout) : T
   pub few : length l.numbers.functions < 2 ^ 32
   pub spellable : IsSpellable (linked_tree p (live p exports) exports l)
 
--- The module that the output's bytes are read as gives the traces of the output as a tree.
+-- What the output's bytes spell by the grammar of modules (Core 5.5), and nothing else: the output as a tree, its live functions with numbers
+-- for their references, but for the places of instructions, which bytes alone give. It gives the traces of that tree.
 pub record IsRead (p : Program) (exports : List InputSymbol) (bytes : List ℕ) : Type 0 where
   pub is : Module
   pub read : module_of bytes ≡ Ok is
+  pub spelled : IsModule is bytes
+  pub only : (other : Module) → IsModule other bytes → other ≡ is
+  pub linked : SameButPlaces (linked_module p exports) is
   pub runs : (s : Session) (n : ℕ) → module_trace s is n ≡ module_trace s (linked_module p exports) n
 
 abbrev pub OutputIsRead : Type 0

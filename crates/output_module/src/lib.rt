@@ -22,11 +22,13 @@ pub fn bodies_take_references()
     body_windows::bodies_are_in_order();
 }
 
-/// Where the output can be written (`IsWritten`), its bytes are read, as a module that has, for each
-/// session and each number of steps, the trace of the output's tree.
+/// Where the output can be written (`IsWritten`), its bytes spell, by the grammar of modules, the
+/// output's tree and no other, each live function with numbers for its references. They are read as
+/// that module, which has, for each session and each number of steps, the trace of the tree.
 pub fn outputs_are_read()
     ensures { OutputIsRead }
 {
     filled_bodies_are_read();
     image_emit::bytes_are_the_module();
+    image_emit::bytes_are_no_other();
 }

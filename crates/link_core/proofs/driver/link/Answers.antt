@@ -1,34 +1,5 @@
-use Rattle.std.proofs.Common.{◌∙◌, Ok, Err, ap, sym}
-use Rattle.std.proofs.lemmas.Result.{err_from_is_err_and}
-use Rattle.link_program.specs.made_symbols.declared.mode.Mode.TheVariants.{Plain}
-use Rattle.link_program.specs.link_rules.LinkOf.{link_program}
-use Rattle.link_program.specs.Loaded.{the_candidates}
-use Rattle.link_core.specs.Loading.{Loading, program_in}
-use Rattle.link_core.specs.Prepared.{output_of}
-use Rattle.link_core.proofs.Answering.{fails_by, load_failed, goes_on_loaded}
+use Rattle.link_core.proofs.Running.{runs_of}
 use Rattle.link_core.proofs.driver.link.Goals as goal
 
-pub returns-in_err-inputs-clause-exact : goal.returns-in_err-inputs-clause-exact
-returns-in_err-inputs-clause-exact g c =
-    let p = err_from_is_err_and c.from_residual.result c.from_residual.ensures.1 in
-    rw (p.1) (load_failed c.args.plan.now c.args.files.now c.in_err-inputs.field-0.0 p.0 p.2 c.in_err-inputs.ensures.exact)
-
-pub returns-in_err-ready-clause-exact : goal.returns-in_err-ready-clause-exact
-returns-in_err-ready-clause-exact g c =
-    let p = err_from_is_err_and c.from_residual-in_err-ready.result c.from_residual-in_err-ready.ensures.1 in
-    let all = the_candidates c.args.plan.now c.args.files.now in
-    let l : Loading = record { origin = record { plan = c.args.plan.now; files = c.args.files.now; all = all }; objects = c.in_ok-inputs.inputs.loaded } in
-    rw (p.1)
-    (goes_on_loaded c.args.plan.now c.args.files.now all c.in_ok-inputs.inputs.loaded (Err p.0) c.in_ok-inputs.ensures.found.candidates c.in_ok-inputs.ensures.found.objects
-    (fails_by (link_program Plain (program_in l)) c.in_err-ready.field-0.0 p.0 p.2 c.in_err-ready.ensures.exact))
-
-pub returns-in_err-bytes-clause-exact : goal.returns-in_err-bytes-clause-exact
-returns-in_err-bytes-clause-exact g c =
-    let p = err_from_is_err_and c.from_residual-in_err-bytes.result c.from_residual-in_err-bytes.ensures.1 in
-    rw (p.1, p.2) tt
-
-pub returns-clause-exact : goal.returns-clause-exact
-returns-clause-exact g c =
-    goes_on_loaded c.args.plan.now c.args.files.now (the_candidates c.args.plan.now c.args.files.now) c.in_ok-inputs.inputs.loaded (Ok (output_of c.args.files.now c.in_ok-ready.ready))
-    c.in_ok-inputs.ensures.found.candidates c.in_ok-inputs.ensures.found.objects c.in_ok-ready.ensures.exact
-    ∙ ap (λ bs. Ok bs) (sym c.in_ok-bytes.ensures.is)
+pub returns-clause-runs : goal.returns-clause-runs
+returns-clause-runs g c = runs_of c.args.plan.now c.args.files.now c.link_files-answer.result c.links_run.ensures c.requires.plan c.requires.files c.link_files-answer.ensures.exact
