@@ -59,6 +59,17 @@ expect "the generated case is linked" ends 0 "case 2: functions 3 segments 2 byt
 expect "and saved" test "$(wc -c <case.wasm)" -eq 124
 expect "by any number of workers" ends 0 "case 2000: functions 2001 segments 2000 bytes 62069 sum 4449098" --make-case=2000 --threads=64
 
+# So many windows that the workers find what they hold, each of a part.
+mkdir many
+if python3 "$top/bench/link_inputs.py" large many 6 2>err.txt; then
+  mapfile -t many < <(tr ' ' '\n' <many/inputs | sed 's|^|many/|')
+  expect "many windows are linked by one worker" ends 0 "" --threads=1 "${many[@]}" -o one.wasm
+  expect "and by four" ends 0 "" --threads=4 "${many[@]}" -o four.wasm
+  expect "to the same bytes" cmp one.wasm four.wasm
+else
+  echo "skipped: many windows ($(head -n 1 err.txt))"
+fi
+
 # What is refused. The output stays as it was.
 cp "$module" c.wasm
 expect "a name without a definition" ends 1 "wasmld: input 0: unresolved h" a.o -o c.wasm --no-entry --export=h

@@ -5,9 +5,8 @@ use Rattle.link_program.specs.made_symbols.declared.mode.Mode.{Mode}
 use Rattle.link_program.specs.made_symbols.declared.mode.Mode.TheVariants.{Plain}
 use Rattle.link_program.specs.link_names.Numbered.{AreNumbers}
 use Rattle.link_program.specs.name_entries.declared.lookups.Entries.{Entries}
-use Rattle.link_program.specs.name_entries.Fits.{Fits}
+use Rattle.link_program.specs.name_entries.Fits.{IsTable, Fits}
 use Rattle.link_program.specs.name_entries.View.{InputsRise}
-use Rattle.link_program.specs.name_entries.Parts.{AreParts}
 use Rattle.link_program.specs.link_plan.declared.plan.Plan.{Plan}
 use Rattle.link_program.specs.link_plan.Plan.{IsPlan}
 use Rattle.link_program.specs.link_rules.Program.{Program, program_of}
@@ -60,7 +59,7 @@ module _ (l : Loading) (plan : Plan) (loaded objects : List Object) (same : l.or
   pub found_is_linked : (files : List (List ℕ)) (homes : List Home) (f : Found) (d : Data) (view : Entries) → IsPlan plan → l.origin.files ≡ files
       → IsLoaded l.origin.files l.origin.all loaded homes → LoadedPartsStand → IsFound Plain plan objects f found_program
       → ((mode : Mode) (p : Program) → IsFound mode plan objects f p → IsProgram mode d p)
-      → ((mode : Mode) → AreNumbers mode objects f.names → InputsRise 0 objects → AreParts objects f.entries.parts → Fits mode view)
+      → ((mode : Mode) → AreNumbers mode objects f.names → InputsRise 0 objects → IsTable objects f.names f.entries → Fits mode view)
       → view.objects.now ≡ objects → d.objects.now ≡ objects → view.names.now ≡ f.names → d.names.now ≡ f.names → IsLinking (program_in l) d view files
   unfolding program_of
   found_is_linked files homes f d view planned held given stand found is fits seen asked named called =

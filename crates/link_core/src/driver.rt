@@ -32,8 +32,8 @@ use link_output::{measured, write};
 use link_plan::Plan;
 use link_program::{Entries, LinkError, Program, Winner};
 use link_runs::links_run;
-use program_build::find;
 use program_build::laws::parts_stand;
+use program_build::{Found, find};
 use std::alloc::Global;
 use std::mem::forget;
 use std::thread::Threads;
@@ -51,11 +51,12 @@ const FILE_WORK: usize = 4 << 10;
 /// plan, or as many as objects were generated.
 ///
 /// Given objects are read, groups and names are raced for, live parts are marked and the output is filled by as many workers as the plan
-/// has threads, or by one where the gate is open and little is to be linked; each passes the gate before a job. The answer doesn't depend on them. From the moment that the output's buffer is
+/// has threads, or by one where the gate is open and little is to be linked; each passes the gate before a job. The values of windows are
+/// found by the same workers, who pass no gate for that. The answer doesn't depend on them. From the moment that the output's buffer is
 /// reserved nothing can want memory.
 ///
-/// What was read of the files isn't given back, but kept until the process ends: that would be a free for each small piece, which takes up
-/// to a tenth of a link of many objects.
+/// What was read of the files, and the names, aren't given back, but kept until the process ends: that would be a free for each small piece,
+/// which takes up to a tenth of a link of many objects.
 pub fn link<R: Threads + Sync, G: Gate>(
     rt: &R,
     alloc: Global,
@@ -108,7 +109,8 @@ fn link_files<R: Threads + Sync, G: Gate>(
     Ok(bytes)
 }
 
-// Prepares the output of the loaded objects. What was found of them is given back at the end, before the output's buffer is reserved.
+// Prepares the output of the loaded objects. What was found of them is given back at the end, before the output's buffer is reserved; but not
+// the names, each of which is a small piece.
 fn prepare<R: Threads + Sync, G: Gate>(
     rt: &R,
     alloc: Global,
@@ -135,7 +137,9 @@ fn prepare<R: Threads + Sync, G: Gate>(
     let chosen = choose(rt, alloc, program, workers, gate)?;
     let exports = chosen.exports.as_slice();
     let live = chosen.live.numbers.as_slice();
-    let prepared = lay_out(alloc, program, entries, files, exports, live);
+    let prepared = lay_out(rt, alloc, program, entries, files, exports, live, workers);
+    let Found { names, .. } = found;
+    forget(names);
     prepared
 }
 
@@ -161,13 +165,15 @@ fn choose<R: Threads + Sync, G: Gate>(
 }
 
 // Gives all that is live its place and its number, and prepares the output.
-fn lay_out(
+fn lay_out<R: Threads + Sync>(
+    rt: &R,
     alloc: Global,
     program: Program<'_>,
     entries: Entries<'_>,
     files: &[Seq<u8>],
     exports: &[Winner],
     live: &[u32],
+    workers: Workers,
 ) -> Result<Prepared, LinkError>
     ghost s: { Stage }
     requires is { IsLinking s.program program entries files.now }
@@ -182,17 +188,19 @@ fn lay_out(
         numbering: &numbering,
         placed: &placed,
     };
-    let prepared = make_ready(alloc, layout, files, exports, live);
+    let prepared = make_ready(rt, alloc, layout, files, exports, live, workers);
     prepared
 }
 
 // Makes the output's image, measures it, and finds what its windows hold.
-fn make_ready(
+fn make_ready<R: Threads + Sync>(
+    rt: &R,
     alloc: Global,
     layout: Layout<'_>,
     files: &[Seq<u8>],
     exports: &[Winner],
     live: &[u32],
+    workers: Workers,
 ) -> Result<Prepared, LinkError>
     ghost s: { Stage }
     requires layout { IsLayout s.program s.parts s.exports layout }
@@ -206,7 +214,7 @@ fn make_ready(
     patches_make_the_output();
     let image = image(alloc, layout, exports, live)?;
     let measured = measured(alloc, files, &image)?;
-    let patches = layout.patches(alloc, live, measured.places.as_slice())?;
+    let patches = layout.patches(rt, alloc, live, measured.places.as_slice(), workers)?;
     Ok(Prepared {
         image,
         measured,

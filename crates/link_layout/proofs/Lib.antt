@@ -3,6 +3,8 @@ pub mod MadeData
 pub mod Pairs
 pub mod Steps
 pub mod Patched
+pub mod Gathered
+pub mod Divided
 pub mod Filled
 pub mod Parts
 pub mod PlacedTold

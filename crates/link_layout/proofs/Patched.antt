@@ -1,5 +1,5 @@
 -- Patches that loops put behind others.
-use Rattle.std.proofs.Common.{◌≡◌, ℕ, ◌+◌, ◌≤◌, List, [], ◌∷◌, ◌++◌, map, filter, length, drop, slice_get, Some, None, Result, Ok, Err, sym, ap, ◌∙◌}
+use Rattle.std.proofs.Common.{◌≡◌, ℕ, ◌+◌, ◌≤◌, List, [], ◌++◌, length, drop, slice_get, Some, Result, Ok, Err, sym, ap, ◌∙◌}
 use Rattle.std.proofs.lemmas.List.{append-nil}
 use Rattle.link_program.specs.wl_base.declared.layout_error.LayoutError.{LayoutError}
 use Rattle.link_program.specs.wl_base.declared.layout_error.LayoutError.TheVariants.{Overflow, OutOfMemory}
@@ -7,12 +7,12 @@ use Rattle.link_program.specs.wl_base.Answers.{Answers}
 use Rattle.link_program.specs.reloc_apply.declared.window.Window.{Window}
 use Rattle.link_program.specs.reloc_apply.declared.window.Patch.{Patch}
 use Rattle.link_program.specs.reloc_apply.declared.window.Patches.{Patches}
-use Rattle.link_program.specs.reloc_apply.Windows.{patched_on, patches_of, Puts}
-use Rattle.link_program.specs.Moved.{moved_window, moved_windows}
-use Rattle.reloc_apply.proofs.Sums.{put_more, put_stops, put_alone, put_alone_stops}
-use Rattle.link_program.specs.declared.keys.FunctionKey.{FunctionKey}
-use Rattle.link_layout.specs.Seen.{Looked, defined, is_solid_at, body_windows, row_windows, moved_sources}
-use Rattle.link_layout.proofs.Steps.{drop_at, drop_none, drop_past, no_more, none_moved}
+use Rattle.link_program.specs.reloc_apply.Windows.{patched_on, patches_of, patches_from, Puts}
+use Rattle.reloc_apply.proofs.Sums.{with_front, put_more, put_stops, put_alone_stops}
+use Rattle.link_layout.specs.Seen.{Looked}
+use Rattle.link_layout.specs.declared.gathering.Source.{Source}
+use Rattle.link_layout.specs.Sources.{source_windows, windows_of}
+use Rattle.link_layout.proofs.Steps.{drop_at, no_more}
 
 -- where no window is put
 pub put_none : (now : List Patch) → patched_on now [] ≡ Ok now
@@ -24,83 +24,40 @@ pub puts_fault : (f g : LayoutError) (now new : List Patch) (some all : Result (
 puts_fault (Overflow what needed) g now new some all same puts on = rw same (on puts)
 puts_fault OutOfMemory g now new some all same puts on = rw same tt
 
-module _ {A : Type 0} (f : A → Window) (place : ℕ) (row : List A) where
-  abbrev behind : ℕ → List Window
-  behind i = map (moved_window place) (map f (drop i row))
+-- the fault of the windows that are put in front of none
+pub fault_alone : (ws : List Window) (f g : LayoutError) (now : List Patch) → g ≡ f → Puts {A = Unit {0}} (Err f) now (patched_on [] ws)
+    → Answers {A = Patches} (Err g) (patches_of ws)
+fault_alone ws (Overflow what needed) g now same puts = rw same (put_alone_stops ws (Overflow what needed) puts)
+fault_alone ws OutOfMemory g now same puts = rw same tt
 
-  opened : (i : ℕ) (x : A) → slice_get row i ≡ Some x → behind i ≡ moved_window place (f x) ∷ behind (i + 1)
-  opened i x at = ap (λ xs. map (moved_window place) (map f xs)) (drop_at row i x at)
+-- patches behind others, and those of windows beside others
+pub put_behind : (xs ys : List Patch) (ws : List Window) → patched_on [] ws ≡ Ok ys → patched_on xs ws ≡ Ok (xs ++ ys)
+put_behind xs ys ws is = by (patches_from ws) is
+  where
+    by : (r : Result (List Patch) LayoutError) → with_front [] r ≡ Ok ys → with_front xs r ≡ Ok (xs ++ ys)
+    by (Ok zs) is = let same : zs ≡ ys = cc in ap (λ (vs : List Patch). Ok (xs ++ vs)) same
+    by (Err f) is = absurd cc
 
-  pub part_step : (i : ℕ) (x : A) (now new : List Patch) (all : Result (List Patch) LayoutError) → slice_get row i ≡ Some x
-      → patched_on now (behind i) ≡ all → patched_on now (moved_window place (f x) ∷ []) ≡ Ok new → patched_on new (behind (i + 1)) ≡ all
-  part_step i x now new all at inv step =
-      sym (put_more now new (moved_window place (f x) ∷ []) (behind (i + 1)) step) ∙ sym (ap (λ ws. patched_on now ws) (opened i x at)) ∙ inv
+pub put_both : (ws vs : List Window) (xs ys : List Patch) → patched_on [] ws ≡ Ok xs → patched_on [] vs ≡ Ok ys → patched_on [] (ws ++ vs) ≡ Ok (xs ++ ys)
+put_both ws vs xs ys one two = put_more [] xs ws vs one ∙ put_behind xs ys vs two
 
-  pub part_stops : (i : ℕ) (x : A) (now : List Patch) (all : Result (List Patch) LayoutError) (fault : LayoutError) → slice_get row i ≡ Some x
-      → patched_on now (behind i) ≡ all → patched_on now (moved_window place (f x) ∷ []) ≡ Err fault → all ≡ Err fault
-  part_stops i x now all fault at inv step =
-      sym inv ∙ ap (λ ws. patched_on now ws) (opened i x at) ∙ put_stops now (moved_window place (f x) ∷ []) (behind (i + 1)) fault step
-
-  pub part_end : (i : ℕ) (now : List Patch) (all : Result (List Patch) LayoutError) → length row ≤ i → patched_on now (behind i) ≡ all → all ≡ Ok now
-  part_end i now all past inv = sym inv ∙ ap (λ xs. patched_on now (map (moved_window place) (map f xs))) (no_more row i past) ∙ put_none now
-
-module _ {A : Type 0} (f : A → List Window) (places : List ℕ) (keys : List A) where
+-- one source behind another
+module _ (k : Looked) (sources : List Source) where
   abbrev left : ℕ → List Window
-  left i = moved_windows (drop i places) (map f (drop i keys))
+  left i = windows_of k (drop i sources)
 
-  begun : (i place : ℕ) (x : A) → slice_get places i ≡ Some place → slice_get keys i ≡ Some x → left i ≡ map (moved_window place) (f x) ++ left (i + 1)
-  begun i place x at_place at_key = λ j. moved_windows (drop_at places i place at_place j) (map f (drop_at keys i x at_key j))
+  opened : (i : ℕ) (s : Source) → slice_get sources i ≡ Some s → left i ≡ source_windows k s ++ left (i + 1)
+  opened i s at = ap (windows_of k) (drop_at sources i s at)
 
-  pub put_step : (i place : ℕ) (x : A) (now new : List Patch) (all : Result (List Patch) LayoutError) → slice_get places i ≡ Some place → slice_get keys i ≡ Some x
-      → patched_on now (left i) ≡ all → patched_on now (map (moved_window place) (f x)) ≡ Ok new → patched_on new (left (i + 1)) ≡ all
-  put_step i place x now new all at_place at_key inv step =
-      sym (put_more now new (map (moved_window place) (f x)) (left (i + 1)) step) ∙ sym (ap (λ ws. patched_on now ws) (begun i place x at_place at_key)) ∙ inv
+  pub source_step : (i : ℕ) (s : Source) (now new : List Patch) (all : Result (List Patch) LayoutError) → slice_get sources i ≡ Some s
+      → patched_on now (left i) ≡ all → patched_on now (source_windows k s) ≡ Ok new → patched_on new (left (i + 1)) ≡ all
+  source_step i s now new all at inv step =
+      sym (put_more now new (source_windows k s) (left (i + 1)) step) ∙ sym (ap (λ ws. patched_on now ws) (opened i s at)) ∙ inv
 
-  pub put_stopped : (i place : ℕ) (x : A) (now : List Patch) (all : Result (List Patch) LayoutError) (fault : LayoutError) → slice_get places i ≡ Some place → slice_get keys i ≡ Some x
-      → patched_on now (left i) ≡ all → patched_on now (map (moved_window place) (f x)) ≡ Err fault → all ≡ Err fault
-  put_stopped i place x now all fault at_place at_key inv step =
-      sym inv ∙ ap (λ ws. patched_on now ws) (begun i place x at_place at_key) ∙ put_stops now (map (moved_window place) (f x)) (left (i + 1)) fault step
+  pub source_stops : (i : ℕ) (s : Source) (now : List Patch) (all : Result (List Patch) LayoutError) (fault : LayoutError) → slice_get sources i ≡ Some s
+      → patched_on now (left i) ≡ all → patched_on now (source_windows k s) ≡ Err fault → all ≡ Err fault
+  source_stops i s now all fault at inv step =
+      sym inv ∙ ap (λ ws. patched_on now ws) (opened i s at) ∙ put_stops now (source_windows k s) (left (i + 1)) fault step
 
-  pub put_past : (i : ℕ) (now : List Patch) (all : Result (List Patch) LayoutError) → slice_get places i ≡ None
-      → patched_on now (left i) ≡ all → patched_on now (left (i + 1)) ≡ all
-  put_past i now all at inv =
-      ap (λ ps. patched_on now (moved_windows ps (map f (drop (i + 1) keys)))) (drop_past places i at)
-      ∙ ap (λ ps. patched_on now (moved_windows ps (map f (drop i keys)))) (sym (drop_none places i at)) ∙ inv
-
-  pub put_end : (i : ℕ) (now : List Patch) (all : Result (List Patch) LayoutError) → length keys ≤ i → patched_on now (left i) ≡ all → all ≡ Ok now
-  put_end i now all past inv =
-      sym inv ∙ ap (λ ks. patched_on now (moved_windows (drop i places) (map f ks))) (no_more keys i past) ∙ ap (λ ws. patched_on now ws) (none_moved (drop i places)) ∙ put_none now
-
--- first those of bodies, and then those of segments
-module _ (k : Looked) (live places : List ℕ) (keys : List FunctionKey) (numbers tail : List ℕ) (start : List Patch) (same_keys : keys ≡ defined k.numbers.functions)
-    (same_numbers : numbers ≡ filter (is_solid_at k) live) (same_tail : tail ≡ drop (length keys) places) (empty : start ≡ []) where
-  abbrev bodies : List Window
-  bodies = moved_windows places (map (body_windows k) keys)
-
-  abbrev segments : List Window
-  segments = moved_windows tail (map (row_windows k) numbers)
-
-  are : bodies ++ segments ≡ moved_sources k live places
-  are =
-      ap (λ ks. bodies ++ moved_windows ks (map (row_windows k) numbers)) same_tail
-      ∙ (λ j. moved_windows places (map (body_windows k) (same_keys j)) ++ moved_windows (drop (length (same_keys j)) places) (map (row_windows k) (same_numbers j)))
-
-  pub both_put : (first last : List Patch) → patched_on start bodies ≡ Ok first → patched_on first segments ≡ Ok last
-      → patches_of (moved_sources k live places) ≡ Ok (record { patches = last })
-  both_put first last one two =
-      let from : patched_on [] bodies ≡ Ok first = ap (λ s. patched_on s bodies) (sym empty) ∙ one in
-      sym (ap patches_of are) ∙ put_alone (bodies ++ segments) last (put_more [] first bodies segments from ∙ two)
-
-  pub first_stops : (now : List Patch) (f g : LayoutError) → g ≡ f → Puts {A = Unit {0}} (Err f) now (patched_on start bodies)
-      → Answers {A = Patches} (Err g) (patches_of (moved_sources k live places))
-  first_stops now (Overflow what needed) g same puts =
-      let from : patched_on [] bodies ≡ Err (Overflow what needed) = ap (λ s. patched_on s bodies) (sym empty) ∙ puts in
-      rw same (sym (ap patches_of are) ∙ put_alone_stops (bodies ++ segments) (Overflow what needed) (put_stops [] bodies segments (Overflow what needed) from))
-  first_stops now OutOfMemory g same puts = rw same tt
-
-  pub second_stops : (first now : List Patch) (f g : LayoutError) → g ≡ f → patched_on start bodies ≡ Ok first → Puts {A = Unit {0}} (Err f) now (patched_on first segments)
-      → Answers {A = Patches} (Err g) (patches_of (moved_sources k live places))
-  second_stops first now (Overflow what needed) g same one puts =
-      let from : patched_on [] bodies ≡ Ok first = ap (λ s. patched_on s bodies) (sym empty) ∙ one in
-      rw same (sym (ap patches_of are) ∙ put_alone_stops (bodies ++ segments) (Overflow what needed) (put_more [] first bodies segments from ∙ puts))
-  second_stops first now OutOfMemory g same one puts = rw same tt
+  pub source_end : (i : ℕ) (now : List Patch) (all : Result (List Patch) LayoutError) → length sources ≤ i → patched_on now (left i) ≡ all → all ≡ Ok now
+  source_end i now all past inv = sym inv ∙ ap (λ ss. patched_on now (windows_of k ss)) (no_more sources i past) ∙ put_none now

@@ -28,7 +28,9 @@ use memory_layout::Places;
 use reloc_apply::{Form, Patches, Window};
 use reloc_section::kinds;
 use std::alloc::Global;
+use std::thread::Threads;
 use wl_base::{LayoutError, OutOfMemory};
+use wl_fan::Workers;
 
 /// A program with all numbers of its output and the places of its segments, by reference.
 #[derive(Clone, Copy)]
@@ -316,14 +318,18 @@ impl<'a> Layout<'a> {
     /// What is written into the windows of all sources of the output, by their places there: of the bodies of functions, then of the live
     /// segments that aren't zero. `places` has the place of each source. A place of 2^64 and more is answered as want of memory.
     ///
+    /// The windows are divided among the workers, where there are many. The answer doesn't depend on them.
+    ///
     /// # Errors
     ///
     /// `Overflow` with `Reference` exactly where a value is out of range: the first one by place in the output. `OutOfMemory`.
-    pub fn patches(
+    pub fn patches<R: Threads + Sync>(
         self,
+        rt: &R,
         alloc: Global,
         live: &[u32],
         places: &[u64],
+        workers: Workers,
     ) -> Result<Patches, LayoutError>
         ghost s: { Stage }
         requires is { IsLayout s.program s.parts s.exports self }
@@ -331,7 +337,7 @@ impl<'a> Layout<'a> {
         ensures { Answers result (patches_of (moved_windows places.now (source_windows Plain s.program s.parts s.exports (layout Plain s.program s.parts s.exports)))) }
     {
         keys_are_told();
-        let patches = all_patches(alloc, self, live, places)?;
+        let patches = all_patches(rt, alloc, self, live, places, workers)?;
         Ok(patches)
     }
 }

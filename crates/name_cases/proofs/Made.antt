@@ -63,7 +63,7 @@ few last (o ∷ os) below rise = let rest = few o.input os rise.1 rise.2 in let 
 
 pub shows_made : (names : List (List ℕ)) (k : ℕ) (m : MadeSymbol) (kind : SymbolKind) (name : Bor (List ℕ)) (number : Option ℕ) (class : ℕ)
     → kind ≡ m.kind → name.now ≡ m.name → number ≡ number_of names m.name → class ≡ m.class
-    → Shows names (record { input = 0; place = k; symbol = record { kind = kind; flags = 4; name = Some name; index = 0; offset = 0; size = 0 }; number = number; defines = true; class = class }) (made_entry k m)
+    → Shows names (record { input = 0; place = k; symbol = record { kind = kind; flags = 4; name = Some name; index = 0; offset = 0; size = 0 }; number = number; defines = true; class = class; index = k }) (made_entry k m)
 shows_made names k m kind name number class kinds named numbered classes = record {
   input = refl;
   place = refl;
@@ -71,4 +71,5 @@ shows_made names k m kind name number class kinds named numbered classes = recor
   number = numbered;
   defines = refl;
   class = classes;
+  index = refl;
 }

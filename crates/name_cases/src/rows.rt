@@ -77,6 +77,7 @@ impl<'a> Rows<'a> {
             number: self.view.names.made(place),
             defines: true,
             class: made_symbols::class(self.mode, place),
+            index: place,
         })
     }
 
@@ -118,6 +119,7 @@ impl<'a> Rows<'a> {
     }
 
     /// A symbol; `None` exactly where there is none.
+    #[inline(always)]
     #[tactic(auto, unfolding(crate::specs::Rows::rows_shown))]
     pub(crate) fn entry(&self, spot: Spot) -> Option<EntryRef<'a>>
         requires { RowsFit self.now }

@@ -1,34 +1,31 @@
--- The parts of one object more.
+-- Two lists, of which the second grows beside the first.
 use Rattle.std.proofs.Common.{◌≡◌, ℕ, zero, suc, ◌-◌, ◌<◌, ◌≤◌, Bool, true, false, List, [], ◌∷◌, ◌++◌, length, slice_get, Some, refl, sym, ap, subst, ◌∙◌, arith, nat_lt}
 use Rattle.std.proofs.lemmas.Option.{same_Some}
 use Rattle.std.proofs.lemmas.Bool.Decides.{nat_tests}
-use Rattle.object_file.specs.declared.object.Object.{Object}
-use Rattle.name_entries.specs.Parts.{ArePartsOf}
-use Rattle.name_entries.specs.declared.parts.ObjectParts.{ObjectParts}
 use Rattle.name_entries.proofs.Found.{front, behind}
 
-abbrev pub EachFits : List Object → List ObjectParts → Type 0
-EachFits objects parts = (i : ℕ) (o : Object) (p : ObjectParts) → slice_get objects i ≡ Some o → slice_get parts i ≡ Some p → ArePartsOf objects o p
+-- What stands at one place in both is related.
+abbrev pub Beside : {A B : Type 0} → (ℕ → A → B → Type 0) → List A → List B → Type 0
+Beside {A = A} {B = B} P xs ys = (i : ℕ) (x : A) (y : B) → slice_get xs i ≡ Some x → slice_get ys i ≡ Some y → P i x y
 
 -- what stands behind is the new one
 last_one : {A : Type 0} (x y : A) (j : ℕ) → slice_get (x ∷ []) j ≡ Some y → (j ≡ 0) × (x ≡ y)
 last_one x y zero e = (refl, same_Some x y e)
 last_one x y (suc j) e = absurd cc
 
-pub one_more : (objects : List Object) (parts after : List ObjectParts) (object : ℕ) (o : Object) (p : ObjectParts) → after ≡ parts ++ p ∷ []
-    → object ≡ length parts
-    → slice_get objects object ≡ Some o → ArePartsOf objects o p → EachFits objects parts → EachFits objects after
-one_more objects parts after object o p pushed counted there new each i o' p' there' here = by (nat_lt i (length parts)) refl
+pub one_more : {A B : Type 0} (P : ℕ → A → B → Type 0) (xs : List A) (ys after : List B) (at : ℕ) (x : A) (y : B) → after ≡ ys ++ y ∷ [] → at ≡ length ys
+    → slice_get xs at ≡ Some x → P at x y → Beside P xs ys → Beside P xs after
+one_more {A = A} {B = B} P xs ys after at x y pushed counted there new each i x' y' there' here = by (nat_lt i (length ys)) refl
   where
-    by : (b : Bool) → nat_lt i (length parts) ≡ b → ArePartsOf objects o' p'
+    by : (b : Bool) → nat_lt i (length ys) ≡ b → P i x' y'
     by true lt =
-        let below : i < length parts = grind (arith, nat_tests) in
-        each i o' p' there' (sym (front parts (p ∷ []) i below) ∙ ap (λ ps. slice_get ps i) (sym pushed) ∙ here)
+        let below : i < length ys = grind (arith, nat_tests) in
+        each i x' y' there' (sym (front ys (y ∷ []) i below) ∙ ap (λ zs. slice_get zs i) (sym pushed) ∙ here)
     by false ge =
-        let above : length parts ≤ i = grind (arith, nat_tests) in
-        let is = last_one p p' (i - length parts) (sym (behind parts (p ∷ []) (i - length parts) i (omega arith)) ∙ ap (λ ps. slice_get ps i)
+        let above : length ys ≤ i = grind (arith, nat_tests) in
+        let is = last_one y y' (i - length ys) (sym (behind ys (y ∷ []) (i - length ys) i (omega arith)) ∙ ap (λ zs. slice_get zs i)
         (sym pushed) ∙ here) in
-        let none : i - length parts ≡ 0 = is.0 in
-        let place : object ≡ i = omega arith in
-        let same : o ≡ o' = same_Some o o' (sym there ∙ ap (slice_get objects) place ∙ there') in
-        subst (λ (x : Object). ArePartsOf objects x p') same (subst (λ (x : ObjectParts). ArePartsOf objects o x) is.1 new)
+        let none : i - length ys ≡ 0 = is.0 in
+        let place : at ≡ i = omega arith in
+        let same : x ≡ x' = same_Some x x' (sym there ∙ ap (slice_get xs) place ∙ there') in
+        subst (λ k. P k x' y') place (subst (λ x. P at x y') same (subst (λ y. P at x y) is.1 new))

@@ -1,6 +1,6 @@
 -- What a place in a list of places finds.
 use Rattle.std.proofs.Common.{◌≡◌, ℕ, zero, suc, ◌+◌, ◌-◌, ◌<◌, ◌≤◌, Bool, true, false, List, [], ◌∷◌, ◌++◌, length, map, filter, filter_map, get_or, slice_get, Option, Some, None, is_some, refl, sym, ap, ◌∙◌, arith}
-use Rattle.std.proofs.lemmas.Option.{slice_get-map, get_or_from_slice_get, unwrap_or-slice_get}
+use Rattle.std.proofs.lemmas.Option.{same_Some, slice_get-map, get_or_from_slice_get, unwrap_or-slice_get}
 use Rattle.std.specs.Option.{option_map, option_and_then, unwrap_or}
 
 looked_up : {A : Type 0} (xs ys : List A) (places : List ℕ) (k : ℕ) → map (slice_get xs) places ≡ map (λ x. Some x) ys
@@ -25,6 +25,15 @@ found {A = A} xs ys places k at held some = by (slice_get ys k) (ap (option_map 
     by : (x : Option A) → Some (slice_get xs at) ≡ option_map (λ x. Some x) x → x ≡ slice_get xs at
     by None e = cc
     by (Some x) e = cc
+
+-- there is one
+pub one_there : {A : Type 0} (xs ys : List A) (places : List ℕ) (k at : ℕ) → map (slice_get xs) places ≡ map (λ x. Some x) ys
+    → slice_get places k ≡ Some at → (x : A) × (slice_get xs at ≡ Some x)
+one_there {A = A} xs ys places k at held some = by (slice_get ys k) (ap (option_map (slice_get xs)) (sym some) ∙ looked_up xs ys places k held)
+  where
+    by : (x : Option A) → Some (slice_get xs at) ≡ option_map (λ x. Some x) x → (x : A) × (slice_get xs at ≡ Some x)
+    by None e = absurd cc
+    by (Some x) e = (x, same_Some {A = Option A} (slice_get xs at) (Some x) e)
 
 -- there are as many places
 pub counted : {A : Type 0} (xs ys : List A) (places : List ℕ) → map (slice_get xs) places ≡ map (λ x. Some x) ys → length places ≡ length ys

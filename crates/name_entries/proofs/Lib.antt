@@ -8,4 +8,5 @@ pub mod Grouped
 pub mod Few
 pub mod Each
 pub mod Added
+pub mod Told
 pub use Rattle.object_file.proofs as object_file_lemmas

@@ -1,21 +1,14 @@
 -- An entry, by the places of its object and its symbol.
-use Rattle.std.proofs.Common.{◌≡◌, ℕ, zero, suc, ◌+◌, not, ◌&&◌, List, [], ◌∷◌, length, map, get_or, slice_get, if◌then◌else◌, Option, Some, None, refl, sym, ap, subst, ◌∙◌, arith}
+use Rattle.std.proofs.Common.{◌≡◌, ℕ, zero, suc, ◌+◌, List, [], ◌∷◌, length, map, get_or, slice_get, Option, Some, None, refl, sym, ap, subst, ◌∙◌, arith}
 use Rattle.std.specs.Option.{option_map}
 use Rattle.std.proofs.lemmas.Option.{same_Some}
 use Rattle.object_file.specs.linking_section.declared.symbol.Symbol.{Symbol}
-use Rattle.object_file.specs.linking_section.declared.symbol.SymbolKind.{SymbolKind}
-use Rattle.object_file.specs.linking_section.declared.symbol.SymbolKind.TheVariants.{Function, Datum, GlobalVar, Section, Table}
-use Rattle.object_file.specs.linking_section.Flags.{is_weak, is_undefined}
-use Rattle.object_file.specs.object_columns.Seen.{symbol_seen, import_seen}
+use Rattle.object_file.specs.object_columns.Seen.{import_seen}
 use Rattle.object_file.specs.object_columns.declared.imports.ImportRef.{ImportRef}
 use Rattle.object_file.specs.declared.object.Object.{Object}
 use Rattle.link_names.specs.Numbered.{symbol_number}
-use Rattle.name_rules.specs.Entries.{InputSymbol, SymbolType, entry_in, entries_from, symbols_of, in_kept_part, type_in, import_in, key_of}
+use Rattle.name_rules.specs.Entries.{InputSymbol, SymbolType, entry_in, entries_from, symbols_of, type_in, import_in, key_of}
 use Rattle.name_entries.specs.View.{rows_of, entry_at}
-use Rattle.name_entries.specs.Parts.{ArePartsOf, keeps}
-use Rattle.name_entries.specs.Shown.{AreShown}
-use Rattle.name_entries.specs.declared.parts.ObjectParts.{ObjectParts}
-use Rattle.name_entries.specs.declared.entry.EntryRef.{EntryRef}
 use Rattle.name_entries.proofs.Found.{mapped, mapped_past}
 
 -- the symbol at a place makes the entry at that place
@@ -68,36 +61,6 @@ number_at objects names numbers i k o s are there symbol =
     ap (λ ns. get_or (get_or ns i []) k None) are
     ∙ ap (λ ns. get_or ns k None) (mapped (λ (o : Object). map (symbol_number names) o.symbols) objects i o [] there)
     ∙ mapped (symbol_number names) o.symbols k s None symbol
-
--- ---- what is defined
-
-keeps_part : (objects : List Object) (o : Object) (p : ObjectParts) (s : Symbol) (kind : SymbolKind) → ArePartsOf objects o p
-    → keeps p kind s.index ≡ in_kept_part objects o s kind
-keeps_part objects o p s Function are = sym (are.functions s.index)
-keeps_part objects o p s Datum are = sym (are.segments s.index)
-keeps_part objects o p s GlobalVar are = refl
-keeps_part objects o p s Section are = refl
-keeps_part objects o p s Table are = refl
-
--- ---- together
-
-pub shown : (objects : List Object) (names : List (List ℕ)) (numbers : List (List (Option ℕ))) (i k : ℕ) (o : Object) (p : ObjectParts) (r : EntryRef)
-    → numbers ≡ map (λ (o : Object). map (symbol_number names) o.symbols) objects → ArePartsOf objects o p
-    → slice_get objects i ≡ Some o → slice_get o.symbols k ≡ Some (symbol_seen r.symbol)
-    → r.input ≡ o.input → r.place ≡ k → r.number ≡ get_or (get_or numbers i []) k None
-    → r.defines ≡ (not (is_undefined (symbol_seen r.symbol)) && keeps p r.symbol.kind r.symbol.index)
-    → r.class ≡ (if is_weak (symbol_seen r.symbol) then 1 else 0)
-    → AreShown names (Some r) (entry_at objects i k)
-shown objects names numbers i k o p r are parts there symbol input place number defines class =
-    rw (entry_of objects i k o there, symbol) (record {
-      input = input;
-      place = place;
-      symbol = refl;
-      number = number ∙ number_at objects names numbers i k o (symbol_seen r.symbol) are there symbol;
-      defines = defines
-          ∙ ap (λ b. not (is_undefined (symbol_seen r.symbol)) && b) (keeps_part objects o p (symbol_seen r.symbol) r.symbol.kind parts);
-      class = class;
-    })
 
 -- a row has as many entries as the object has symbols
 same_length : (objects : List Object) (o : Object) (names : List (List ℕ)) (start : ℕ) (ss : List Symbol)

@@ -6,13 +6,21 @@ use Rattle.made_symbols.specs.declared.mode.Mode.{Mode}
 use Rattle.link_names.specs.Numbered.{Numbered, symbol_number, group_names, AreNumbers}
 use Rattle.name_entries.specs.View.{InputsRise}
 use Rattle.name_entries.specs.Parts.{AreParts}
+use Rattle.name_entries.specs.Rows.{AreRows}
+use Rattle.name_entries.specs.declared.table.EntryTable.{EntryTable}
 use Rattle.name_entries.specs.declared.lookups.Entries.{Entries}
 
--- The numbers are those of the objects' names, the inputs rise, and the parts are those of the objects.
+-- The table is that of these objects, whose names have these numbers.
+pub record IsTable (objects : List Object) (n : Numbered) (table : EntryTable) : Type 0 where
+  pub parts : AreParts objects table.parts
+  pub rows : AreRows objects n.symbols table.rows
+
+-- The numbers are those of the objects' names, the inputs rise, and what is looked up is that of the objects.
 pub record FitsObjects (es : Entries) : Type 0 where
   pub symbols : es.names.now.symbols ≡ map (λ (o : Object). map (symbol_number es.names.now.names) o.symbols) es.objects.now
   pub inputs : InputsRise 0 es.objects.now
   pub parts : AreParts es.objects.now es.parts.now
+  pub rows : AreRows es.objects.now es.names.now.symbols es.rows.now
 
 -- The same, and all numbers are those of a link of this mode.
 pub record Fits (mode : Mode) (es : Entries) : Type 0 where

@@ -18,6 +18,8 @@ pub struct EntryRef<'a> {
     pub defines: bool,
     /// 0 strong, 1 weak.
     pub class: u8,
+    /// Of a defined function or global its place among those that the object defines; of a datum its segment.
+    pub index: u32,
 }
 
 /// The type of a symbol, lent.

@@ -7,6 +7,7 @@ mod entry;
 mod lookups;
 mod parts;
 mod spaces;
+mod symbol_rows;
 mod table;
 
 pub use entry::{EntryRef, TypeRef};

@@ -1,18 +1,15 @@
 //! What the indexes of an object name.
 ghost use Rattle.std.specs.Prelude.{◌≡◌, false, slice_get, slice_index_or, option_map};
 ghost use Rattle.object_file.specs.wasm_types.declared.value.ValType.TheVariants as values;
-ghost use Rattle.object_file.specs.object_columns.Seen.{symbol_seen, func_type_seen, import_seen};
+ghost use Rattle.object_file.specs.object_columns.Seen.{func_type_seen, import_seen};
 ghost use Rattle.object_file.specs.object_rules.Spaces.{ArePlaces, imports_of, imported_type};
-ghost use Rattle.object_file.specs.Spaces.{no_type, written_type, function_types, global_types, imported_global};
-ghost use Rattle.name_rules.specs.Entries.{type_in, import_in};
-ghost use Rattle.name_entries.specs.Shown.{type_seen};
+ghost use Rattle.object_file.specs.Spaces.{written_type, function_types, global_types, imported_global};
 
-use crate::entry::TypeRef;
-use object_file::{FuncTypeRef, ImportPlaces, ImportRef, Object, SymbolKind, SymbolRef};
+use object_file::{FuncTypeRef, ImportPlaces, ImportRef, Object, SymbolKind};
 use wasm_types::{GlobalType, ImportKind, ValType};
 
 /// The place of an index; `None` exactly where there is none.
-fn place_at(places: &[usize], index: u32) -> Option<usize>
+pub(crate) fn place_at(places: &[usize], index: u32) -> Option<usize>
     ensures { result ≡ slice_get places.now index }
 {
     places.get(index as usize).copied()
@@ -32,20 +29,8 @@ fn import_at<'a>(
     from.imports.get(at)
 }
 
-/// The import that a symbol stands on.
-pub(crate) fn import_in<'a>(
-    from: &'a Object,
-    places: &ImportPlaces,
-    symbol: SymbolRef<'_>,
-) -> Option<ImportRef<'a>>
-    requires { ArePlaces from.now.imports places.now }
-    ensures { option_map import_seen result ≡ import_in from.now (symbol_seen symbol.entry) symbol.entry.kind }
-{
-    import_at(from, places, symbol.kind, symbol.index)
-}
-
 /// The function type that an index of types names, or `() to ()`.
-fn written_type(from: &Object, index: u32) -> FuncTypeRef<'_>
+pub(crate) fn written_type(from: &Object, index: u32) -> FuncTypeRef<'_>
     ensures { func_type_seen result ≡ written_type from.now index }
 {
     match from.types.get(index as usize) {
@@ -68,7 +53,7 @@ fn imported_type(kind: ImportKind) -> Option<u32>
 }
 
 /// The type index of a function; `None` exactly where there is no such function.
-fn type_index(from: &Object, places: &ImportPlaces, index: u32) -> Option<u32>
+pub(crate) fn type_index(from: &Object, places: &ImportPlaces, index: u32) -> Option<u32>
     requires { ArePlaces from.now.imports places.now }
     ensures { option_map (written_type from.now) result ≡ slice_get (function_types from.now) index }
 {
@@ -80,20 +65,6 @@ fn type_index(from: &Object, places: &ImportPlaces, index: u32) -> Option<u32>
     } else {
         let function = from.functions.get(at - imported)?;
         Some(function.type_index)
-    }
-}
-
-/// The type of a function, by its index, or `() to ()` where there is no such function.
-fn function_type<'a>(from: &'a Object, places: &ImportPlaces, index: u32) -> FuncTypeRef<'a>
-    requires { ArePlaces from.now.imports places.now }
-    ensures { func_type_seen result ≡ slice_index_or (function_types from.now) index no_type }
-{
-    match type_index(from, places, index) {
-        Some(written) => written_type(from, written),
-        None => FuncTypeRef {
-            params: &[],
-            results: &[],
-        },
     }
 }
 
@@ -124,7 +95,7 @@ fn known_global(from: &Object, places: &ImportPlaces, index: u32) -> Option<Glob
 }
 
 /// The type of a global, by its index, or a constant i32 where there is no such global.
-fn global_type(from: &Object, places: &ImportPlaces, index: u32) -> GlobalType
+pub(crate) fn global_type(from: &Object, places: &ImportPlaces, index: u32) -> GlobalType
     requires { ArePlaces from.now.imports places.now }
     ensures { result ≡ slice_index_or (global_types from.now) index (record { kind = values.I32; var = false }) }
 {
@@ -134,21 +105,5 @@ fn global_type(from: &Object, places: &ImportPlaces, index: u32) -> GlobalType
             kind: ValType::I32,
             var: false,
         },
-    }
-}
-
-/// The type of a symbol.
-pub(crate) fn type_in<'a>(
-    from: &'a Object,
-    places: &ImportPlaces,
-    symbol: SymbolRef<'_>,
-) -> TypeRef<'a>
-    requires { ArePlaces from.now.imports places.now }
-    ensures { type_seen result ≡ type_in from.now (symbol_seen symbol.entry) symbol.entry.kind }
-{
-    match symbol.kind {
-        SymbolKind::Function => TypeRef::Function(function_type(from, places, symbol.index)),
-        SymbolKind::GlobalVar => TypeRef::GlobalVar(global_type(from, places, symbol.index)),
-        SymbolKind::Datum | SymbolKind::Section | SymbolKind::Table => TypeRef::Untyped,
     }
 }

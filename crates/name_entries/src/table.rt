@@ -4,24 +4,26 @@ ghost use Rattle.object_file.specs.object_rules.Spaces.{is_function, is_table, i
 ghost use Rattle.made_symbols.specs.declared.mode.Mode.{Mode};
 ghost use Rattle.link_names.specs.Numbered.{AreNumbers};
 ghost use Rattle.name_entries.specs.View.{InputsRise, GroupsAre};
-ghost use Rattle.name_entries.specs.Parts.{ArePartsOf, AreParts};
-ghost use Rattle.name_entries.specs.Fits.{GroupsAreNumbered, Fits};
+ghost use Rattle.name_entries.specs.Parts.{ArePartsOf};
+ghost use Rattle.name_entries.specs.Fits.{GroupsAreNumbered, IsTable, Fits};
 
 use crate::dropping::dropped_of;
 use crate::lookups::Entries;
 use crate::parts::ObjectParts;
+use crate::symbol_rows::{EntryRow, fill_rows};
 use comdat_pick::ComdatWinners;
 use link_names::Names;
 use object_file::{ImportPlaces, Imports, Object};
 use std::alloc::Global;
 use wasm_types::ImportKind;
 use wl_base::{OutOfMemory, Seq};
-use wl_lists::shrunk;
+use wl_lists::{Lists, shrunk};
 
 /// What is looked up of the objects; `view` lends it with them.
 #[derive(Debug, Drop)]
 pub struct EntryTable {
     parts: Seq<ObjectParts>,
+    rows: Lists<EntryRow>,
 }
 
 /// Notes the place of an import of this kind.
@@ -90,14 +92,22 @@ impl EntryTable {
         requires inputs { InputsRise 0 objects.now }
         requires numbers { GroupsAreNumbered objects.now names.now }
         requires groups { GroupsAre names.now.names objects.now groups.now }
-        ensures { IfOk result (λ table. AreParts objects.now table.parts) }
+        ensures { IfOk result (IsTable objects.now names.now) }
     {
-        let mut parts = Seq::new(alloc);
+        let mut parts = Seq::from_vec(Vec::with_capacity(alloc, objects.len())?);
+        let mut rows = Lists::new(alloc);
+        let mut row = Seq::new(alloc);
         for object in 0..objects.len() as u32 {
             let from = &objects[object as usize];
-            parts.push(parts_of(alloc, objects, object, from, names, groups)?)?;
+            let own = parts_of(alloc, objects, object, from, names, groups)?;
+            fill_rows(&mut row, objects, object, from, &own, names)?;
+            rows.push(row.as_slice())?;
+            parts.push(own)?;
         }
-        Ok(EntryTable { parts })
+        Ok(EntryTable {
+            parts,
+            rows: rows.shrunk(),
+        })
     }
 
     /// The view of the objects that the table was made of.
@@ -106,12 +116,13 @@ impl EntryTable {
         ensures names { result.names.now ≡ names.now }
         ensures parts { result.parts.now ≡ self.now.parts }
         ensures fits { (mode : Mode) → AreNumbers mode objects.now names.now → InputsRise 0 objects.now
-            → AreParts objects.now self.now.parts → Fits mode result }
+            → IsTable objects.now names.now self.now → Fits mode result }
     {
         Entries {
             objects,
             names,
             parts: self.parts.as_slice(),
+            rows: &self.rows,
         }
     }
 }

@@ -13,13 +13,12 @@ use Rattle.name_entries.specs.wl_base.Names.{number_of}
 use Rattle.name_entries.specs.wl_base.Choice.{first_some, given}
 use Rattle.name_entries.specs.linking_section.Flags.{is_weak, is_explicit}
 use Rattle.name_entries.specs.object_file.declared.object.Object.{Object}
-use Rattle.name_entries.specs.name_rules.Entries.{InputSymbol, ImportKey, key_of, is_entry, name_of}
+use Rattle.name_entries.specs.name_rules.Entries.{InputSymbol, ImportKey, is_entry, name_of}
 use Rattle.name_entries.specs.name_rules.Meanings.{least_import}
 use Rattle.name_entries.specs.View.{entry_at, entry_number, is_number}
 use Rattle.name_entries.specs.declared.entry.EntryRef.{EntryRef}
 use Rattle.name_entries.specs.Shown.{Shows, AreShown}
-use Rattle.name_entries.specs.object_columns.declared.imports.ImportRef.{ImportRef}
-use Rattle.name_entries.specs.object_columns.Seen.{symbol_seen, import_seen}
+use Rattle.name_entries.specs.object_columns.Seen.{symbol_seen}
 use Rattle.name_meanings.specs.declared.columns.At.{At}
 use Rattle.name_meanings.specs.declared.columns.Column.{Column}
 use Rattle.name_meanings.specs.Columns.{or_else, import_at, StandsOn, is_reference_of, IsColumn, AreColumns, empty_column}
@@ -81,10 +80,6 @@ explicit_more objects first at es e true false explicit is standing before =
 explicit_more objects first at es e false false explicit is standing before =
     ap (option_map (import_at objects)) (or_nothing first) ∙ before
     ∙ ap (λ l. option_map Some (least_import l)) (sym (filter_not_more (λ r. is_explicit r.symbol) es e explicit))
-
-same_there : {A B : Type 0} (f : A → B) (o : Option A) → is_some o ≡ is_some (option_map f o)
-same_there f (Some a) = refl
-same_there f None = refl
 
 -- ---- the column, and one more reference
 
@@ -178,14 +173,14 @@ not_at n i other = by_test (n == i) (λ is. other (sym (eqb-true n i is)))
     by_test true never = absurd (never refl)
     by_test false never = refl
 
-pub noted : (names : List (List ℕ)) (objects : List Object) (r : EntryRef) (object place n : ℕ) (found : Option ImportRef) (stands : Bool) (columns : List Column) (new : Column)
+pub noted : (names : List (List ℕ)) (objects : List Object) (r : EntryRef) (object place n : ℕ) (stands : Bool) (columns : List Column) (new : Column)
     → AreShown names (Some r) (entry_at objects object place) → r.number ≡ Some n → r.defines ≡ false
-    → ((e : InputSymbol) → entry_at objects object place ≡ Some e → option_map (λ i. key_of e.type (import_seen i)) found ≡ e.import) → stands ≡ is_some found
+    → ((e : InputSymbol) → entry_at objects object place ≡ Some e → stands ≡ is_some e.import)
     → new.explicit ≡ or_else (get_or columns n empty_column).explicit (given (stands && is_explicit (symbol_seen r.symbol)) (record { object = object; place = place }))
     → new.least ≡ or_else (get_or columns n empty_column).least (given stands (record { object = object; place = place }))
     → new.strong ≡ ((get_or columns n empty_column).strong || not (is_weak (symbol_seen r.symbol)))
     → (seen : List InputSymbol) (e : InputSymbol) → entry_at objects object place ≡ Some e → AreColumns names objects seen columns → AreColumns names objects (seen ++ e ∷ []) (set columns n new)
-noted names objects r object place n found stands columns new shown number reference import standing explicit least strong seen e is before =
+noted names objects r object place n stands columns new shown number reference standing explicit least strong seen e is before =
     let s : Shows names r e = subst (AreShown names (Some r)) is shown in
     let at : At = record { object = object; place = place } in
     let old = get_or columns n empty_column in
@@ -194,8 +189,7 @@ noted names objects r object place n found stands columns new shown number refer
     let has_number : entry_number names e ≡ Some n = sym s.number ∙ number in
     let test : (i : ℕ) → is_reference_of names i e ≡ (is_at n i && not false) = λ i. numbered names e i n false has_number (sym s.defines ∙ reference) in
     let stands_on : import_at objects at ≡ e.import = ap (option_and_then (λ (x : InputSymbol). x.import)) is in
-    let stands_is : stands ≡ is_some e.import = standing ∙ same_there (λ i. key_of e.type (import_seen i)) found ∙ ap is_some (import e is) in
-    let column = column_more objects (filter (is_reference_of names n) seen) e at stands old new stands_on stands_is
+    let column = column_more objects (filter (is_reference_of names n) seen) e at stands old new stands_on (standing e is)
     (explicit ∙ ap (λ t. or_else old.explicit (given (stands && is_explicit t) at)) s.symbol) least (strong ∙ ap (λ t. old.strong || not (is_weak t)) s.symbol) (before.each n within) in
     record {
       count = length-set columns n new ∙ before.count;

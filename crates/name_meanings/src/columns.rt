@@ -85,7 +85,7 @@ fn note_symbol(columns: &mut [Column], entries: Entries<'_>, object: u32, place:
     if entry.defines {
         return;
     }
-    let stands = entries.import_of(object, place).is_some();
+    let stands = entries.is_imported(object, place);
     let number = number as usize;
     columns[number] = columns[number].with(At { object, place }, entry.symbol, stands);
 }

@@ -39,7 +39,9 @@ enum Kind {
 struct Found {
     kind: Kind,
     field: Option<u8>,
+    imported: bool,
     defines: bool,
+    index: u32,
 }
 
 fn kind_of(kind: TypeRef<'_>) -> Kind {
@@ -68,7 +70,9 @@ fn look_up(entries: &Entries<'_>, object: u32, place: u32) -> Option<Found>
     Some(Found {
         kind: kind_of(kind),
         field,
+        imported: entries.is_imported(object, place),
         defines: entry.defines,
+        index: entry.index,
     })
 }
 
@@ -114,24 +118,37 @@ fn told<R: Threads + Sync>(
     looked_up(rt, alloc, all.objects.as_slice(), &all.names, object)
 }
 
-/// A symbol's kind, import and whether it defines its name.
-const fn is(kind: Kind, field: Option<u8>, defines: bool) -> Option<Found> {
+/// A symbol that stands on an import of this field, and defines nothing.
+const fn imported(kind: Kind, field: u8) -> Option<Found> {
     Some(Found {
         kind,
-        field,
+        field: Some(field),
+        imported: true,
+        defines: false,
+        index: 0,
+    })
+}
+
+/// A symbol that stands on no import: whether it defines its name, and which definition it is.
+const fn own(kind: Kind, defines: bool, index: u32) -> Option<Found> {
+    Some(Found {
+        kind,
+        field: None,
+        imported: false,
         defines,
+        index,
     })
 }
 
 #[test]
 fn indexes_name_imports_and_then_definitions(rt: HostRuntime) {
     let wanted = [
-        is(Kind::Function(0), Some(b'f'), false),
-        is(Kind::Function(1), Some(b'h'), false),
-        is(Kind::Function(1), None, true),
-        is(Kind::GlobalVar(true), Some(b'g'), false),
-        is(Kind::Untyped, Some(b'_'), false),
-        is(Kind::Untyped, None, false),
+        imported(Kind::Function(0), b'f'),
+        imported(Kind::Function(1), b'h'),
+        own(Kind::Function(1), true, 0),
+        imported(Kind::GlobalVar(true), b'g'),
+        imported(Kind::Untyped, b'_'),
+        own(Kind::Untyped, false, 0),
     ];
     assert!(rt; told(&rt, rt.alloc(), &[importing()], 0) == Some(wanted));
 }
@@ -141,10 +158,10 @@ fn members_of_a_lost_group_define_nothing(rt: HostRuntime) {
     let function = Kind::Function(0);
     for (object, is_kept) in [(0u32, true), (1, false)] {
         let wanted = [
-            is(function, None, is_kept),
-            is(function, None, true),
-            is(Kind::Untyped, None, is_kept),
-            is(Kind::Untyped, None, true),
+            own(function, is_kept, 0),
+            own(function, true, 1),
+            own(Kind::Untyped, is_kept, 0),
+            own(Kind::Untyped, true, 1),
             None,
             None,
         ];

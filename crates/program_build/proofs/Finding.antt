@@ -12,7 +12,7 @@ use Rattle.link_program.specs.made_symbols.declared.mode.Mode.{Mode}
 use Rattle.link_program.specs.link_names.Numbered as names
 use Rattle.link_program.specs.name_rules.Entries.{entries, same_import}
 use Rattle.link_program.specs.name_rules.Meanings.{Meaning, here, imported, null, nothing}
-use Rattle.link_program.specs.name_entries.Parts.{AreParts}
+use Rattle.link_program.specs.name_entries.Fits.{IsTable}
 use Rattle.link_program.specs.name_entries.declared.table.EntryTable.{EntryTable}
 use Rattle.link_program.specs.name_meanings.Means.{import_meant, imports_meant}
 use Rattle.link_program.specs.link_plan.declared.plan.Plan.{Plan}
@@ -53,7 +53,7 @@ module _ (mode : Mode) (origin : Origin) (objects : List Object) where
   entries_are = refl
 
   is_found : (homes : List Home) (n : names.Numbered) (table : EntryTable) (m : Meanings) → IsLoaded origin.files origin.all objects homes → Numbered mode (Ok n) origin.plan objects
-      → AreMeanings mode m origin objects n.names → AreParts objects table.parts
+      → AreMeanings mode m origin objects n.names → IsTable objects n table
       → IsFound mode origin.plan objects (record { names = n; entries = table; ranks = m.ranks; resolution = m.resolution; tables = m.tables }) (program mode origin objects)
   unfolding program_of names_of
   is_found homes n table m loaded numbered meanings parts = record {
@@ -106,7 +106,7 @@ module _ (mode : Mode) (origin : Origin) (objects : List Object) where
       case_is n (Some fault) numbered (subst (λ r. MeansOrRefused mode r origin objects n.names) (is ∙ ap (λ e. Err e) error) told)
 
   pub all_found : (homes : List Home) (n : names.Numbered) (table : EntryTable) (m : Meanings) → IsLoaded origin.files origin.all objects homes → Numbered mode (Ok n) origin.plan objects
-      → MeansOrRefused mode (Ok m) origin objects n.names → AreParts objects table.parts
+      → MeansOrRefused mode (Ok m) origin objects n.names → IsTable objects n table
       → Finds mode (Ok (record { names = n; entries = table; ranks = m.ranks; resolution = m.resolution; tables = m.tables })) origin.plan objects (program mode origin objects)
   all_found homes n table m loaded numbered told parts = (case_is n None numbered told.0, is_found homes n table m loaded numbered told.1 parts)
 

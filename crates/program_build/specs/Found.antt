@@ -10,7 +10,7 @@ use Rattle.link_program.specs.name_rules.Entries.{entries}
 use Rattle.link_program.specs.name_rules.Meanings.{resolve}
 use Rattle.link_program.specs.name_rules.Cases.{clash, duplicate}
 use Rattle.link_program.specs.name_entries.View.{InputsRise, WinnersAre}
-use Rattle.link_program.specs.name_entries.Parts.{AreParts}
+use Rattle.link_program.specs.name_entries.Fits.{IsTable}
 use Rattle.link_program.specs.name_meanings.Means.{IsResolution}
 use Rattle.link_program.specs.link_plan.declared.plan.Plan.{Plan}
 use Rattle.link_program.specs.link_rules.Program.{Program, winners_of, parts_of}
@@ -40,7 +40,7 @@ pub record IsFound (mode : Mode) (asked : Plan) (loaded : List Object) (f : Foun
   -- names, winners and meanings by number
   pub numbers : AreNumbers mode p.objects f.names
   pub order : f.names.names ≡ different_names mode (asked_names p.plan ++ p.plan.exports_if) p.objects
-  pub looked_up : AreParts p.objects f.entries.parts
+  pub looked_up : IsTable p.objects f.names f.entries
   pub ranks : WinnersAre f.names.names p.entries f.ranks
   pub resolution : IsResolution f.resolution p.resolved
   pub imports : f.resolution.imports ≡ imports_in_order p

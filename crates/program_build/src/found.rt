@@ -3,8 +3,7 @@ ghost use Rattle.std.specs.Prelude.{◌≡◌};
 ghost use Rattle.link_program.specs.made_symbols.declared.mode.Mode.{Mode};
 ghost use Rattle.link_program.specs.link_names.Numbered.{AreNumbers};
 ghost use Rattle.link_program.specs.name_entries.View.{InputsRise};
-ghost use Rattle.link_program.specs.name_entries.Parts.{AreParts};
-ghost use Rattle.link_program.specs.name_entries.Fits.{Fits};
+ghost use Rattle.link_program.specs.name_entries.Fits.{IsTable, Fits};
 ghost use Rattle.link_program.specs.link_rules.Program as rules;
 ghost use Rattle.link_program.specs.Program.{IsProgram};
 ghost use Rattle.program_build.specs.Found.{IsFound};
@@ -55,7 +54,7 @@ impl Found {
         ensures names { result.names.now ≡ self.now.names }
         ensures parts { result.parts.now ≡ self.now.entries.parts }
         ensures fits { (mode : Mode) → AreNumbers mode objects.now self.now.names → InputsRise 0 objects.now
-            → AreParts objects.now self.now.entries.parts → Fits mode result }
+            → IsTable objects.now self.now.names self.now.entries → Fits mode result }
     {
         self.entries.view(objects, &self.names)
     }

@@ -11,12 +11,12 @@ use Rattle.link_program.specs.object_file.declared.object.Object.{Object}
 use Rattle.link_program.specs.made_symbols.declared.mode.Mode.TheVariants.{Plain}
 use Rattle.link_program.specs.made_symbols.Made.{MadeSymbol, made, made_at}
 use Rattle.link_program.specs.link_names.Numbered.{Numbered, AreNumbers}
-use Rattle.link_program.specs.name_rules.Entries.{InputSymbol, entry_in, index_in, made_entry}
+use Rattle.link_program.specs.name_rules.Entries.{InputSymbol, entry_in, made_entry}
 use Rattle.link_program.specs.name_rules.Meanings.{entry_rank}
 use Rattle.link_program.specs.name_entries.View.{InputsRise, entry_at, entry_number}
 use Rattle.link_program.specs.name_entries.Shown.{Shows, AreShown}
 use Rattle.link_program.specs.name_entries.declared.entry.EntryRef.{EntryRef}
-use Rattle.link_program.proofs.name_entries_lemmas.Rows.{entry_of, no_entry, the_entry}
+use Rattle.link_program.proofs.name_entries_lemmas.Rows.{entry_of, no_entry}
 use Rattle.link_program.specs.declared.symbol.Definition.{Definition}
 use Rattle.link_program.specs.Told.{told_definition}
 use Rattle.program_tables.specs.Objects.{symbol_of}
@@ -98,13 +98,6 @@ small_input objects object place e rise there =
 
 -- ---- definitions
 
-pub definition_is : (objects : List Object) (object place index : ℕ) (o : Object) (s : Symbol) → slice_get objects object ≡ Some o → slice_get o.symbols place ≡ Some s → index ≡ index_in o s s.kind
-    → (e : InputSymbol) → entry_at objects object place ≡ Some e
-    → record { input = o.input; place = place; kind = s.kind; index = index; offset = s.offset } ≡ told_definition e
-definition_is objects object place index o s at symbol is e there =
-    let same : entry_in objects o place s ≡ e = same_Some (entry_in objects o place s) e (sym (the_entry objects object place o s at (sym symbol)) ∙ there) in
-    ap (λ i. record { input = o.input; place = place; kind = s.kind; index = i; offset = s.offset }) is ∙ ap told_definition same
-
 pub lead_is : (objects : List Object) (input symbol i : ℕ) (o : Object) (d : Definition) → InputsRise 0 objects → slice_get objects i ≡ Some o → o.input ≡ input → IsSome (entry_at objects i symbol)
     → ((e : InputSymbol) → entry_at objects i symbol ≡ Some e → d ≡ told_definition e) → d ≡ definition_of objects input symbol
 lead_is objects input symbol i o d rise at is some told =
@@ -120,6 +113,16 @@ shown_entry names r (Some e) shown = (e, refl, shown)
 
 pub shown_as : (names : List (List ℕ)) (r : EntryRef) (o : Option InputSymbol) (e : InputSymbol) → AreShown names (Some r) o → o ≡ Some e → Shows names r e
 shown_as names r o e shown is = subst (AreShown names (Some r)) is shown
+
+pub shown_definition : (names : List (List ℕ)) (objects : List Object) (object place : ℕ) (r : EntryRef) → AreShown names (Some r) (entry_at objects object place)
+    → (e : InputSymbol) → entry_at objects object place ≡ Some e
+    → record { input = r.input; place = place; kind = r.symbol.kind; index = r.index; offset = r.symbol.offset } ≡ told_definition e
+shown_definition names objects object place r shown e there =
+    let shows = shown_as names r (entry_at objects object place) e shown there in
+    ap (λ n. record { input = n; place = place; kind = r.symbol.kind; index = r.index; offset = r.symbol.offset }) shows.input
+    ∙ ap (λ (s : Symbol). record { input = e.input; place = place; kind = s.kind; index = r.index; offset = s.offset }) shows.symbol
+    ∙ ap (λ n. record { input = e.input; place = place; kind = e.symbol.kind; index = n; offset = e.symbol.offset }) shows.index
+    ∙ ap (λ n. record { input = e.input; place = n; kind = e.symbol.kind; index = e.index; offset = e.symbol.offset }) (sym (placed_at objects object place e there))
 
 -- ---- winners
 

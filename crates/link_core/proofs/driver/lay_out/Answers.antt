@@ -1,11 +1,16 @@
-use Rattle.std.proofs.Common.{ℕ}
+use Rattle.std.proofs.Common.{ℕ, rules}
 use Rattle.std.proofs.lemmas.Result.{err_from_is_err_and}
+use Rattle.link_core.specs.Chosen.{IsChosen}
+use Rattle.link_core.specs.Linking.{IsLinking}
 use Rattle.link_core.specs.Prepared.{outputs}
 use Rattle.link_core.proofs.Answering.{place_failed, number_failed, goes_on_placed, layout_is}
 use Rattle.link_core.proofs.driver.lay_out.Goals as goal
 
 pub place_segments-requires : goal.place_segments-requires
-place_segments-requires g c = (c.requires.0.program, (c.requires.0.stand, (c.requires.1.live, (c.requires.0.files, c.requires.0.plan))))
+place_segments-requires g c =
+    let is : IsLinking g.s.program c.args.program c.args.entries c.args.files.now = search rules in
+    let chosen : IsChosen g.s c.args.program c.args.exports.now c.args.live.now = search rules in
+    (is.program, (is.stand, (chosen.live, (is.files, is.plan))))
 
 pub returns-in_err-placed-clause-exact : goal.returns-in_err-placed-clause-exact
 returns-in_err-placed-clause-exact g c =
@@ -13,16 +18,10 @@ returns-in_err-placed-clause-exact g c =
     rw (p.1) (place_failed g.s.program g.s.exports g.s.parts c.in_err-placed.field-0.0 p.0 p.2 c.in_err-placed.ensures)
 
 pub number-requires : goal.number-requires
-number-requires g c = (
-  c.requires.0.fits,
-  (
-    c.requires.0.objects,
-    (
-      c.requires.0.names,
-      (c.requires.0.program, (c.requires.0.stand, (c.requires.1.live, (c.requires.1.meant, c.requires.1.exports)))),
-    ),
-  ),
-)
+number-requires g c =
+    let is : IsLinking g.s.program c.args.program c.args.entries c.args.files.now = search rules in
+    let chosen : IsChosen g.s c.args.program c.args.exports.now c.args.live.now = search rules in
+    (is.fits, (is.objects, (is.names, (is.program, (is.stand, (chosen.live, (chosen.meant, chosen.exports)))))))
 
 pub returns-in_err-numbering-clause-exact : goal.returns-in_err-numbering-clause-exact
 returns-in_err-numbering-clause-exact g c =
@@ -30,11 +29,18 @@ returns-in_err-numbering-clause-exact g c =
     rw (p.1) (number_failed g.s.program g.s.exports g.s.parts ℕ c.in_err-numbering.field-0.0 p.0 p.2 c.in_ok-placed.ensures.0 c.in_err-numbering.ensures.table)
 
 pub make_ready-prepared-requires : goal.make_ready-prepared-requires
-make_ready-prepared-requires g c = (
-  layout_is g.s.program g.s.parts g.s.exports _ c.args.live.now c.requires.0.program c.requires.0.stand c.requires.1.live c.requires.1.meant c.in_ok-numbering.ensures.numbers
-      c.in_ok-placed.ensures.1,
-  (c.requires.1, c.requires.0.files),
-)
+make_ready-prepared-requires g c κs within =
+    let is : IsLinking g.s.program c.args.program c.args.entries c.args.files.now = search rules in
+    let chosen : IsChosen g.s c.args.program c.args.exports.now c.args.live.now = search rules in (
+      search rules,
+      (
+        search rules,
+        (
+          layout_is g.s.program g.s.parts g.s.exports _ c.args.live.now is.program is.stand chosen.live chosen.meant c.in_ok-numbering.ensures.numbers c.in_ok-placed.ensures.1,
+          (chosen, is.files),
+        ),
+      ),
+    )
 
 pub returns-clause-exact : goal.returns-clause-exact
 returns-clause-exact g c =

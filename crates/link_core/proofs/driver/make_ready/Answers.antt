@@ -1,16 +1,21 @@
-use Rattle.std.proofs.Common.{◌∙◌, Ok, Err, ap, sym, subst}
+use Rattle.std.proofs.Common.{◌≡◌, ◌∙◌, Ok, Err, ap, sym, subst, rules}
 use Rattle.std.proofs.lemmas.Result.{err_from_is_err_and}
 use Rattle.link_program.specs.wl_base.Answers.{Answers}
 use Rattle.link_program.specs.reloc_apply.declared.window.Patches.{Patches}
 use Rattle.link_program.specs.reloc_apply.Windows.{patches_of, filled}
 use Rattle.link_program.specs.image_emit.Bytes.{bytes_of, tree_of}
 use Rattle.link_program.specs.Moved.{moved_windows}
+use Rattle.link_layout.specs.Layout.{IsLayout}
+use Rattle.link_core.specs.Chosen.{IsChosen}
 use Rattle.link_core.specs.Making.{the_image, the_windows}
 use Rattle.link_core.proofs.Answering.{lie_there, stand_there, measure_failed, write_failed, wrote}
 use Rattle.link_core.proofs.driver.make_ready.Goals as goal
 
 pub image-requires : goal.image-requires
-image-requires g c = (c.requires.0, (c.requires.1.0.live, (c.requires.1.0.among, c.requires.1.0.exports)))
+image-requires g c =
+    let layout : IsLayout g.s.program g.s.parts g.s.exports c.args.layout = search rules in
+    let chosen : IsChosen g.s c.args.layout.program c.args.exports.now c.args.live.now = search rules in
+    (layout, (chosen.live, (chosen.among, chosen.exports)))
 
 pub returns-in_err-image-clause-exact : goal.returns-in_err-image-clause-exact
 returns-in_err-image-clause-exact g c =
@@ -19,54 +24,71 @@ returns-in_err-image-clause-exact g c =
 
 pub measured-requires : goal.measured-requires
 measured-requires g c =
-    lie_there c.args.files.now g.s.program.files (the_image g.s) c.in_ok-image.image c.requires.1.1 c.in_ok-image.ensures
-    (c.windows_stand_in_sources.ensures.lie g.s.program c.args.live.now g.s.parts g.s.exports c.requires.0.stand c.requires.1.0.live)
+    let layout : IsLayout g.s.program g.s.parts g.s.exports c.args.layout = search rules in
+    let chosen : IsChosen g.s c.args.layout.program c.args.exports.now c.args.live.now = search rules in
+    let same : c.args.files.now ≡ g.s.program.files = search rules in
+    lie_there c.args.files.now g.s.program.files (the_image g.s) c.in_ok-image.image same c.in_ok-image.ensures
+    (c.windows_stand_in_sources.ensures.lie g.s.program c.args.live.now g.s.parts g.s.exports layout.stand chosen.live)
 
 pub returns-in_err-measured-clause-exact : goal.returns-in_err-measured-clause-exact
 returns-in_err-measured-clause-exact g c =
+    let same : c.args.files.now ≡ g.s.program.files = search rules in
     let p = err_from_is_err_and c.from_residual-in_err-measured.result c.from_residual-in_err-measured.ensures.1 in
     rw (p.1)
-    (measure_failed g.s.program (the_image g.s) (the_windows g.s) c.args.files.now c.in_ok-image.image c.requires.1.1 c.in_ok-image.ensures c.in_err-measured.field-0.0 p.0 p.2 c.in_err-measured.ensures)
+    (measure_failed g.s.program (the_image g.s) (the_windows g.s) c.args.files.now c.in_ok-image.image same c.in_ok-image.ensures c.in_err-measured.field-0.0 p.0 p.2 c.in_err-measured.ensures)
 
 pub patches-requires : goal.patches-requires
-patches-requires g c = (c.requires.0, c.requires.1.0.live)
+patches-requires g c κs within =
+    let layout : IsLayout g.s.program g.s.parts g.s.exports c.args.layout = search rules in
+    let chosen : IsChosen g.s c.args.layout.program c.args.exports.now c.args.live.now = search rules in
+    let live = chosen.live in
+    search (rules, layout, live)
 
 pub returns-in_err-patches-clause-exact : goal.returns-in_err-patches-clause-exact
 returns-in_err-patches-clause-exact g c =
+    let layout : IsLayout g.s.program g.s.parts g.s.exports c.args.layout = search rules in
+    let chosen : IsChosen g.s c.args.layout.program c.args.exports.now c.args.live.now = search rules in
+    let same : c.args.files.now ≡ g.s.program.files = search rules in
     let p = err_from_is_err_and c.from_residual-in_err-patches.result c.from_residual-in_err-patches.ensures.1 in
     let files =
-    lie_there c.args.files.now g.s.program.files (the_image g.s) c.in_ok-image.image c.requires.1.1 c.in_ok-image.ensures
-    (c.windows_stand_in_sources.ensures.lie g.s.program c.args.live.now g.s.parts g.s.exports c.requires.0.stand c.requires.1.0.live) in
+    lie_there c.args.files.now g.s.program.files (the_image g.s) c.in_ok-image.image same c.in_ok-image.ensures
+    (c.windows_stand_in_sources.ensures.lie g.s.program c.args.live.now g.s.parts g.s.exports layout.stand chosen.live) in
     let stand =
-    stand_there c.args.files.now g.s.program.files (the_image g.s) c.in_ok-image.image (the_windows g.s) c.requires.1.1 c.in_ok-image.ensures
-    (c.windows_stand_in_sources.ensures.stand g.s.program c.args.live.now g.s.parts g.s.exports c.requires.0.stand c.requires.1.0.live) in
+    stand_there c.args.files.now g.s.program.files (the_image g.s) c.in_ok-image.image (the_windows g.s) same c.in_ok-image.ensures
+    (c.windows_stand_in_sources.ensures.stand g.s.program c.args.live.now g.s.parts g.s.exports layout.stand chosen.live) in
     let told = subst (λ ks. Answers {A = Patches} (Err c.in_err-patches.field-0.0) (patches_of (moved_windows ks (the_windows g.s)))) c.as_slice.ensures c.in_err-patches.ensures in
     rw (p.1)
-    (write_failed g.s.program (the_image g.s) (the_windows g.s) c.args.files.now c.in_ok-image.image c.requires.1.1 c.in_ok-image.ensures c.in_ok-measured.measured c.in_err-patches.field-0.0 p.0 p.2
+    (write_failed g.s.program (the_image g.s) (the_windows g.s) c.args.files.now c.in_ok-image.image same c.in_ok-image.ensures c.in_ok-measured.measured c.in_err-patches.field-0.0 p.0 p.2
     c.in_ok-measured.ensures
     (c.values_are_judged_in_turn.ensures c.args.files.now c.in_ok-image.image c.in_ok-measured.measured (the_windows g.s) c.in_err-patches.field-0.0 files c.in_ok-measured.ensures.0 stand told))
 
 pub returns-clause-exact : goal.returns-clause-exact
 returns-clause-exact g c =
+    let layout : IsLayout g.s.program g.s.parts g.s.exports c.args.layout = search rules in
+    let chosen : IsChosen g.s c.args.layout.program c.args.exports.now c.args.live.now = search rules in
+    let same : c.args.files.now ≡ g.s.program.files = search rules in
     let files =
-    lie_there c.args.files.now g.s.program.files (the_image g.s) c.in_ok-image.image c.requires.1.1 c.in_ok-image.ensures
-    (c.windows_stand_in_sources.ensures.lie g.s.program c.args.live.now g.s.parts g.s.exports c.requires.0.stand c.requires.1.0.live) in
+    lie_there c.args.files.now g.s.program.files (the_image g.s) c.in_ok-image.image same c.in_ok-image.ensures
+    (c.windows_stand_in_sources.ensures.lie g.s.program c.args.live.now g.s.parts g.s.exports layout.stand chosen.live) in
     let stand =
-    stand_there c.args.files.now g.s.program.files (the_image g.s) c.in_ok-image.image (the_windows g.s) c.requires.1.1 c.in_ok-image.ensures
-    (c.windows_stand_in_sources.ensures.stand g.s.program c.args.live.now g.s.parts g.s.exports c.requires.0.stand c.requires.1.0.live) in
+    stand_there c.args.files.now g.s.program.files (the_image g.s) c.in_ok-image.image (the_windows g.s) same c.in_ok-image.ensures
+    (c.windows_stand_in_sources.ensures.stand g.s.program c.args.live.now g.s.parts g.s.exports layout.stand chosen.live) in
     let told = sym (ap (λ ks. patches_of (moved_windows ks (the_windows g.s))) c.as_slice.ensures) ∙ c.in_ok-patches.ensures in
     let law = c.patches_make_the_output.ensures c.args.files.now c.in_ok-image.image c.in_ok-measured.measured (the_windows g.s) c.in_ok-patches.patches files c.in_ok-measured.ensures.0 stand told in
     let made = filled c.in_ok-patches.patches.patches (bytes_of (tree_of c.args.files.now c.in_ok-image.image)) in
-    wrote g.s.program (the_image g.s) (the_windows g.s) c.args.files.now c.in_ok-image.image c.requires.1.1 c.in_ok-image.ensures c.in_ok-measured.measured made c.in_ok-measured.ensures law.1
+    wrote g.s.program (the_image g.s) (the_windows g.s) c.args.files.now c.in_ok-image.image same c.in_ok-image.ensures c.in_ok-measured.measured made c.in_ok-measured.ensures law.1
 
 pub returns-clause-ready : goal.returns-clause-ready
 returns-clause-ready g c =
+    let layout : IsLayout g.s.program g.s.parts g.s.exports c.args.layout = search rules in
+    let chosen : IsChosen g.s c.args.layout.program c.args.exports.now c.args.live.now = search rules in
+    let same : c.args.files.now ≡ g.s.program.files = search rules in
     let files =
-    lie_there c.args.files.now g.s.program.files (the_image g.s) c.in_ok-image.image c.requires.1.1 c.in_ok-image.ensures
-    (c.windows_stand_in_sources.ensures.lie g.s.program c.args.live.now g.s.parts g.s.exports c.requires.0.stand c.requires.1.0.live) in
+    lie_there c.args.files.now g.s.program.files (the_image g.s) c.in_ok-image.image same c.in_ok-image.ensures
+    (c.windows_stand_in_sources.ensures.lie g.s.program c.args.live.now g.s.parts g.s.exports layout.stand chosen.live) in
     let stand =
-    stand_there c.args.files.now g.s.program.files (the_image g.s) c.in_ok-image.image (the_windows g.s) c.requires.1.1 c.in_ok-image.ensures
-    (c.windows_stand_in_sources.ensures.stand g.s.program c.args.live.now g.s.parts g.s.exports c.requires.0.stand c.requires.1.0.live) in
+    stand_there c.args.files.now g.s.program.files (the_image g.s) c.in_ok-image.image (the_windows g.s) same c.in_ok-image.ensures
+    (c.windows_stand_in_sources.ensures.stand g.s.program c.args.live.now g.s.parts g.s.exports layout.stand chosen.live) in
     let told = sym (ap (λ ks. patches_of (moved_windows ks (the_windows g.s))) c.as_slice.ensures) ∙ c.in_ok-patches.ensures in
     let law = c.patches_make_the_output.ensures c.args.files.now c.in_ok-image.image c.in_ok-measured.measured (the_windows g.s) c.in_ok-patches.patches files c.in_ok-measured.ensures.0 stand told in
     record { measured = c.in_ok-measured.ensures.0; lie = files; apart = law.0; short = c.in_ok-measured.ensures.3 }

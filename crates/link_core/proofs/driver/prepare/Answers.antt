@@ -40,7 +40,7 @@ returns-in_err-chosen-clause-exact g c =
     rw (p.1) (choose_failed (program_in g.l) c.in_err-chosen.field-0.0 p.0 p.2 found c.in_err-chosen.ensures)
 
 pub lay_out-prepared-requires : goal.lay_out-prepared-requires
-lay_out-prepared-requires g c =
+lay_out-prepared-requires g c κs within =
     let is : IsLinking (program_in g.l) c.program-program.result c.view-entries.result c.args.files.now =
     found_is_linked g.l c.args.plan.now c.args.inputs.now.loaded c.objects-objects.result.now c.requires.1.1.1.1.1.0 c.requires.1.1.1.1.1.1.1.0 c.objects-objects.ensures c.args.files.now
     c.args.inputs.now.homes c.in_ok-found.found c.program-program.result c.view-entries.result c.requires.1.1.1.1.0 c.requires.1.1.1.1.1.1.0 c.requires.1.1.1.1.1.1.1.1 c.parts_stand.ensures c.in_ok-found.ensures.1
@@ -48,7 +48,7 @@ lay_out-prepared-requires g c =
     let chosen : IsChosen (stage_of (program_in g.l)) c.program-program.result c.as_slice-exports.result.now c.as_slice-live.result.now =
     subst (λ es. IsChosen (stage_of (program_in g.l)) c.program-program.result es c.as_slice-live.result.now) (sym c.as_slice-exports.ensures)
     (subst (λ ns. IsChosen (stage_of (program_in g.l)) c.program-program.result c.in_ok-chosen.chosen.exports ns) (sym c.as_slice-live.ensures) c.in_ok-chosen.ensures.1) in
-    (is, chosen)
+    search (rules, is, chosen)
 
 pub returns-clause-exact : goal.returns-clause-exact
 returns-clause-exact g c =

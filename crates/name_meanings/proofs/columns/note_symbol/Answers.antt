@@ -20,6 +20,6 @@ bounds-columns-number c =
 
 pub returns : goal.returns
 returns c =
-    noted c.args.entries.names.now.names c.args.entries.objects.now c.in-Some.entry c.args.object c.args.place c.in-Some-number.number c.import_of.result c.is_some-stands.result
-    c.args.columns.now c.with.result c.in-Some.ensures c.in-Some-number.is c.if-entry.false c.import_of.ensures c.is_some-stands.ensures
+    noted c.args.entries.names.now.names c.args.entries.objects.now c.in-Some.entry c.args.object c.args.place c.in-Some-number.number c.is_imported-stands.result
+    c.args.columns.now c.with.result c.in-Some.ensures c.in-Some-number.is c.if-entry.false c.is_imported-stands.ensures
     c.with.ensures.explicit c.with.ensures.least c.with.ensures.strong

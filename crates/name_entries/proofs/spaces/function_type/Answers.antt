@@ -1,9 +1,0 @@
-use Rattle.std.proofs.Common.{None, sym, ap, ◌∙◌}
-use Rattle.std.specs.Option.{option_map}
-use Rattle.object_file.specs.Spaces.{no_type, written_type, function_types}
-use Rattle.name_entries.proofs.Found.{or_else}
-use Rattle.name_entries.proofs.spaces.function_type.Goals as goal
-
-pub returns-in-None : goal.returns-in-None
-returns-in-None c = let o = c.args.from.now in or_else None (function_types o) c.args.index no_type
-    (ap (option_map (written_type o)) (sym c.in-None.is) ∙ c.type_index.ensures)

@@ -1,0 +1,5 @@
+mod Asking
+mod Moved
+mod Table
+mod Turning
+mod Writes

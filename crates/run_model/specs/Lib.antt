@@ -1,0 +1,4 @@
+pub mod Access
+pub mod Table
+pub mod Views
+pub mod Writes

@@ -1,0 +1,58 @@
+//! States of the machine, as the code keeps them.
+
+use run_numbers::Layered;
+use run_rules::{Event, TrapKind, Value};
+use wl_base::Seq;
+use wl_stack::Stack;
+
+/// A function that runs, but for its name (Core 4.2.12, a frame with its labels and operands).
+#[derive(Drop)]
+pub(crate) struct Running {
+    /// The place of the next instruction in the function's code.
+    pub place: usize,
+    /// The arguments and locals.
+    pub locals: Vec<Value>,
+    /// The values and the blocks that are open.
+    pub layered: Layered,
+    /// How many results the function gives.
+    pub results: usize,
+}
+
+/// All of a state but the names of functions and cells.
+#[derive(Drop)]
+pub(crate) struct Active {
+    /// The function that runs.
+    pub frame: Running,
+    /// The functions that wait for it.
+    pub below: Stack<Running>,
+    /// The memory.
+    pub memory: Vec<u8>,
+    /// How many answers of the host were used.
+    pub answered: usize,
+    /// What happened so far.
+    pub events: Seq<Event>,
+}
+
+/// A state.
+#[derive(Drop)]
+pub(crate) struct Machine {
+    /// The functions that run and wait, by their places in the world.
+    pub names: Stack<u32>,
+    /// The values of cells.
+    pub cells: Vec<Option<Value>>,
+    /// All else.
+    pub inner: Active,
+}
+
+/// What an instruction led to that asks nothing of its world.
+#[derive(Drop)]
+pub(crate) enum After {
+    /// The run goes on.
+    Goes,
+    /// The function gives these back, the last one first.
+    Leaves(Stack<Value>),
+    /// A trap.
+    Traps(TrapKind),
+    /// The run ends.
+    Ends(Event),
+}
