@@ -1,7 +1,7 @@
 -- Where a library is found: in the first folder that has its file, as drivers expect of `-L` and `-l`. No `.so` is
 -- looked for, since a shared module is no input.
-use Rattle.std.specs.Prelude.{◌≡◌, ℕ, ◌-◌, List, [], ◌∷◌, ◌++◌, length, slice_get, Bool, false, if◌then◌else◌, ◌==◌, Option, Some, None, codes, is_some, refl}
-use Rattle.std.specs.List.{list_any}
+use Rattle.std.specs.Prelude.{◌≡◌, ℕ, ◌-◌, List, [], ◌∷◌, ◌++◌, length, slice_get, Bool, false, eqb, if◌then◌else◌, ◌==◌, Option, Some, None, codes, is_some, refl}
+use Rattle.std.specs.List.{list_any, starts_with}
 use Rattle.std.specs.Str.{bytes_eq}
 use Rattle.wl_outside.specs.Shelf.{Shown}
 
@@ -28,6 +28,11 @@ library_file name = (codes "lib" ++ name) ++ codes ".a"
 -- Whether a shelf holds a name.
 abbrev pub holds : Shown → List ℕ → Bool
 holds s name = is_some (s.held name)
+
+-- Whether there are bytes that begin with these.
+abbrev pub begins_with : Option (List ℕ) → List ℕ → Bool
+begins_with None front = false
+begins_with (Some bytes) front = starts_with eqb bytes front
 
 -- ---- worked searches, in two folders
 

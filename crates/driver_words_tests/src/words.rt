@@ -1,6 +1,6 @@
 //! Searches and response files, over shelves whose files are told by their names.
 
-use driver_words::{ExpandError, FilesError, Finder, Item, expand, files, find_library, tokens};
+use driver_words::{Finder, Stop, expand_all, find_from, find_library, tokens};
 use std::alloc::Global;
 use std::test::Fail;
 use test_kit::{file, roomy_shelf, shelf_of, texts};
@@ -67,18 +67,18 @@ fn a_response_file_is_cut_into_words(rt: HostRuntime) -> Result<(), Fail> {
 fn stand_for(alloc: Global, words: &[&str], these: &[&str]) -> Option<bool> {
     let mut shelf = shelf(alloc, &[])?;
     let words = texts(alloc, words).ok()?;
-    match expand(alloc, &mut shelf, words.as_slice()) {
-        Ok(all) => Some(are(all.as_slice(), these)),
-        Err(_) => None,
+    match expand_all(alloc, &mut shelf, words) {
+        Ok(Ok(all)) => Some(are_texts(all.as_slice(), these)),
+        _ => None,
     }
 }
 
-/// The place of the word that is blamed where the first load fails.
-fn blamed(alloc: Global, words: &[&str]) -> Option<usize> {
+/// Whether the file of this name is blamed, where the first load fails.
+fn is_blamed(alloc: Global, words: &[&str], name: &str) -> Option<bool> {
     let mut shelf = shelf(alloc, &[1])?;
     let words = texts(alloc, words).ok()?;
-    match expand(alloc, &mut shelf, words.as_slice()) {
-        Err(ExpandError::Unreadable(at)) => Some(at),
+    match expand_all(alloc, &mut shelf, words) {
+        Err(Stop::Unreadable(file)) => Some(file.as_str() == name),
         _ => None,
     }
 }
@@ -94,7 +94,7 @@ fn response_files_stand_in_their_words_places(rt: HostRuntime) -> Result<(), Fai
         ) == Some(true)
     );
     assert!(rt; stand_for(alloc, &["@nosuch", "-o"], &["@nosuch", "-o"]) == Some(true));
-    assert!(rt; blamed(alloc, &["m.o", "@r"]) == Some(1));
+    assert!(rt; is_blamed(alloc, &["m.o", "@r"], "r") == Some(true));
     Ok(())
 }
 
@@ -127,6 +127,14 @@ fn finds_for_good(alloc: Global, folders: &[&str], name: &str, path: Option<&str
     finds(alloc, &shelf, folders, name, path)
 }
 
+/// Whether a search in a folder and then in others finds this path.
+fn finds_from(alloc: Global, first: &str, others: &[&str], name: &str, path: &str) -> Option<bool> {
+    let shelf = shelf(alloc, &[])?;
+    let others = texts(alloc, others).ok()?;
+    let found = find_from(alloc, &shelf, first, others.as_slice(), name).ok()??;
+    Some(found.as_str() == path)
+}
+
 #[test]
 fn the_first_folder_that_has_a_file_decides(rt: HostRuntime) -> Result<(), Fail> {
     let alloc = rt.alloc();
@@ -134,17 +142,12 @@ fn the_first_folder_that_has_a_file_decides(rt: HostRuntime) -> Result<(), Fail>
     assert!(rt; finds_held(alloc, &["b/", "a/"], "libx.a", Some("b/libx.a")) == Some(true));
     assert!(rt; finds_held(alloc, &["a", "b"], "libq.a", None) == Some(true));
     assert!(rt; finds_for_good(alloc, &["a", "b"], "liby.a", Some("b/liby.a")) == Some(true));
+    assert!(rt; finds_from(alloc, "a/", &["b"], "z.o", "a/z.o") == Some(true));
+    assert!(rt; finds_from(alloc, "b", &["a"], "z.o", "a/z.o") == Some(true));
     Ok(())
 }
 
-/// Whether the items give these words.
-fn give(alloc: Global, folders: &[&str], items: &[Item<'_>], these: &[&str]) -> Option<bool> {
-    let shelf = shelf(alloc, &[])?;
-    let folders = texts(alloc, folders).ok()?;
-    let words = files(alloc, &shelf, folders.as_slice(), items).ok()?;
-    Some(are_texts(words.as_slice(), these))
-}
-
+/// Whether the words are these.
 fn are_texts(words: &[Text], these: &[&str]) -> bool {
     if words.len() != these.len() {
         return false;
@@ -155,36 +158,4 @@ fn are_texts(words: &[Text], these: &[&str]) -> bool {
         }
     }
     true
-}
-
-/// The place of the item that no folder has.
-fn missing(alloc: Global, folders: &[&str], items: &[Item<'_>]) -> Option<usize> {
-    let shelf = shelf(alloc, &[])?;
-    let folders = texts(alloc, folders).ok()?;
-    match files(alloc, &shelf, folders.as_slice(), items) {
-        Err(FilesError::Missing(at)) => Some(at),
-        _ => None,
-    }
-}
-
-#[test]
-fn items_give_their_words_in_order(rt: HostRuntime) -> Result<(), Fail> {
-    let alloc = rt.alloc();
-    let items = [
-        Item::Word("--whole-archive"),
-        Item::Input("m.o"),
-        Item::Library("x"),
-        Item::File("z.o"),
-    ];
-    assert!(rt;
-        give(
-            alloc,
-            &["b", "a"],
-            &items,
-            &["--whole-archive", "m.o", "b/libx.a", "a/z.o"]
-        ) == Some(true)
-    );
-    assert!(rt; missing(alloc, &["b"], &items) == Some(3));
-    assert!(rt; missing(alloc, &[], &items) == Some(2));
-    Ok(())
 }

@@ -43,6 +43,32 @@ fn entries_have_ends() -> bool {
         && reloc_at(10, &[20, 0, 0]) == Ok((reloc(20, 0, 0, 0), NOTHING))
 }
 
+/// Eight bytes behind an entry.
+const EIGHT: &[u8] = &[9; 8];
+
+/// Entries whose numbers have one to five bytes, with more behind them than any entry has.
+fn entries_have_more_behind() -> bool {
+    let foreign = Err(Stop::Foreign(Item::RelocType(10)));
+    reloc_at(30, &[7, 4, 1, 9, 9, 9, 9, 9, 9, 9, 9]) == Ok((reloc(7, 4, 1, 0), EIGHT))
+        && reloc_at(30, &[3, 0x80, 1, 5, 0x7c, 9, 9, 9, 9, 9, 9, 9, 9])
+            == Ok((reloc(3, 128, 5, -4), EIGHT))
+        && reloc_at(
+            30,
+            &[4, 0x81, 0x80, 4, 0x82, 1, 0xc0, 0, 9, 9, 9, 9, 9, 9, 9, 9],
+        ) == Ok((reloc(4, 65537, 130, 64), EIGHT))
+        && reloc_at(
+            30,
+            &[
+                0, 0x80, 0x80, 0x80, 1, 0xff, 0xff, 0xff, 0x7f, 9, 9, 9, 9, 9, 9, 9, 9,
+            ],
+        ) == Ok((reloc(0, 1 << 21, (1 << 28) - 1, 0), EIGHT))
+        && reloc_at(
+            30,
+            &[0, 0x80, 0x80, 0x80, 0x80, 1, 1, 9, 9, 9, 9, 9, 9, 9, 9],
+        ) == Ok((reloc(0, 1 << 28, 1, 0), EIGHT))
+        && reloc_at(30, &[10, 4, 1, 9, 9, 9, 9, 9, 9, 9, 9]) == foreign
+}
+
 fn entries_are_refused() -> bool {
     let foreign = |kind| Err(Stop::Foreign(Item::RelocType(kind)));
     reloc_at(10, &[10, 4, 1]) == foreign(10)
@@ -59,6 +85,7 @@ fn entries_are_refused() -> bool {
 #[test]
 fn entries_are_read_with_places(rt: HostRuntime) {
     assert!(rt; entries_have_ends());
+    assert!(rt; entries_have_more_behind());
     assert!(rt; entries_are_refused());
 }
 

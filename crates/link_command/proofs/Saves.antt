@@ -22,7 +22,7 @@ grows_on before mid after first later = record {
   saves = λ name. omega (arith, first.saves name, later.saves name);
 }
 
-same_on : (before mid after : Shown) → Same before mid → Grows before mid → Same mid after → Same before after
+pub same_on : (before mid after : Shown) → Same before mid → Grows before mid → Same mid after → Same before after
 same_on before mid after same grows later = λ told n. later (told_on before mid grows told) n ∙ same told n
 
 same_but_on : (before mid after : Shown) (name : List ℕ) → Same before mid → Grows before mid → SameBut name mid after → SameBut name before after

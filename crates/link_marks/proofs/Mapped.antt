@@ -1,6 +1,5 @@
 -- Lists that are mapped, filtered and looked up.
-use Rattle.std.proofs.Common.{◌≡◌, ℕ, zero, suc, Bool, true, false, cond, List, [], ◌∷◌, length, get_or, map, filter, filter_map, slice_get, Option, Some, None, refl, sym, ap, ◌∙◌, option_and_then, option_map, find, All, ◌||◌, unwrap_or}
-use Rattle.std.proofs.lemmas.Option.{get_or_from_slice_get, unwrap_or-slice_get}
+use Rattle.std.proofs.Common.{◌≡◌, ℕ, zero, suc, Bool, true, false, cond, List, [], ◌∷◌, length, get_or, map, filter, filter_map, Option, Some, None, refl, sym, ap, option_and_then, option_map, find, All, ◌||◌}
 use Rattle.std.specs.List.{cons_option, list_any}
 use Rattle.std.proofs.lemmas.List.Elements.{All-head, All-tail}
 
@@ -77,11 +76,3 @@ Some_map [] [] h = refl
 Some_map [] (y ∷ ys) h = absurd (cc)
 Some_map (x ∷ xs) [] h = absurd (cc)
 Some_map (x ∷ xs) (y ∷ ys) h = let here : x ≡ y = cc in let rest : map Some xs ≡ map Some ys = cc in let t = Some_map xs ys rest in λ i. here i ∷ t i
-
--- ---- rows that are read
-
-pub row_read : {X : Type 0} (rows : List (List X)) (i : ℕ) (row : List X) → Some row ≡ slice_get rows i → row ≡ get_or rows i []
-row_read rows i row is = sym (get_or_from_slice_get rows i row [] (sym is))
-
-pub row_missing : {X : Type 0} (rows : List (List X)) (i : ℕ) → None ≡ slice_get rows i → [] ≡ get_or rows i []
-row_missing rows i is = ap (λ o. unwrap_or o []) is ∙ unwrap_or-slice_get rows i []

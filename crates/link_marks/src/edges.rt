@@ -1,5 +1,5 @@
 //! What each part refers to, by the numbers of chunks.
-ghost use Rattle.std.specs.Prelude.{◌≡◌, [], filter_map, slice_index_or, IfOk};
+ghost use Rattle.std.specs.Prelude.{◌≡◌, filter_map, IfOk, OnOk};
 ghost use Rattle.link_marks.specs.Seen.{named_number, led_numbers, targets_seen};
 
 use crate::chunks::numbers_led;
@@ -23,26 +23,19 @@ fn number_named(led: &[Option<u32>], named: Named) -> Option<u32>
     }
 }
 
-/// The numbers of the chunks to which the items of a part lead.
-fn targets_of(alloc: Global, led: &[Option<u32>], row: &[Named]) -> Result<Seq<u32>, OutOfMemory>
-    ensures { IfOk result (λ targets. targets ≡ filter_map (named_number led.now) row.now) }
+/// The numbers of the chunks to which the items of a part lead, in place of what the list has.
+fn set_targets(
+    targets: &mut Seq<u32>,
+    led: &[Option<u32>],
+    row: &[Named],
+) -> Result<(), OutOfMemory>
+    ensures { OnOk result (targets.new ≡ filter_map (named_number led.now) row.now) }
 {
-    let mut targets = Seq::from_vec(Vec::with_capacity(alloc, row.len())?);
+    targets.truncate(0);
     for named in row {
-        push_some(&mut targets, number_named(led, *named))?;
+        push_some(targets, number_named(led, *named))?;
     }
-    Ok(targets)
-}
-
-/// The items of the part at a place.
-#[tactic(auto, using(crate::proofs::Mapped::row_read, crate::proofs::Mapped::row_missing))]
-fn row_of(rows: &Lists<Named>, place: usize) -> &[Named]
-    ensures { result.now ≡ slice_index_or rows.now place [] }
-{
-    match rows.get(place) {
-        Some(row) => row,
-        None => &[],
-    }
+    Ok(())
 }
 
 /// The same for each part.
@@ -50,14 +43,14 @@ fn all_targets(
     alloc: Global,
     led: &[Option<u32>],
     rows: &Lists<Named>,
-) -> Result<Seq<Seq<u32>>, OutOfMemory>
+) -> Result<Lists<u32>, OutOfMemory>
     ensures { IfOk result (λ targets. targets ≡ targets_seen led.now rows.now) }
 {
-    let mut targets = Seq::from_vec(Vec::with_capacity(alloc, rows.len())?);
+    let mut targets = Lists::with_room(alloc, rows.len(), 0)?;
+    let mut found = Seq::new(alloc);
     for place in 0..rows.len() {
-        let row = row_of(rows, place);
-        let found = targets_of(alloc, led, row)?;
-        targets.push(found)?;
+        set_targets(&mut found, led, rows.row(place))?;
+        targets.push(found.as_slice())?;
     }
     Ok(targets)
 }

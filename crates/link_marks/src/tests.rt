@@ -240,15 +240,14 @@ fn tables(alloc: Global) -> Option<Tables> {
 fn parts_refer_to_chunks(rt: HostRuntime) -> Result<(), Fail> {
     let tables = tables(rt.alloc()).ok_or("tables")?;
     let edges = edges_of(rt.alloc(), &tables)?;
-    let rows = edges.targets.as_slice();
-    assert_eq!(rt; rows.len(), 4);
+    assert_eq!(rt; edges.targets.len(), 4);
     for (row, targets) in [
         (0usize, [].as_slice()),
         (1, &[3, 2]),
         (2, &[2, 2]),
         (3, &[]),
     ] {
-        assert_eq!(rt; rows[row].as_slice(), targets);
+        assert_eq!(rt; edges.targets.get(row), Some(targets));
     }
     Ok(())
 }

@@ -31,14 +31,10 @@ pub fn part_at(tables: &Tables, number: u32) -> Part
 }
 
 /// What the part of a number names.
-#[tactic(auto, using(crate::proofs::ReadAt::read))]
 pub fn row_at(tables: &Tables, number: u32) -> &[Named]
     ensures { result.now ≡ row_at tables.now number }
 {
-    match tables.named.get(number as usize) {
-        Some(row) => row,
-        None => &[],
-    }
+    tables.named.row(number as usize)
 }
 
 /// The symbol at a place.

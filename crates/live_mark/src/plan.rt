@@ -59,6 +59,6 @@ pub fn asked<'a>(edges: &'a Edges, rooting: bool, places: &'a [u32], place: usiz
     if rooting {
         &places[place..place + 1]
     } else {
-        edges.targets.as_slice()[places[place] as usize].as_slice()
+        edges.targets.row(places[place] as usize)
     }
 }

@@ -11,6 +11,7 @@ use std::thread::Threads;
 use test_kit::{Meeting, Tally};
 use wl_base::{OutOfMemory, Seq};
 use wl_fan::Workers;
+use wl_lists::Lists;
 use wl_outside::{Gate, Phase};
 
 fn in_range(count: usize, chunks: &[u32]) -> bool
@@ -19,10 +20,15 @@ fn in_range(count: usize, chunks: &[u32]) -> bool
     chunks.iter().all(|chunk| (*chunk as usize) < count)
 }
 
-fn rows_in_range(count: usize, rows: &[Seq<u32>]) -> bool
+fn rows_in_range(count: usize, rows: &Lists<u32>) -> bool
     ensures { result ≡ rows_below count rows.now }
 {
-    rows.iter().all(|row| in_range(count, row.as_slice()))
+    for at in 0..rows.len() {
+        if !in_range(count, rows.row(at)) {
+            return false;
+        }
+    }
+    true
 }
 
 // The marked chunks, where the numbers may be asked for.
@@ -43,7 +49,7 @@ fn marked<G: Gate, R: Threads + Sync>(
     if !in_range(count, roots) {
         return None;
     }
-    if !rows_in_range(count, edges.targets.as_slice()) {
+    if !rows_in_range(count, &edges.targets) {
         return None;
     }
     live(rt, alloc, edges, roots, workers, gate).ok()
@@ -51,7 +57,7 @@ fn marked<G: Gate, R: Threads + Sync>(
 
 // 0 refers to 1 and 2, these to 3, and 4 stands by itself.
 fn diamond(alloc: Global) -> Result<Edges, OutOfMemory> {
-    let mut targets = Seq::new(alloc);
+    let mut targets = Lists::new(alloc);
     for row in [
         [1u32, 2].as_slice(),
         [3].as_slice(),
@@ -59,7 +65,7 @@ fn diamond(alloc: Global) -> Result<Edges, OutOfMemory> {
         [].as_slice(),
         [].as_slice(),
     ] {
-        targets.push(Seq::from_slice(alloc, row)?)?;
+        targets.push(row)?;
     }
     Ok(Edges { targets })
 }
@@ -67,17 +73,17 @@ fn diamond(alloc: Global) -> Result<Edges, OutOfMemory> {
 // 0 refers to 9,000 chunks, each of these to one more, and the first of those to a further one. The last
 // chunk stands by itself.
 fn wide(alloc: Global) -> Result<Edges, OutOfMemory> {
-    let mut targets = Seq::new(alloc);
+    let mut targets = Lists::new(alloc);
     let mut all = Seq::new(alloc);
     for chunk in 1..=9000u32 {
         all.push(chunk)?;
     }
-    targets.push(all)?;
+    targets.push(all.as_slice())?;
     for chunk in 9001..=18001u32 {
-        targets.push(Seq::from_slice(alloc, [chunk].as_slice())?)?;
+        targets.push([chunk].as_slice())?;
     }
     for _ in 0..9001 {
-        targets.push(Seq::new(alloc))?;
+        targets.push([].as_slice())?;
     }
     Ok(Edges { targets })
 }

@@ -29,14 +29,10 @@ impl Model for Resolution {
 }
 
 /// The answers for the symbols of an input.
-#[tactic(auto, using(crate::proofs::Rowed::row_read, crate::proofs::Rowed::row_missing))]
 fn row_of(rows: &Lists<Meaning>, input: InputId) -> &[Meaning]
     ensures { result.now ≡ row_of rows.now input }
 {
-    match rows.get(input as usize) {
-        Some(row) => row,
-        None => &[],
-    }
+    rows.row(input as usize)
 }
 
 /// Whether each of these answers is something.

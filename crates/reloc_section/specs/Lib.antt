@@ -1,5 +1,6 @@
 pub mod Kinds
 pub mod Relocs
+pub mod Short
 pub mod Fault
 pub mod RelocLaws
 pub mod Stays

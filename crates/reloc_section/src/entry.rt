@@ -2,8 +2,10 @@
 ghost use Rattle.std.specs.Prelude.{◌≡◌};
 ghost use Rattle.wasm_grammar.specs.Fault.{Reads};
 ghost use Rattle.reloc_section.specs.Relocs.{SpellsReloc, known_kind, addend_at, reloc_at};
+ghost use Rattle.reloc_section.specs.Short.{with_addend};
 
 use crate::kinds::{has_addend, is_read};
+use crate::short::short_front;
 use std::alloc::Global;
 use wasm_grammar::{Form, ReadFault, Stop, byte_at, s32_at, u32_at};
 use wl_base::Item;
@@ -45,17 +47,17 @@ fn addend_at(kind: u8, end: usize, bytes: &[u8]) -> Result<(i32, &[u8]), Stop>
     }
 }
 
-/// The entry at the front, and the bytes after it. A type that isn't read is foreign, before its
-/// offset is read.
-#[tactic(auto, unfolding(crate::specs::Relocs::reloc_at))]
-pub fn reloc_at(end: usize, bytes: &[u8]) -> Result<(Reloc, &[u8]), Stop>
-    ensures { Reads (λ x. (x.0, x.1.now)) result (reloc_at end bytes.now) }
+/// The entry of this type, offset and index, and the bytes after its addend.
+fn with_addend(
+    kind: u8,
+    offset: u32,
+    index: u32,
+    end: usize,
+    bytes: &[u8],
+) -> Result<(Reloc, &[u8]), Stop>
+    ensures { Reads (λ x. (x.0, x.1.now)) result (with_addend kind offset index end bytes.now) }
 {
-    let (byte, rest) = byte_at(end, bytes)?;
-    let kind = known_kind(byte)?;
-    let (offset, rest) = u32_at(end, rest)?;
-    let (index, rest) = u32_at(end, rest)?;
-    let (addend, rest) = addend_at(kind, end, rest)?;
+    let (addend, rest) = addend_at(kind, end, bytes)?;
     let entry = Reloc {
         kind,
         offset,
@@ -63,6 +65,29 @@ pub fn reloc_at(end: usize, bytes: &[u8]) -> Result<(Reloc, &[u8]), Stop>
         addend,
     };
     Ok((entry, rest))
+}
+
+/// An entry of any length.
+#[tactic(auto, unfolding(crate::specs::Relocs::reloc_at))]
+fn long_reloc_at(end: usize, bytes: &[u8]) -> Result<(Reloc, &[u8]), Stop>
+    ensures { Reads (λ x. (x.0, x.1.now)) result (reloc_at end bytes.now) }
+{
+    let (byte, rest) = byte_at(end, bytes)?;
+    let kind = known_kind(byte)?;
+    let (offset, rest) = u32_at(end, rest)?;
+    let (index, rest) = u32_at(end, rest)?;
+    with_addend(kind, offset, index, end, rest)
+}
+
+/// The entry at the front, and the bytes after it. A type that isn't read is foreign, before its
+/// offset is read.
+pub fn reloc_at(end: usize, bytes: &[u8]) -> Result<(Reloc, &[u8]), Stop>
+    ensures { Reads (λ x. (x.0, x.1.now)) result (reloc_at end bytes.now) }
+{
+    match short_front(bytes) {
+        Some((kind, offset, index, rest)) => with_addend(kind, offset, index, end, rest),
+        None => long_reloc_at(end, bytes),
+    }
 }
 
 impl Form for Reloc {

@@ -8,6 +8,7 @@ mod fault;
 pub mod kinds;
 mod laws;
 mod section;
+mod short;
 
 pub use entry::{Reloc, reloc_at};
 pub use fault::RelocFault;

@@ -24,7 +24,7 @@ fn out_of_memory(_: AllocError) -> LoadFault {
 }
 
 /// Reads the file of this path, through a piece of memory that grows as far as the files that are read through it ask.
-pub fn read_file<R: Files>(rt: &R, alloc: Global, name: &str, piece: &mut Vec<u8>) -> Loaded {
+pub fn read_whole<R: Files>(rt: &R, alloc: Global, name: &str, piece: &mut Vec<u8>) -> Loaded {
     let Ok(mut file) = fs::open(rt, name) else {
         return Err(LoadFault::Failed);
     };

@@ -2,24 +2,43 @@
 //! output; the work is `link_command`.
 #![tactic(auto)]
 
+mod ahead;
 mod file_reading;
 mod file_shelf;
+mod file_writing;
+mod host_files;
 mod manual;
 mod output_sink;
 mod words;
 mod writing;
 
+use ahead::Ahead;
+use file_reading::{Loaded, read_whole};
 use file_shelf::FileShelf;
+use file_writing::write_whole;
+use host_files::HostFiles;
 use link_command::link_command;
 use manual::answer;
 use output_sink::OutputSink;
+use std::alloc::Global;
 use std::env;
 use std::process::ExitCode;
-use wl_outside::OpenGate;
+use wl_outside::{Failed, OpenGate};
 use words::words_of;
 
 // The exit status where standard output can't be written.
 const WRITE_FAULT: u8 = 4;
+
+// The runtime is named here, since what other threads call has to be known whole.
+impl HostFiles for HostRuntime {
+    fn read_file(&self, alloc: Global, name: &str, piece: &mut Vec<u8>) -> Loaded {
+        read_whole(self, alloc, name, piece)
+    }
+
+    fn write_file(&self, name: &str, bytes: &[u8]) -> Result<(), Failed> {
+        write_whole(self, name, bytes)
+    }
+}
 
 fn main(rt: HostRuntime) -> ExitCode {
     let words = match words_of(rt.alloc(), env::args(&rt)) {
@@ -36,7 +55,8 @@ fn main(rt: HostRuntime) -> ExitCode {
             Err(_) => ExitCode::from(WRITE_FAULT),
         };
     }
-    let mut shelf = FileShelf::new(&rt, rt.alloc());
+    let ahead = Ahead::of_words(&rt, rt.alloc(), words.as_slice());
+    let mut shelf = FileShelf::new(&rt, rt.alloc(), ahead);
     let mut say = OutputSink::new(&rt);
     let status = link_command(
         &rt,

@@ -93,6 +93,19 @@ impl<T> Lists<T> {
     }
 }
 
+impl<T> Lists<T> {
+    /// The list at a place; no items where there is none.
+    #[tactic(auto, using(crate::proofs::Rows::row_read, crate::proofs::Rows::row_missing))]
+    pub fn row(&self, at: usize) -> &[T]
+        ensures { result.now ≡ slice_index_or self.now at [] }
+    {
+        match self.get(at) {
+            Some(row) => row,
+            None => &[],
+        }
+    }
+}
+
 impl<T: Drop> Lists<T> {
     /// Drops the lists from the place `len` on; where there are no more than `len`, nothing changes.
     pub fn truncate(&mut self, len: usize)

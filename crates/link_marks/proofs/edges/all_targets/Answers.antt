@@ -5,5 +5,5 @@ use Rattle.link_marks.proofs.edges.all_targets.Goals as goal
 
 pub loop-place-preserved : goal.loop-place-preserved
 loop-place-preserved c =
-    mapped_more c.args.rows.now c.loop-place.place [] (omega arith) (filter_map (named_number c.args.led.now)) c.loop-place.targets c.push.new.self c.in_ok-found.found
-    c.loop-place.invariant (c.in_ok-found.ensures ∙ ap (filter_map (named_number c.args.led.now)) c.row_of-row.ensures) c.in_ok-push.ensures.ok
+    mapped_more c.args.rows.now c.loop-place.place [] (omega arith) (filter_map (named_number c.args.led.now)) c.loop-place.targets c.push.new.self c.as_slice.result.now
+    c.loop-place.invariant (c.as_slice.ensures ∙ c.in_ok-set_targets.ensures ∙ ap (filter_map (named_number c.args.led.now)) c.row.ensures) c.in_ok-push.ensures.ok

@@ -1,4 +1,4 @@
-use Rattle.std.proofs.Common.{rules, ◌≡◌, subst, ℕ, true, List}
+use Rattle.std.proofs.Common.{rules, ◌≡◌, subst, ℕ, true}
 use Rattle.live_mark.specs.Asks.{Below}
 use Rattle.marking_tests.specs.Graphs.{all_below, rows_below}
 use Rattle.marking_tests.proofs.Graphs.{below_from, all_below_from}
@@ -11,5 +11,5 @@ live-requires-clause-roots g c κs within =
 
 pub live-requires-clause-targets : goal.live-requires-clause-targets
 live-requires-clause-targets g c κs within =
-    let all : rows_below c.len-count.result c.as_slice.result.now ≡ true = search rules in
-    all_below_from c.args.edges.now.targets (subst (λ (z : ℕ × List (List ℕ)). rows_below z.0 z.1 ≡ true) (λ i. (c.len-count.ensures i, c.as_slice.ensures i)) all)
+    let all : rows_below c.len-count.result c.args.edges.now.targets ≡ true = search rules in
+    all_below_from c.args.edges.now.targets (subst (λ (n : ℕ). rows_below n c.args.edges.now.targets ≡ true) c.len-count.ensures all)

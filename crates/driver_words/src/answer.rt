@@ -1,0 +1,23 @@
+//! What drivers' words stand for.
+
+use wl_base::{Seq, Text};
+
+/// What is said in place of a link.
+#[derive(Clone, Copy, Debug, PartialEq, Eq)]
+pub enum What {
+    /// The version, in one line that has `LLD`.
+    Version,
+    /// The help.
+    Help,
+}
+
+/// What drivers' words stand for.
+#[derive(Debug, Drop)]
+pub enum Answer {
+    /// The linker's own words, and what is told before it links, a line each.
+    Links { own: Seq<Text>, warnings: Seq<Text> },
+    /// A text on standard output, and no link.
+    Says(What),
+    /// The line that refuses the words.
+    Refuses(Text),
+}
