@@ -1,11 +1,11 @@
 -- What is held alike gives alike, and who is blamed behind other loads is blamed.
-use Rattle.std.proofs.Common.{◌≡◌, ◌≤◌, ◌<◌, ◌+◌, ◌-◌, ℕ, zero, suc, IsTrue, List, Option, Some, None, Ok, Err, IsSome, IsUtf8, slice_get, inl, inr, refl, sym, ap, subst, ◌∙◌, arith}
+use Rattle.std.proofs.Common.{◌≡◌, ◌<◌, ◌+◌, ◌-◌, ℕ, zero, suc, IsTrue, List, Option, Some, None, Ok, Err, IsSome, IsUtf8, slice_get, inl, inr, sym, ap, subst, ◌∙◌, arith}
 use Rattle.std.specs.Prelude.{IsSomeAnd}
-use Rattle.wl_outside.specs.Shelf.{Shown, Same, Grows, LoadFailed}
+use Rattle.wl_outside.specs.Shelf.{Shown, Same, Grows}
 use Rattle.driver_words.specs.declared.stop.Stop.{Stop}
 use Rattle.driver_words.specs.declared.stop.Stop.TheVariants.{Unreadable, NotText, OutOfMemory}
-use Rattle.driver_words.specs.Thin.{members_of}
-use Rattle.driver_words.specs.Tokens.{tokens_of}
+use Rattle.driver_texts.specs.Thin.{members_of}
+use Rattle.driver_texts.specs.Tokens.{tokens_of}
 use Rattle.driver_words.specs.Expand.{expanded, expanded_word, expanded_to, first_there, unless_there, Blames, Others, HasOther, IsNoText}
 
 pub held_same : (old new : Shown) → Same old new → IsTrue old.tells → new.held ≡ old.held

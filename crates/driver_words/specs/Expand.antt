@@ -5,8 +5,8 @@ use Rattle.std.specs.Str.{bytes_eq}
 use Rattle.wl_outside.specs.Shelf.{Shown, Same, Grows, LoadFailed}
 use Rattle.driver_words.specs.declared.stop.Stop.{Stop}
 use Rattle.driver_words.specs.declared.stop.Stop.TheVariants.{Unreadable, NotText, OutOfMemory}
-use Rattle.driver_words.specs.Thin.{members_of}
-use Rattle.driver_words.specs.Tokens.{tokens_of}
+use Rattle.driver_texts.specs.Thin.{members_of}
+use Rattle.driver_texts.specs.Tokens.{tokens_of}
 
 -- The file that a word asks for: what stands behind @.
 abbrev pub asked : List ℕ → Option (List ℕ)

@@ -1,7 +1,6 @@
 -- The words of inputs and of the marks between them, from left to right.
-use Rattle.std.specs.Prelude.{◌≡◌, ℕ, List, [], ◌∷◌, ◌++◌, Bool, true, false, not, ◌||◌, map, if◌then◌else◌, Option, Some, None, unwrap_or, is_some, IsTrue, Result, Ok, Err, codes, refl}
+use Rattle.std.specs.Prelude.{ℕ, List, [], ◌∷◌, ◌++◌, Bool, true, false, not, ◌||◌, map, if◌then◌else◌, Option, Some, None, unwrap_or, is_some, Result, Ok, Err, codes}
 use Rattle.std.specs.List.{filter_map}
-use Rattle.std.specs.Option.{option_or}
 use Rattle.wl_base.specs.Choice.{given}
 use Rattle.driver_table.specs.declared.meaning.Meaning.{Meaning}
 use Rattle.driver_table.specs.declared.meaning.Meaning.TheVariants.{Input, Library, Folder, WholeArchive, NoWholeArchive, StartLib, EndLib}
@@ -10,8 +9,8 @@ use Rattle.driver_table.specs.Items.{Said}
 use Rattle.driver_table.specs.Texts.{line, stripped}
 use Rattle.driver_table.specs.Cut.{behind}
 use Rattle.driver_words.specs.Search.{found, library_file, begins_with}
-use Rattle.driver_words.specs.Thin.{thin, members_of}
-use Rattle.driver_words.specs.Paths.{plain, member_path}
+use Rattle.driver_texts.specs.Thin.{thin, members_of}
+use Rattle.driver_texts.specs.Paths.{plain, member_path}
 use Rattle.driver_words.specs.Start.{started}
 
 -- The file of `-lNAME`, and of `-l:FILE`.

@@ -4,7 +4,7 @@ use Rattle.std.specs.Prelude.{◌≡◌, ℕ, List, [], ◌∷◌, Bool, true, f
 use Rattle.std.specs.List.{starts_with}
 use Rattle.driver_table.specs.Texts.{line}
 use Rattle.driver_words.specs.Search.{ends_in_slash, found}
-use Rattle.driver_words.specs.Paths.{plain, stripped_end}
+use Rattle.driver_texts.specs.Paths.{plain, stripped_end}
 
 -- Whether the bytes have a part that isn't empty.
 abbrev pub has_part : List ℕ → List ℕ → Bool

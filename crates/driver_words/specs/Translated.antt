@@ -1,16 +1,15 @@
 -- The translation: what drivers' words stand for, where names hold what they hold.
-use Rattle.std.specs.Prelude.{◌≡◌, ℕ, List, [], ◌∷◌, ◌++◌, drop, Bool, true, false, ◌&&◌, ◌||◌, if◌then◌else◌, Option, Some, None, is_some, slice_get, IsTrue, Result, Ok, Err, codes, refl}
+use Rattle.std.specs.Prelude.{ℕ, List, [], ◌∷◌, Bool, true, ◌||◌, if◌then◌else◌, Option, Some, None, Result, Ok, Err, codes}
 use Rattle.std.specs.Str.{bytes_eq}
-use Rattle.wl_outside.specs.Shelf.{Shown}
 use Rattle.driver_table.specs.declared.meaning.Meaning.TheVariants.{Version as AsksVersion, Help as AsksHelp}
 use Rattle.driver_table.specs.Meanings.{same}
 use Rattle.driver_table.specs.Items.{Said}
 use Rattle.driver_table.specs.Texts.{line}
 use Rattle.driver_table.specs.Cut.{cut_of, behind}
-use Rattle.driver_words.specs.Values.{values_fault}
-use Rattle.driver_words.specs.Lacking.{lacking}
-use Rattle.driver_words.specs.Fields.{fatal}
-use Rattle.driver_words.specs.Own.{own_words, warnings}
+use Rattle.driver_fields.specs.Values.{values_fault}
+use Rattle.driver_fields.specs.Lacking.{lacking}
+use Rattle.driver_fields.specs.Fields.{fatal}
+use Rattle.driver_fields.specs.Own.{own_words, warnings}
 use Rattle.driver_words.specs.Expand.{expanded_to}
 use Rattle.driver_words.specs.Inputs.{inputs_of}
 use Rattle.driver_words.specs.declared.answer.What.{What}

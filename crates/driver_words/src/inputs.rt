@@ -1,21 +1,19 @@
 //! The words of inputs and of the marks between them, from left to right, since a mark changes what
 //! the words behind it stand for.
 ghost use Rattle.std.specs.Prelude.{◌≡◌, ◌++◌, IsTrue, IfOk, IfErr, OnOk, false, map};
-ghost use Rattle.std.specs.Option.{option_map};
 ghost use Rattle.wl_outside.specs.Shelf.{Same, Grows};
 ghost use Rattle.driver_words.specs.Expand.{Blames};
 ghost use Rattle.driver_table.specs.Cut.{behind};
-ghost use Rattle.driver_words.specs.Paths.{plain as plain_of, member_path as member_path_of};
+ghost use Rattle.driver_texts.specs.Paths.{plain as plain_of, member_path as member_path_of};
 ghost use Rattle.driver_words.specs.Start.{started};
 ghost use Rattle.driver_words.specs.Inputs.{file_named, or_unfound as or_unfound_of, library_path as library_path_of, marked, grouped, opened, opened_of, given_by, inside_after, whole_after, inputs_of, inputs_from, folders_of, outcome};
 
-use crate::paths::{member_path, plain};
 use crate::search::{find_library, library_file};
 use crate::spread::load_members;
 use crate::start::start;
-use crate::thin::THIN;
 use crate::{Finder, Stop};
 use driver_table::{Item, Line, Meaning, strip};
+use driver_texts::{THIN, member_path, plain};
 use std::alloc::Global;
 use wl_base::{OutOfMemory, Seq, Text};
 

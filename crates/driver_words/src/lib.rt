@@ -3,25 +3,18 @@
 #![tactic(auto)]
 
 mod answer;
-mod fields;
 mod finder;
 mod inputs;
-mod lacking;
 pub mod laws;
-mod own;
-mod paths;
-mod response;
 mod search;
 mod spread;
 mod start;
 mod stop;
-mod thin;
 mod translation;
-mod values;
 
 pub use answer::{Answer, What};
+pub use driver_texts::tokens;
 pub use finder::Finder;
-pub use response::tokens;
 pub use search::{find_from, find_library};
 pub use spread::expand_all;
 pub use stop::Stop;

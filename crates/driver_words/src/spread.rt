@@ -3,13 +3,12 @@
 ghost use Rattle.std.specs.Prelude.{◌≡◌, ◌++◌, IsTrue, IfOk, IfErr, OnOk, IsSome, Some, ◌∷◌, []};
 ghost use Rattle.std.specs.Option.{option_map};
 ghost use Rattle.wl_outside.specs.Shelf.{Same, Grows};
-ghost use Rattle.driver_words.specs.Thin.{members_of};
-ghost use Rattle.driver_words.specs.Tokens.{tokens_of};
+ghost use Rattle.driver_texts.specs.Thin.{members_of};
+ghost use Rattle.driver_texts.specs.Tokens.{tokens_of};
 ghost use Rattle.driver_words.specs.Expand.{Blames, Others, expanded, expanded_to, expanded_word, first_there as first_there_of, there as there_of, asked};
 
-use crate::response::tokens;
-use crate::thin::members;
 use crate::{Finder, Stop};
+use driver_texts::{members, tokens};
 use std::alloc::Global;
 use wl_base::{OutOfMemory, Seq, Text};
 use wl_outside::LoadFault;

@@ -6,11 +6,11 @@ ghost use Rattle.wl_outside.specs.Shelf.{Same, Grows};
 ghost use Rattle.driver_words.specs.Expand.{Blames};
 ghost use Rattle.driver_words.specs.Start.{has_part as has_part_of, folder_in as folder_in_of, start_folder as start_folder_of, leaves, or_refused as or_refused_of, beside as beside_of, started as started_of};
 
-use crate::paths::{plain, strip_end};
 use crate::search::{ends_in_slash, find_from};
 use crate::spread::load_file;
 use crate::{Finder, Stop};
 use driver_table::Line;
+use driver_texts::{plain, strip_end};
 use std::alloc::Global;
 use wl_base::{OutOfMemory, Text};
 

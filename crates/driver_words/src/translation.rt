@@ -7,13 +7,10 @@ ghost use Rattle.driver_words.specs.Expand.{Blames};
 ghost use Rattle.driver_words.specs.Translated.{asked as asked_of, links as links_of, linked, answered, cut_and_answered, expanded_and_answered, translated_words, under_flavor, first_and_rest, flavored, is_flavor as is_flavor_of, behind_flavor as behind_flavor_of, translated};
 
 use crate::answer::{Answer, What};
-use crate::fields::fatal;
 use crate::inputs::with_inputs;
-use crate::lacking::lacking;
-use crate::own::{own_words, warnings};
 use crate::spread::expand_all;
-use crate::values::values_fault;
 use crate::{Finder, Stop};
+use driver_fields::{fatal, lacking, own_words, values_fault, warnings};
 use driver_table::{Item, Line, Meaning, cut_words};
 use std::alloc::Global;
 use wl_base::{OutOfMemory, Seq, Text};

@@ -3,7 +3,7 @@ use Rattle.std.proofs.Common.{◌≡◌, ◌≢◌, ℕ, zero, suc, ◌+◌, ◌
 use Rattle.std.specs.Prelude.{slice_index_or, slice_set}
 use Rattle.std.specs.List.{list_any, All, AllPairs}
 use Rattle.std.proofs.lemmas.List.Elements.{All-head, All-tail, All-cons}
-use Rattle.link_numbers.proofs.Positions.{position_next, position_first, position_none}
+use Rattle.link_numbers.proofs.link_keys_lemmas.Positions.{position_next, position_first, position_none}
 use Rattle.link_layout.specs.Segments.{set_each}
 
 -- The value of the number that stands at this place, or what there was.

@@ -2,7 +2,7 @@
 use Rattle.std.proofs.Common.{◌≡◌, ℕ, zero, suc, ◌+◌, ◌<◌, ◌≤◌, ◌==◌, ◌||◌, Bool, true, false, cond, List, [], ◌∷◌, map, filter, length, get_or, slice_get, position, Option, Some, None, refl, sym, ap, ◌∙◌, arith, find}
 use Rattle.std.specs.List.{list_any, All}
 use Rattle.std.proofs.lemmas.List.Elements.{All-head, All-tail, All-cons}
-use Rattle.link_numbers.proofs.Positions.{position_of_map}
+use Rattle.link_numbers.proofs.link_keys_lemmas.Positions.{position_of_map}
 
 module _ {A : Type 0} (ps : List A) where
   -- what is told by the numbers is what is told by the items

@@ -35,7 +35,7 @@ use Rattle.link_program.specs.declared.keys.FunctionKey.{FunctionKey}
 use Rattle.link_program.specs.Told.{told_definition, told_lead, told_symbol}
 use Rattle.link_program.specs.Seen.{no_symbol, SeenRef, SeenNamed, seen_symbol, seen_type, seen_named, told_named, told_ref, NamesOne}
 use Rattle.link_program.specs.Keys.{told_function, told_got, told_global, same_function_key, same_global_key}
-use Rattle.link_numbers.specs.Types.{type_number_in}
+use Rattle.link_numbers.specs.link_keys.Types.{type_number_in}
 use Rattle.link_numbers.specs.Knows.{KnowsFunction, KnowsGot, KnowsGlobal}
 use Rattle.link_numbers.specs.Laws.{TellsNumbers, KnowsRef}
 use Rattle.link_layout.specs.declared.values.Layout.{Layout}
@@ -46,7 +46,7 @@ use Rattle.link_layout.specs.Seen.{Looked, column_at, address_of, global_named, 
 use Rattle.link_layout.proofs.Told.{IsTold}
 use Rattle.link_layout.specs.Layout.{looked}
 use Rattle.link_program.proofs.Chunks.{chunk_is, chunk_itself}
-use Rattle.link_numbers.proofs.Positions.{position_next, position_first}
+use Rattle.link_numbers.proofs.link_keys_lemmas.Positions.{position_next, position_first}
 use Rattle.link_layout.specs.Segments.{segment_numbers}
 use Rattle.link_layout.proofs.Parts.{segments_are}
 use Rattle.link_layout.proofs.Pairs.{pairs_within}

@@ -95,6 +95,19 @@ addend_meant (leads.Import n) addend = addend
 addend_meant leads.Null addend = pos 0
 addend_meant leads.Nothing addend = addend
 
+abbrev pub is_address : Asks → Bool
+is_address a_function = false
+is_address a_slot = false
+is_address an_address = true
+is_address a_global = false
+is_address a_table = false
+
+abbrev pub is_null : Lead → Bool
+is_null (leads.Here d) = false
+is_null (leads.Import n) = false
+is_null leads.Null = true
+is_null leads.Nothing = false
+
 abbrev pub addend_of : Lead → ℤ → Asks → ℤ
 addend_of lead addend a_function = pos 0
 addend_of lead addend a_slot = pos 0

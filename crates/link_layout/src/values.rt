@@ -11,7 +11,7 @@ ghost use Rattle.link_program.specs.Told.{told_definition};
 ghost use Rattle.link_program.specs.Seen.{NamesOne, no_symbol};
 ghost use Rattle.link_program.specs.Moved.{moved_windows};
 ghost use Rattle.link_program.specs.Live.{Stage, AreLive};
-ghost use Rattle.link_layout.specs.Seen.{column_at, address_of, slot_meant, address_meant, target_of, addend_of, window_to, type_window, window_of, usual, AreTargets};
+ghost use Rattle.link_layout.specs.Seen.{column_at, address_of, slot_meant, address_meant, target_of, is_address, is_null, addend_of, window_to, type_window, window_of, usual, AreTargets};
 ghost use Rattle.link_layout.specs.Layout.{looked, IsLayout};
 
 use crate::Placed;
@@ -107,19 +107,35 @@ fn form_of(kind: u8) -> Form
     }
 }
 
-/// The addend of a relocation's type: only addresses have one, and that of a null datum isn't added.
+/// Whether a relocation's type asks for an address.
+fn is_address(kind: u8) -> bool
+    ensures { result ≡ is_address (asks kind) }
+{
+    matches!(
+        kind,
+        kinds::MEMORY_ADDR_LEB
+            | kinds::MEMORY_ADDR_SLEB
+            | kinds::MEMORY_ADDR_I32
+            | kinds::MEMORY_ADDR_REL_SLEB
+    )
+}
+
+/// Whether a symbol is null.
+fn is_null(lead: Lead) -> bool
+    ensures { result ≡ is_null lead }
+{
+    matches!(lead, Lead::Null)
+}
+
+/// The addend of a relocation's type: only addresses have one, and that of a null datum isn't added. A processor can't foresee which it is,
+/// so there is one choice and no branch for each.
 fn addend_of(kind: u8, lead: Lead, addend: i32) -> i32
     ensures { result ≡ addend_of lead addend (asks kind) }
 {
-    match (kind, lead) {
-        (
-            kinds::MEMORY_ADDR_LEB
-            | kinds::MEMORY_ADDR_SLEB
-            | kinds::MEMORY_ADDR_I32
-            | kinds::MEMORY_ADDR_REL_SLEB,
-            Lead::Here(_) | Lead::Import(_) | Lead::Nothing,
-        ) => addend,
-        _ => 0,
+    if is_address(kind) & !is_null(lead) {
+        addend
+    } else {
+        0
     }
 }
 
@@ -136,27 +152,27 @@ fn usual(kind: SymbolKind) -> u8
     }
 }
 
+/// The first of the types that ask for the same as this one, where that is an address; any other as it is.
+fn first_alike(kind: u8) -> u8
+    ensures { asks result ≡ asks kind }
+{
+    if is_address(kind) {
+        kinds::MEMORY_ADDR_LEB
+    } else {
+        kind
+    }
+}
+
 /// Whether a reference of a type is known to stand for the same number as one of the usual type of the kind.
 fn is_usual(kind: u8, of: SymbolKind) -> bool
     ensures { IsTrue result → asks kind ≡ asks (usual of) }
 {
-    match (of, kind) {
-        (SymbolKind::Function, kinds::FUNCTION_INDEX_LEB)
-        | (
-            SymbolKind::Datum,
-            kinds::MEMORY_ADDR_LEB
-            | kinds::MEMORY_ADDR_SLEB
-            | kinds::MEMORY_ADDR_I32
-            | kinds::MEMORY_ADDR_REL_SLEB,
-        )
-        | (SymbolKind::GlobalVar, kinds::GLOBAL_INDEX_LEB) => true,
-        _ => false,
-    }
+    first_alike(kind) == usual(of)
 }
 
-/// The target at a place.
+/// The target of a usual reference to the symbol of a place.
 #[tactic(auto, using(link_program::proofs::ReadAt::read))]
-fn target_at(targets: &[u64], at: u32) -> u64
+fn usual_at(targets: &[u64], at: u32) -> u64
     ensures { result ≡ slice_index_or targets.now at 0 }
 {
     match targets.get(at as usize) {
@@ -267,18 +283,27 @@ impl<'a> Layout<'a> {
         Ok(targets)
     }
 
-    /// The number that a reference to the symbol of a place stands for; that of a usual one is there already.
-    fn target_by(self, targets: &[u64], kind: u8, at: u32, symbol: Symbol) -> u64
-        requires targets { AreTargets (looked self) targets.now }
-        requires there { at < length self.program.tables.now.symbols }
-        requires symbol { symbol ≡ slice_index_or self.program.tables.now.symbols at no_symbol }
-        ensures is { result ≡ target_of (looked self.entry) symbol (asks kind) }
+    /// The number that a reference to the symbol of a place stands for.
+    #[inline(never)]
+    fn target_at(self, kind: u8, at: u32) -> u64
+        ensures is { result ≡ target_of (looked self.entry) (slice_index_or self.entry.program.tables.now.symbols at no_symbol) (asks kind) }
         ensures small { result < 2 ^ 33 }
     {
-        if is_usual(kind, symbol.kind) {
-            target_at(targets, at)
+        self.target_of(kind, symbol_at(self.program.tables.symbols.as_slice(), at))
+    }
+
+    /// The same, where the symbol is of this kind: the number of a usual reference is there already.
+    fn target_by(self, targets: &[u64], kind: u8, at: u32, of: SymbolKind) -> u64
+        requires targets { AreTargets (looked self) targets.now }
+        requires there { at < length self.program.tables.now.symbols }
+        requires of { of ≡ (slice_index_or self.program.tables.now.symbols at no_symbol).kind }
+        ensures is { result ≡ target_of (looked self.entry) (slice_index_or self.entry.program.tables.now.symbols at no_symbol) (asks kind) }
+        ensures small { result < 2 ^ 33 }
+    {
+        if is_usual(kind, of) {
+            usual_at(targets, at)
         } else {
-            self.target_of(kind, symbol)
+            self.target_at(kind, at)
         }
     }
 
@@ -298,7 +323,7 @@ impl<'a> Layout<'a> {
                 symbol: at,
             } => {
                 let symbol = symbol_at(self.program.tables.symbols.as_slice(), at);
-                let target = self.target_by(targets, kind, at, symbol);
+                let target = self.target_by(targets, kind, at, symbol.kind);
                 window_to(place, kind, addend, symbol.lead, target)
             }
             Named::Type { place, number } => self.type_window(place, number),

@@ -7,8 +7,11 @@ use wl_base::{Item, LibFault, What};
 /// The name of a variant, with its numbers where it has any.
 #[derive(Clone, Copy)]
 pub enum Label {
+    /// The name alone.
     Alone(&'static str),
+    /// The name and a number.
     With(&'static str, u64),
+    /// The name and two numbers.
     WithTwo(&'static str, u64, u64),
 }
 

@@ -9,6 +9,7 @@ use live_mark::Edges;
 use std::alloc::Global;
 use wl_base::{OutOfMemory, Seq};
 use wl_lists::Lists;
+use wl_rows::Rows;
 
 /// The number of the chunk to which an item leads.
 fn number_named(led: &[Option<u32>], named: Named) -> Option<u32>
@@ -42,7 +43,7 @@ fn set_targets(
 fn all_targets(
     alloc: Global,
     led: &[Option<u32>],
-    rows: &Lists<Named>,
+    rows: &Rows<Named>,
 ) -> Result<Lists<u32>, OutOfMemory>
     ensures { IfOk result (λ targets. targets ≡ targets_seen led.now rows.now) }
 {

@@ -16,6 +16,7 @@ use std::alloc::Global;
 use std::test::Fail;
 use wl_base::{Fault, FileSpan, Name, OutOfMemory, Seq, Span};
 use wl_lists::Lists;
+use wl_rows::Rows;
 
 const NOWHERE: FileSpan = FileSpan {
     file: 0,
@@ -230,7 +231,7 @@ fn tables(alloc: Global) -> Option<Tables> {
         symbols: symbols(alloc).ok()?,
         winners,
         parts: parts(alloc).ok()?,
-        named: named(alloc).ok()?,
+        named: Rows::of(alloc, named(alloc).ok()?),
         types: Seq::new(alloc),
         chunks: chunks(alloc)?,
     })

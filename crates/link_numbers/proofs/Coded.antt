@@ -5,10 +5,10 @@ use Rattle.link_program.specs.index_layout.Numbers.{number_by}
 use Rattle.link_program.specs.declared.keys.FunctionKey.{FunctionKey}
 use Rattle.link_program.specs.declared.keys.GlobalKey.{GlobalKey}
 use Rattle.link_program.specs.Keys.{same_function_key, same_global_key}
-use Rattle.link_numbers.specs.Codes.{same_code, function_code, global_code}
+use Rattle.link_keys.specs.Codes.{same_code, function_code, global_code}
 use Rattle.link_numbers.specs.Places.{place_of}
 use Rattle.link_numbers.proofs.Knows.{same_function_code, same_global_code}
-use Rattle.link_numbers.proofs.Positions.{number_of_map}
+use Rattle.link_keys.proofs.Positions.{number_of_map}
 
 pub function_coded : (keys : List FunctionKey) (key : FunctionKey) → unwrap_or (place_of (map function_code keys) (function_code key)) 0 ≡ number_by same_function_key keys key
 function_coded keys key = number_of_map function_code same_function_key same_code key keys (λ k d below. same_function_code key _)

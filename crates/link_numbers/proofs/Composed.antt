@@ -9,11 +9,11 @@ use Rattle.link_program.specs.declared.symbol.Winner.{Winner}
 use Rattle.link_program.specs.declared.keys.FunctionKey.{FunctionKey}
 use Rattle.link_program.specs.declared.keys.GlobalKey.{GlobalKey}
 use Rattle.link_program.specs.declared.program.Tables.{Tables}
-use Rattle.link_numbers.specs.declared.firsts.At.{At}
-use Rattle.link_numbers.specs.Firsts.{firsts_rows}
-use Rattle.link_numbers.specs.Noted.{Noted, noted_parts, nothing_noted}
-use Rattle.link_numbers.specs.Lists.{functions_listed, slots_listed, globals_listed}
-use Rattle.link_numbers.specs.Types.{TypeLists, types_listed, type_number_in}
+use Rattle.link_keys.specs.declared.firsts.At.{At}
+use Rattle.link_keys.specs.Firsts.{firsts_rows}
+use Rattle.link_keys.specs.Noted.{Noted, noted_parts, nothing_noted}
+use Rattle.link_keys.specs.Lists.{functions_listed, slots_listed, globals_listed}
+use Rattle.link_keys.specs.Types.{TypeLists, types_listed, type_number_in}
 use Rattle.link_numbers.specs.Numbered.{Numbered, TellsOverflow, numbered, numbered_by}
 
 module _ (imports : List ImportKey) (names : ℕ) (t : Tables) (objects : List Object) (symbols : List (List (Option ℕ))) (exports : List Winner) (live : List ℕ) (m : Noted) where

@@ -26,21 +26,21 @@ use Rattle.link_program.specs.declared.keys.GlobalKey.{GlobalKey}
 use Rattle.link_program.specs.declared.keys.GlobalKey.TheVariants as globals
 use Rattle.link_program.specs.Told.{told_definition, told_lead, told_winner}
 use Rattle.link_program.specs.Keys.{told_function, told_got, told_global, same_function_key, same_got_key}
-use Rattle.link_numbers.specs.declared.codes.Code.{Code}
-use Rattle.link_numbers.specs.Codes.{same_code, function_code}
-use Rattle.link_numbers.specs.LiveRefs.{LiveRef}
+use Rattle.link_keys.specs.declared.codes.Code.{Code}
+use Rattle.link_keys.specs.Codes.{same_code, function_code}
+use Rattle.link_keys.specs.LiveRefs.{LiveRef}
 use Rattle.link_program.specs.Meant.{function_of, cell_meant}
-use Rattle.link_numbers.specs.Noted.{where_so, function_meant, asks_slot, function_taken, cell_read}
-use Rattle.link_numbers.specs.Lists.{is_made_by, is_own, own_function_in, own_global_in, is_taken_code, slots_listed, datum_listed}
+use Rattle.link_keys.specs.Noted.{where_so, function_meant, asks_slot, function_taken, cell_read}
+use Rattle.link_keys.specs.Lists.{is_made_by, is_own, own_function_in, own_global_in, is_taken_code, slots_listed, datum_listed}
 use Rattle.link_numbers.specs.Knows.{KnowsFunction, KnowsGot}
-use Rattle.link_numbers.proofs.Any.{all_each, all_none, all_map, all_filtered}
-use Rattle.link_numbers.proofs.Equals.{any_distinct}
-use Rattle.link_numbers.proofs.Heard.{slot_asked, cell_asked}
-use Rattle.link_numbers.proofs.Imports.{both}
-use Rattle.link_numbers.proofs.Known.{KnownMeaning, KnownRef}
+use Rattle.link_keys.proofs.Any.{all_each, all_none, all_map, all_filtered}
+use Rattle.link_keys.proofs.Equals.{any_distinct}
+use Rattle.link_keys.proofs.Heard.{slot_asked, cell_asked}
+use Rattle.link_keys.proofs.Imports.{both}
+use Rattle.link_keys.proofs.Known.{KnownMeaning, KnownRef}
 use Rattle.link_numbers.proofs.Knows.{same_function_code, tells_function, tells_got}
-use Rattle.link_numbers.proofs.LiveTold.{told_live, part_code, part_refs, told_refs, chosen_all}
-use Rattle.link_numbers.proofs.ToldLists.{any_told, filter_told, distinct_told}
+use Rattle.link_keys.proofs.LiveTold.{told_live, part_code, part_refs, told_refs, chosen_all}
+use Rattle.link_keys.proofs.ToldLists.{any_told, filter_told, distinct_told}
 
 -- ---- codes
 

@@ -20,11 +20,11 @@ use Rattle.link_program.specs.declared.keys.GotKey.TheVariants as cells
 use Rattle.link_program.specs.declared.keys.GlobalKey.{GlobalKey}
 use Rattle.link_program.specs.declared.keys.GlobalKey.TheVariants as globals
 use Rattle.link_program.specs.Keys.{told_import, told_function, told_got, told_global, same_function_key, same_got_key, same_global_key}
-use Rattle.link_numbers.specs.Codes.{same_code, function_code, got_code, global_code}
+use Rattle.link_keys.specs.Codes.{same_code, function_code, got_code, global_code}
 use Rattle.link_numbers.specs.Knows.{KnowsFunction, KnowsGot, KnowsGlobal}
-use Rattle.link_numbers.proofs.Equals.{same_numbers}
-use Rattle.link_numbers.proofs.Heard.{same_got_code}
-use Rattle.link_numbers.proofs.Imports.{import_equal, import_itself, name_equal, name_itself}
+use Rattle.link_keys.proofs.Equals.{same_numbers}
+use Rattle.link_keys.proofs.Heard.{same_got_code}
+use Rattle.link_keys.proofs.Imports.{import_equal, import_itself, name_equal, name_itself}
 
 -- ---- codes
 

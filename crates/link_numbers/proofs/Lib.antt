@@ -1,23 +1,9 @@
-pub mod Steps
-pub mod Positions
-pub mod Equals
-pub mod ToldLists
-pub mod Flags
-pub mod Heard
-pub mod Any
-pub mod LiveTold
-pub mod Imports
-pub mod Known
 pub mod Knows
-pub mod ImportsTold
-pub mod StubsTold
 pub mod KeysTold
-pub mod Onto
-pub mod TypesFolded
-pub mod FirstsTold
 pub mod Coded
 pub mod TypesTold
 pub mod Whole
 pub mod PlaceSteps
 pub mod Begun
 pub mod Composed
+pub use Rattle.link_keys.proofs as link_keys_lemmas

@@ -6,10 +6,10 @@ use Rattle.std.proofs.lemmas.Bool.Decides.{nat_tests}
 use Rattle.std.proofs.lemmas.List.{take_more, length-take-le}
 use Rattle.std.proofs.Math.Seq.{take-length}
 use Rattle.std.proofs.lemmas.List.Folds.{list_any-append}
-use Rattle.link_numbers.specs.declared.codes.Code.{Code}
-use Rattle.link_numbers.specs.Codes.{same_code}
+use Rattle.link_keys.specs.declared.codes.Code.{Code}
+use Rattle.link_keys.specs.Codes.{same_code}
 use Rattle.link_numbers.specs.Places.{place_of, noted_place}
-use Rattle.link_numbers.proofs.Positions.{position_stays, position_last, position_none, position_first, position_next}
+use Rattle.link_keys.proofs.Positions.{position_stays, position_last, position_none, position_first, position_next}
 
 code_equal : (x y : Code) → same_code x y ≡ true → x ≡ y
 code_equal x y e = let a : x.kind ≡ y.kind = grind (arith, nat_tests) in let b : x.input ≡ y.input = grind (arith, nat_tests) in let d : x.index ≡ y.index = grind (arith, nat_tests) in

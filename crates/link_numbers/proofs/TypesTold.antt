@@ -22,16 +22,16 @@ use Rattle.link_program.specs.link_rules.Keys as keys
 use Rattle.link_program.specs.link_rules.Keys.{outside, linker_function, stub, own, function_type_of, content_type, entry_type, part_type, is_function_at, type_of, made_function_key, own_function_key}
 use Rattle.link_program.specs.declared.program.Tables.{Tables}
 use Rattle.link_program.specs.Program.{AreTables, ChunksDiffer}
-use Rattle.link_numbers.specs.declared.firsts.At.{At}
+use Rattle.link_keys.specs.declared.firsts.At.{At}
 use Rattle.link_program.specs.Look.{part_at}
-use Rattle.link_numbers.specs.Noted.{where_so}
-use Rattle.link_numbers.specs.Lists.{is_own, chunk_at}
-use Rattle.link_numbers.specs.Types.{kept_type, content_type_at, type_by, type_in, own_types, symbol_type, first_type}
-use Rattle.link_numbers.proofs.Equals.{Holds, stands, number_is}
-use Rattle.link_numbers.proofs.FirstsTold.{AreFirsts, least_of}
-use Rattle.link_numbers.proofs.Imports.{import_equal, import_itself, name_equal, name_itself, both}
+use Rattle.link_keys.specs.Noted.{where_so}
+use Rattle.link_keys.specs.Lists.{is_own, chunk_at}
+use Rattle.link_keys.specs.Types.{kept_type, content_type_at, type_by, type_in, own_types, symbol_type, first_type}
+use Rattle.link_keys.proofs.Equals.{Holds, stands, number_is}
+use Rattle.link_keys.proofs.FirstsTold.{AreFirsts, least_of}
+use Rattle.link_keys.proofs.Imports.{import_equal, import_itself, name_equal, name_itself, both}
 use Rattle.link_numbers.proofs.KeysTold.{given_told, and_swap}
-use Rattle.link_numbers.proofs.LiveTold.{chunk_is, content_is, given_told as parts_told}
+use Rattle.link_keys.proofs.LiveTold.{chunk_is, content_is, given_told as parts_told}
 
 -- ---- imports
 

@@ -31,30 +31,30 @@ use Rattle.link_program.specs.Keys.{told_function, told_got, told_global, same_f
 use Rattle.link_program.specs.Stand.{PartsStand}
 use Rattle.link_program.specs.Program.{AreTables}
 use Rattle.link_program.specs.Live.{AllMeant}
-use Rattle.link_numbers.specs.declared.firsts.At.{At}
-use Rattle.link_numbers.specs.Codes.{same_code, function_code}
+use Rattle.link_keys.specs.declared.firsts.At.{At}
+use Rattle.link_keys.specs.Codes.{same_code, function_code}
 use Rattle.link_program.specs.Look.{part_at}
-use Rattle.link_numbers.specs.LiveRefs.{live_refs, window_numbers}
-use Rattle.link_numbers.specs.Noted.{Noted, flagged, noted_parts, nothing_noted}
-use Rattle.link_numbers.specs.Lists.{chunk_at, function_imports, global_imports, stubs_listed, own_functions, own_globals, own_function_in, own_global_in, functions_listed, slots_listed, globals_listed, datum_listed}
-use Rattle.link_numbers.specs.Firsts.{firsts_rows}
-use Rattle.link_numbers.specs.Types.{TypeLists, type_at, kept_type, first_type, own_types, stub_types, import_types, type_number_in, with_numbered, with_windows, no_types, types_listed}
+use Rattle.link_keys.specs.LiveRefs.{live_refs, window_numbers}
+use Rattle.link_keys.specs.Noted.{Noted, flagged, noted_parts, nothing_noted}
+use Rattle.link_keys.specs.Lists.{chunk_at, function_imports, global_imports, stubs_listed, own_functions, own_globals, own_function_in, own_global_in, functions_listed, slots_listed, globals_listed, datum_listed}
+use Rattle.link_keys.specs.Firsts.{firsts_rows}
+use Rattle.link_keys.specs.Types.{TypeLists, type_at, kept_type, first_type, own_types, stub_types, import_types, type_number_in, with_numbered, with_windows, no_types, types_listed}
 use Rattle.link_numbers.specs.Knows.{KnowsFunction, KnowsGot, KnowsGlobal}
 use Rattle.link_numbers.specs.Laws.{TellsNumbers, KnowsRef}
 use Rattle.link_numbers.specs.Numbered.{Numbered, numbered, IsNumbering}
-use Rattle.link_numbers.proofs.Any.{all_map, all_filter, all_filtered, all_each, all_none}
-use Rattle.link_numbers.proofs.Equals.{OnePlace, one_place, holds_at}
-use Rattle.link_numbers.proofs.FirstsTold.{AreFirsts, all_noted as firsts_noted}
-use Rattle.link_numbers.proofs.Heard.{NotedAre, all_noted, import_asked, stub_asked, slot_asked, cell_asked}
-use Rattle.link_numbers.proofs.Imports.{import_equal, import_itself, name_equal, name_itself, both}
-use Rattle.link_numbers.proofs.ImportsTold.{kept_imports, function_imports_told, global_imports_told}
+use Rattle.link_keys.proofs.Any.{all_map, all_filter, all_filtered, all_each, all_none}
+use Rattle.link_keys.proofs.Equals.{OnePlace, one_place, holds_at}
+use Rattle.link_keys.proofs.FirstsTold.{AreFirsts, all_noted as firsts_noted}
+use Rattle.link_keys.proofs.Heard.{NotedAre, all_noted, import_asked, stub_asked, slot_asked, cell_asked}
+use Rattle.link_keys.proofs.Imports.{import_equal, import_itself, name_equal, name_itself, both}
+use Rattle.link_keys.proofs.ImportsTold.{kept_imports, function_imports_told, global_imports_told}
 use Rattle.link_numbers.proofs.KeysTold.{taken_functions, taken_told, read_cells, cells_told, cells_once, made_functions_told, own_functions_told, made_globals_told, own_globals_told, data_told, slots_told, all_taken_known, all_cells_known, ref_function_known, ref_got_known}
-use Rattle.link_numbers.proofs.Known.{KnownMeaning, KnownRef, all_known}
+use Rattle.link_keys.proofs.Known.{KnownMeaning, KnownRef, all_known}
 use Rattle.link_numbers.proofs.Knows.{tells_function, tells_global}
-use Rattle.link_numbers.proofs.ToldLists.{number_told}
-use Rattle.link_numbers.proofs.LiveTold.{told_refs, live_refs_told, windows_told_all, given_told, chunk_is}
-use Rattle.link_numbers.proofs.StubsTold.{later_names, names_in_order, called, held, one as names_one, stub_names_are, stubs_told, called_known}
-use Rattle.link_numbers.proofs.TypesFolded.{folded}
+use Rattle.link_keys.proofs.ToldLists.{number_told}
+use Rattle.link_keys.proofs.LiveTold.{told_refs, live_refs_told, windows_told_all, given_told, chunk_is}
+use Rattle.link_keys.proofs.StubsTold.{later_names, names_in_order, called, held, one as names_one, stub_names_are, stubs_told, called_known}
+use Rattle.link_keys.proofs.TypesFolded.{folded}
 use Rattle.link_numbers.proofs.TypesTold.{import_types_told, made_types, own_types_are, stub_types_told}
 
 -- a list that is mapped twice

@@ -1,10 +1,5 @@
-pub mod Codes
 pub mod Places
-pub mod LiveRefs
-pub mod Noted
-pub mod Lists
-pub mod Firsts
-pub mod Types
 pub mod Knows
 pub mod Numbered
 pub mod Laws
+pub use Rattle.link_keys.specs as link_keys

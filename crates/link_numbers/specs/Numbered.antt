@@ -16,10 +16,10 @@ use Rattle.link_program.specs.declared.keys.GlobalKey.{GlobalKey}
 use Rattle.link_program.specs.declared.keys.GlobalKey.TheVariants as globals
 use Rattle.link_program.specs.declared.program.Tables.{Tables}
 use Rattle.link_program.specs.Keys.{told_function, told_global}
-use Rattle.link_numbers.specs.Firsts.{firsts_rows}
-use Rattle.link_numbers.specs.Noted.{Noted, noted_parts, nothing_noted}
-use Rattle.link_numbers.specs.Lists.{functions_listed, slots_listed, globals_listed}
-use Rattle.link_numbers.specs.Types.{TypeLists, types_listed, type_number_in}
+use Rattle.link_keys.specs.Firsts.{firsts_rows}
+use Rattle.link_keys.specs.Noted.{Noted, noted_parts, nothing_noted}
+use Rattle.link_keys.specs.Lists.{functions_listed, slots_listed, globals_listed}
+use Rattle.link_keys.specs.Types.{TypeLists, types_listed, type_number_in}
 
 -- The functions of the output, imports first, those that have slots, by rising number, and the number of the first slot; the globals,
 -- imports first; the types. Then for each function the number of its type, and for each type of the program its number.

@@ -1,8 +1,8 @@
 -- The first places of codes.
 use Rattle.std.specs.Prelude.{◌≡◌, ℕ, Bool, List, Option, Some, None, position, if◌then◌else◌}
 use Rattle.indexmap.specs.IndexMap.{IndexMap, get}
-use Rattle.link_numbers.specs.Codes.{same_code}
-use Rattle.link_numbers.specs.declared.codes.Code.{Code}
+use Rattle.link_keys.specs.Codes.{same_code}
+use Rattle.link_keys.specs.declared.codes.Code.{Code}
 use Rattle.link_numbers.specs.declared.places.Places.{Places}
 
 -- The place of a code among the codes; the first one, where it stands there twice.

@@ -1,5 +1,5 @@
 //! The numbers of the live parts of a program.
-ghost use Rattle.std.specs.Prelude.{◌≡◌, ◌+◌, ◌<◌, ◌^◌, List, map, length, replicate, None, IfOk};
+ghost use Rattle.std.specs.Prelude.{◌≡◌, ◌+◌, ◌<◌, ◌^◌, List, map, length, IfOk};
 ghost use Rattle.link_program.specs.index_layout.Numbers.{number_by};
 ghost use Rattle.link_program.specs.made_symbols.declared.mode.Mode.TheVariants as modes;
 ghost use Rattle.link_program.specs.name_entries.Fits.{FitsObjects, Fits};
@@ -10,21 +10,18 @@ ghost use Rattle.link_program.specs.Keys.{same_function_key};
 ghost use Rattle.link_program.specs.Program.{IsProgram};
 ghost use Rattle.link_program.specs.Stand.{PartsStand};
 ghost use Rattle.link_program.specs.Live.{AreLive, AllMeant};
-ghost use Rattle.link_numbers.specs.Codes.{function_code, global_code};
+ghost use Rattle.link_keys.specs.Codes.{function_code, global_code};
 ghost use Rattle.link_numbers.specs.Places.{ArePlaces};
-ghost use Rattle.link_numbers.specs.Firsts.{firsts_rows};
-ghost use Rattle.link_numbers.specs.Lists.{slots_listed};
-ghost use Rattle.link_numbers.specs.Types.{type_number_in, types_listed};
+ghost use Rattle.link_keys.specs.Lists.{slots_listed};
+ghost use Rattle.link_keys.specs.Types.{type_number_in};
 ghost use Rattle.link_numbers.specs.Numbered.{Linked, IsNumbering, TellsOverflow, numbered_by, numbered};
 
-use crate::firsts::firsts_of;
-use crate::function_code;
-use crate::lists::{function_codes, functions_listed, global_codes, globals_listed, slots_listed};
-use crate::marking::marks_of;
-use crate::marks::Marks;
 use crate::numbering::Numbering;
 use crate::places::Places;
-use crate::types::{TypeNumbers, numbers_in, types_of};
+use link_keys::{
+    Marks, TypeNumbers, function_code, function_codes, functions_listed, global_codes,
+    globals_listed, marks_of, numbers_in, slots_taken, types_told,
+};
 use link_program::{Entries, FunctionKey, GlobalKey, Program, Winner};
 use std::alloc::Global;
 use wasm_types::FuncType;
@@ -88,7 +85,7 @@ fn places_of_globals(alloc: Global, keys: &[GlobalKey]) -> Result<Places, OutOfM
 }
 
 /// The numbers by these lists of keys, by the types of the functions, and by those that the program knows.
-#[tactic(auto, using(crate::proofs::Steps::longer))]
+#[tactic(auto, using(link_keys::proofs::Steps::longer))]
 pub(crate) fn numbering_of(
     alloc: Global,
     functions: Vec<FunctionKey>,
@@ -117,7 +114,7 @@ pub(crate) fn numbering_of(
         functions.as_slice(),
         slots.as_slice(),
     )?;
-    let TypeNumbers { mut table, numbers } = types;
+    let (mut table, numbers) = types.into_parts();
     let type_count = table.types().len();
     let type_numbers = numbers_in(alloc, &mut table, known)?;
     Ok(Numbering {
@@ -146,27 +143,9 @@ fn slots_of(
     ensures few { IfOk result (λ slots. 1 + length slots.items < 2 ^ 32) }
     ensures table { TellsOverflow result (table_overflow 1 (length (slots_listed marks.now.taken functions.now))) }
 {
-    let slots = slots_listed(alloc, &marks.taken, functions)?;
+    let slots = slots_taken(alloc, marks, functions)?;
     check_slots(slots.len())?;
     Ok(slots)
-}
-
-/// The types, by the least entries of the names.
-fn types_told(
-    alloc: Global,
-    program: Program<'_>,
-    entries: Entries<'_>,
-    live: &[u32],
-    marks: &Marks,
-) -> Result<TypeNumbers, OutOfMemory>
-    requires fits { FitsObjects entries }
-    requires rows { length program.names.now.symbols ≡ length entries.objects.now }
-    ensures { IfOk result (λ types. types ≡ types_listed program.entry.resolution.now.imports (length program.entry.names.now.names)
-        program.entry.tables.now entries.entry.objects.now (firsts_rows 0 (replicate (length program.entry.names.now.names) None)
-        program.entry.names.now.symbols) live.now marks.now) }
-{
-    let firsts = firsts_of(alloc, program.names, entries.count())?;
-    types_of(alloc, program, entries, live, marks, firsts.as_slice())
 }
 
 /// The numbers by what the live parts ask for.

@@ -5,7 +5,7 @@ ghost use Rattle.link_program.specs.Keys.{same_function_key, same_global_key};
 ghost use Rattle.link_numbers.specs.Numbered.{is_import, is_import_global};
 
 use crate::places::Places;
-use crate::{function_code, global_code};
+use link_keys::{function_code, global_code};
 use link_program::{FunctionKey, GlobalKey};
 use std::marker::Model;
 use type_merge::TypeTable;
@@ -38,7 +38,7 @@ impl Model for Numbering {
     ghost use Rattle.std.specs.Prelude.{◌≡◌, ◌+◌, ◌<◌, ◌≤◌, ◌^◌, map, take, length};
     ghost use Rattle.link_program.specs.index_layout.Numbers.{number_by};
     ghost use Rattle.link_program.specs.Keys.{same_function_key};
-    ghost use Rattle.link_numbers.specs.Codes.{function_code, global_code};
+    ghost use Rattle.link_keys.specs.Codes.{function_code, global_code};
     ghost use Rattle.link_numbers.specs.Numbered.{Numbered};
     ghost use Rattle.link_numbers.specs.Places.{ArePlaces};
 

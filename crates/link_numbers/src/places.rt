@@ -1,12 +1,12 @@
 //! Codes by place.
 ghost use Rattle.std.specs.Prelude.{◌≡◌, List, unwrap_or, IfOk, OnOk};
-ghost use Rattle.link_numbers.specs.declared.codes.Code.{Code as Item};
+ghost use Rattle.link_keys.specs.declared.codes.Code.{Code as Item};
 ghost use Rattle.indexmap.specs.IndexMap.{get};
-ghost use Rattle.link_numbers.specs.Codes.{same_code};
+ghost use Rattle.link_keys.specs.Codes.{same_code};
 ghost use Rattle.link_numbers.specs.Places.{place_of, noted_place, ArePlaces};
 
-use crate::Code;
 use indexmap::IndexMap;
+use link_keys::Code;
 use std::alloc::Global;
 use wl_base::OutOfMemory;
 

@@ -8,7 +8,7 @@ use name_meanings::Resolution;
 use symbol_race::Winners;
 use wasm_types::FuncType;
 use wl_base::Seq;
-use wl_lists::Lists;
+use wl_rows::Rows;
 
 /// What is looked up of a program.
 #[derive(Drop)]
@@ -20,7 +20,7 @@ pub struct Tables {
     /// The kept parts: the linker's own, then those of each object: its functions, its segments, its globals.
     pub parts: Seq<Part>,
     /// What each part names, by rising place.
-    pub named: Lists<Named>,
+    pub named: Rows<Named>,
     /// The function types that parts have and name.
     pub types: Seq<FuncType>,
     /// The chunk of each part; its number is the place of the part.

@@ -45,7 +45,7 @@ pub(crate) fn meanings_of<G: Gate, R: Threads + Sync>(
     let ranks = name_winners(rt, alloc, view, Mode::Plain, workers, gate)?;
     refuse_cases(rt, alloc, view, workers)?;
     let resolution = resolve(alloc, view, &ranks, plan.allow_undefined, Mode::Plain)?;
-    let tables = tables_of(alloc, view, &ranks, &resolution, homes)?;
+    let tables = tables_of(rt, alloc, view, &ranks, &resolution, homes, workers)?;
     Ok(Meanings {
         ranks,
         resolution,

@@ -1,26 +1,20 @@
 -- Parts grow, and their chunks differ.
 use Rattle.std.proofs.Common.{◌≡◌, ◌⊎◌, ℕ, zero, suc, ◌+◌, ◌^◌, ◌<◌, ◌≤◌, Bool, ◌∙◌, List, [], ◌∷◌, ◌++◌, refl, ap, sym, subst, arith, Option, Some, None, length, length-take-le, get_or, take, inl, inr}
 use Rattle.std.specs.Prelude.{slice_get, map, filter}
-use Rattle.std.specs.List.{All}
 use Rattle.std.proofs.lemmas.List.{map-append, take_more}
 use Rattle.std.proofs.lemmas.List.Elements.{All-append, All-cons, All-nil, filter-append}
 use Rattle.std.proofs.lemmas.Option.{same_Some, slice_get_within, get_or_from_slice_get}
 use Rattle.link_program.specs.mark_bits.declared.chunk.Chunk.{Chunk}
 use Rattle.link_program.specs.mark_bits.Chunks.{Differ, Lacks}
-use Rattle.link_program.specs.object_file.declared.object.Object.{Object}
 use Rattle.link_program.specs.made_symbols.Made.{MadeSymbol}
-use Rattle.link_program.specs.name_entries.View.{InputsRise}
 use Rattle.link_program.specs.link_rules.Program.{indexed, option_onto}
 use Rattle.link_program.specs.declared.named.Named.{Named}
-use Rattle.program_tables.specs.declared.parts.AllParts.{AllParts}
+use Rattle.program_tables.specs.declared.pieces.Piece.{Piece}
 use Rattle.program_tables.specs.Rows.{Row, made_row, made_rows}
-use Rattle.program_tables.specs.Gains.{AreGained, Gains, rank_of, AllBelow, AllMade}
+use Rattle.program_tables.specs.Gains.{AreGained, Gains}
 use Rattle.program_tables.proofs.Lists.{at_take, indexed_append}
 
 -- ---- chunks
-
-pub below_later : (chunks : List Chunk) (m n : ℕ) → m ≤ n → AllBelow m chunks → AllBelow n chunks
-below_later chunks m n le all = λ k d lt. let first = all k d lt in omega arith
 
 last_or : (cs : List Chunk) (c : Chunk) (j : ℕ) (x : Chunk) → slice_get (cs ++ c ∷ []) j ≡ Some x → (slice_get cs j ≡ Some x) ⊎ ((j ≡ length cs) × (x ≡ c))
 last_or [] c zero x at = inr (refl, sym (same_Some c x at))
@@ -37,15 +31,6 @@ differ_more cs c differ lack j k x at_j at_k = by (last_or cs c j x at_j) (last_
     by (inr a) (inl b) = absurd (lack k (b ∙ ap Some a.1))
     by (inr a) (inr b) = a.0 ∙ sym b.0
 
-pub differ_new : (old new : List Chunk) (c : Chunk) → new ≡ old ++ c ∷ [] → Lacks old c → Differ old → Differ new
-differ_new old new c is lack differ = subst Differ (sym is) (differ_more old c differ lack)
-
--- The inputs of the objects rise, and are above those of the chunks.
-pub record RiseFrom (chunks : List Chunk) (objects : List Object) : Type 0 where
-  pub last : ℕ
-  pub below : AllBelow (rank_of (last + 1) 0 0) chunks
-  pub rise : InputsRise last objects
-
 -- ---- rows
 
 assoc : {A : Type 0} (xs ys zs : List A) → xs ++ (ys ++ zs) ≡ (xs ++ ys) ++ zs
@@ -56,18 +41,16 @@ more : {A : Type 0} (f : Row → A) (xs ys : List Row) (a b c : List A) → b �
 more f xs ys a b c first second =
     second ∙ ap (λ l. l ++ map f ys) first ∙ sym (assoc a (map f xs) (map f ys)) ∙ ap (λ l. a ++ l) (sym (map-append f xs ys))
 
-pub gains_more : (xs ys : List Row) (a b c : AllParts) → Gains xs a b → Gains ys b c → Gains (xs ++ ys) a c
+pub gains_more : (xs ys : List Row) (a b c : Piece) → Gains xs a b → Gains ys b c → Gains (xs ++ ys) a c
 gains_more xs ys a b c first second = record {
   parts = more (λ row. row.part) xs ys a.parts b.parts c.parts first.parts second.parts;
   named = more (λ row. row.named) xs ys a.named b.named c.named first.named second.named;
-  chunks = more (λ row. row.part.chunk) xs ys a.chunks b.chunks c.chunks first.chunks second.chunks;
 }
 
-pub gained_more : (xs ys : List Row) (a b : AllParts) → AreGained xs a → Gains ys a b → AreGained (xs ++ ys) b
+pub gained_more : (xs ys : List Row) (a b : Piece) → AreGained xs a → Gains ys a b → AreGained (xs ++ ys) b
 gained_more xs ys a b first second = record {
   parts = more (λ row. row.part) xs ys [] a.parts b.parts first.parts second.parts;
   named = more (λ row. row.named) xs ys [] a.named b.named first.named second.named;
-  chunks = more (λ row. row.part.chunk) xs ys [] a.chunks b.chunks first.chunks second.chunks;
 }
 
 -- one item more of those with places

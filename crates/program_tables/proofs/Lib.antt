@@ -17,3 +17,5 @@ pub mod Defining
 pub mod Calling
 pub mod Turning
 pub mod Spread
+pub mod Joined
+pub mod Differing

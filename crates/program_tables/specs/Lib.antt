@@ -6,4 +6,5 @@ pub mod Types
 pub mod Views
 pub mod Rows
 pub mod Gains
+pub mod Pieces
 pub mod Inits

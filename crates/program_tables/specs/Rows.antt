@@ -108,6 +108,11 @@ abbrev pub rows_upto : Lookups → ℕ → List Row
 rows_upto l zero = []
 rows_upto l (suc n) = rows_upto l n ++ rows_of_view (view_at l n)
 
+-- Those of so many objects from one on.
+abbrev pub rows_from : Lookups → ℕ → ℕ → List Row
+rows_from l from zero = []
+rows_from l from (suc n) = rows_from l from n ++ rows_of_view (view_at l (from + n))
+
 -- The kept parts of all objects: the linker's own by number, then those of each object.
 abbrev pub all_rows : Lookups → List Row
 all_rows l = made_rows (call_names l) 0 (made Plain) ++ rows_upto l (length l.entries.objects.now)

@@ -4,8 +4,11 @@
 
 mod definitions;
 mod inits;
+mod joining;
+mod making;
 mod objects;
 mod parts;
+mod pieces;
 mod pushing;
 mod symbols;
 mod tables;

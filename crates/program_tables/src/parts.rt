@@ -1,318 +1,112 @@
 //! The kept parts and what they name.
-ghost use Rattle.std.specs.Prelude.{◌≡◌, ◌-◌, ◌+◌, ◌∷◌, ◌<◌, ◌^◌, [], length, filter, OnOk, IfOk};
-ghost use Rattle.link_program.specs.made_symbols.declared.mode.Mode.TheVariants as modes;
-ghost use Rattle.link_program.specs.made_symbols.Made.{made, made_at};
-ghost use Rattle.link_program.specs.mark_bits.Chunks.{Differ, Lacks};
-ghost use Rattle.link_program.specs.object_columns.Seen.{function_seen, segment_seen};
-ghost use Rattle.link_program.specs.link_rules.Program.{indexed, option_onto, made_kind};
+ghost use Rattle.std.specs.Prelude.{◌≡◌, ◌-◌, ◌<◌, ◌^◌, length, map, IfOk};
+ghost use Rattle.link_program.specs.mark_bits.Chunks.{Differ};
 ghost use Rattle.link_program.specs.name_entries.Fits.{FitsObjects};
-ghost use Rattle.program_tables.specs.Views.{view_seen};
-ghost use Rattle.program_tables.specs.Rows.{function_row, segment_row, global_row, keeps_row, rows_in, made_row, made_rows, all_rows};
-ghost use Rattle.program_tables.specs.Gains.{Gains, AreGained, rank_of, AllBelow, AllMade};
+ghost use Rattle.program_tables.specs.Rows.{all_rows};
+ghost use Rattle.program_tables.specs.Gains.{AreAll};
+ghost use Rattle.wl_rows.specs.Ranges.{AreRanges};
 
 use crate::inits::init_calls;
-use crate::view::{Lookups, NO_SOURCE, ObjectView};
-use link_program::{Content, FunctionRef, GlobalDef, Named, Part, SegmentRef};
-use linking_section::SymbolKind;
-use made_symbols::{Mode, count, kind};
-use mark_bits::{Chunk, ChunkTable, kinds as chunk_kinds};
+use crate::joining::{Joined, are_whole, put_together};
+use crate::making::made_pieces;
+use crate::pieces::Piece;
+use crate::view::Lookups;
+use link_program::{Named, Object, Part};
+use mark_bits::ChunkTable;
 use std::alloc::Global;
+use std::thread::Threads;
 use wl_base::{OutOfMemory, Seq};
-use wl_lists::{Lists, shrunk};
+use wl_fan::Workers;
+use wl_lists::shrunk;
+use wl_rows::{Ranges, Rows};
+
+/// So many parts, which name some 20 symbols each, are worth a thread: starting one costs 15 to 40 microseconds.
+const GRAIN: usize = 1 << 12;
 
 /// Parts, and by part what it names and its chunk.
 #[derive(Drop)]
 pub(crate) struct AllParts {
     pub(crate) parts: Seq<Part>,
-    pub(crate) named: Lists<Named>,
+    pub(crate) named: Rows<Named>,
     pub(crate) chunks: ChunkTable,
 }
 
-/// How many there are; 2^32 or more are answered as want of memory.
-fn few(count: usize) -> Result<u32, OutOfMemory>
-    ensures { IfOk result (λ few. few ≡ count) }
+/// How many parts an object has at most, but for its globals, which are few.
+fn parts_in(from: &Object) -> usize {
+    from.functions.len().saturating_add(from.segments.len())
+}
+
+/// How many parts objects have at most, but for their globals, as far as a number holds it.
+fn count_parts(objects: &[Object]) -> usize {
+    let mut parts = 0usize;
+    for from in objects {
+        parts = parts.saturating_add(parts_in(from));
+    }
+    parts
+}
+
+/// How many parts a worker has at least, where there are so many workers.
+fn share_of(objects: &[Object], workers: usize) -> usize {
+    if workers <= 1 {
+        return 0;
+    }
+    (count_parts(objects) / workers).max(GRAIN)
+}
+
+/// The objects of each worker. One worker has all of them where they have few parts.
+fn ranges_for(alloc: Global, objects: &[Object], workers: Workers) -> Result<Ranges, OutOfMemory>
+    ensures ranges { IfOk result (λ r. AreRanges 63 r.cuts r.count) }
+    ensures count { IfOk result (λ r. r.count ≡ length objects.now) }
 {
-    match u32::try_from(count) {
-        Ok(few) => Ok(few),
-        Err(_) => Err(OutOfMemory),
+    let workers = workers.count() as usize;
+    let share = share_of(objects, workers);
+    let mut ranges = Ranges::new(alloc);
+    for from in objects {
+        ranges.add(parts_in(from), share, workers - 1)?;
     }
+    Ok(ranges)
 }
 
-/// The kind of chunk that a linker-made symbol is. The linker's data and its table are no chunks.
-fn made_kind(kind: SymbolKind) -> Option<u8>
-    ensures { result ≡ made_kind kind }
+/// The chunk of each part, which no other part has.
+fn chunks_of(alloc: Global, parts: &[Part]) -> Result<ChunkTable, OutOfMemory>
+    requires { Differ (map (λ part. part.chunk) parts.now) }
+    ensures chunks { IfOk result (λ chunks. chunks ≡ map (λ part. part.chunk) parts.now) }
+    ensures few { IfOk result (λ chunks. length chunks < 2 ^ 32 - 1) }
 {
-    match kind {
-        SymbolKind::Function => Some(chunk_kinds::FUNCTION),
-        SymbolKind::GlobalVar => Some(chunk_kinds::GLOBAL),
-        SymbolKind::Datum | SymbolKind::Section | SymbolKind::Table => None,
+    if parts.len() >= u32::MAX as usize {
+        return Err(OutOfMemory);
     }
+    let mut chunks = ChunkTable::new(alloc);
+    for part in parts {
+        chunks.add(part.chunk)?;
+    }
+    Ok(chunks)
 }
 
-impl AllParts {
-    fn new(alloc: Global) -> AllParts
-        ensures parts { result.parts ≡ [] }
-        ensures named { result.named ≡ [] }
-        ensures chunks { result.chunks ≡ [] }
-        ensures differ { Differ result.chunks }
-    {
-        AllParts {
-            parts: Seq::new(alloc),
-            named: Lists::new(alloc),
-            chunks: ChunkTable::new(alloc),
-        }
-    }
-
-    /// One part more, which names this.
-    fn add(&mut self, part: Part, named: &[Named]) -> Result<(), OutOfMemory>
-        requires { Lacks self.old.chunks part.chunk }
-        ensures gains { OnOk result (Gains (record { part = part; named = named.now } ∷ []) self.old self.new) }
-        ensures differ { OnOk result (Differ self.old.chunks → Differ self.new.chunks) }
-    {
-        if self.chunks.count() == u32::MAX {
-            return Err(OutOfMemory);
-        }
-        self.chunks.add(part.chunk)?;
-        self.parts.push(part)?;
-        self.named.push(named)?;
-        Ok(())
-    }
-
-    /// A function of an object, if it is kept. The row is room for what it names.
-    fn add_function(
-        &mut self,
-        row: &mut Seq<Named>,
-        view: ObjectView<'_>,
-        index: u32,
-        function: FunctionRef<'_>,
-    ) -> Result<(), OutOfMemory>
-        requires few { view.first + length view.from.now.symbols < 2 ^ 32 }
-        requires below { AllBelow (rank_of view.from.now.input 0 index) self.old.chunks }
-        ensures gains { OnOk result (Gains (filter (keeps_row (view_seen view.entry))
-            (function_row (view_seen view.entry) index (function_seen function.entry) ∷ [])) self.old self.new) }
-        ensures below { OnOk result (AllBelow (rank_of view.entry.from.now.input 0 (index + 1)) self.new.chunks) }
-        ensures differ { OnOk result (Differ self.old.chunks → Differ self.new.chunks) }
-    {
-        if !view.keeps_function(index) {
-            return Ok(());
-        }
-        view.name_operands(row, function.operands)?;
-        let part = Part {
-            chunk: Chunk {
-                input: view.from.input,
-                kind: chunk_kinds::FUNCTION,
-                index,
-            },
-            content: Content::Function(view.type_number(function.type_index)),
-            source: view.source(function.span)?,
-        };
-        self.add(part, row.as_slice())
-    }
-
-    /// The kept functions of an object.
-    fn add_functions(
-        &mut self,
-        row: &mut Seq<Named>,
-        view: ObjectView<'_>,
-    ) -> Result<(), OutOfMemory>
-        requires few { view.first + length view.from.now.symbols < 2 ^ 32 }
-        requires below { AllBelow (rank_of view.from.now.input 0 0) self.old.chunks }
-        ensures gains { OnOk result (Gains (filter (keeps_row (view_seen view.entry))
-            (indexed (function_row (view_seen view.entry)) 0 view.entry.from.now.functions)) self.old self.new) }
-        ensures below { OnOk result (AllBelow (rank_of view.entry.from.now.input 1 0) self.new.chunks) }
-        ensures differ { OnOk result (Differ self.old.chunks → Differ self.new.chunks) }
-    {
-        for index in 0..few(view.from.functions.len())? {
-            let Some(function) = view.from.functions.get(index as usize) else {
-                unreachable!()
-            };
-            self.add_function(row, view, index, function)?;
-        }
-        Ok(())
-    }
-
-    /// A segment of an object, if it is kept. The row is room for what it names.
-    fn add_segment(
-        &mut self,
-        row: &mut Seq<Named>,
-        view: ObjectView<'_>,
-        index: u32,
-        segment: SegmentRef<'_>,
-    ) -> Result<(), OutOfMemory>
-        requires few { view.first + length view.from.now.symbols < 2 ^ 32 }
-        requires below { AllBelow (rank_of view.from.now.input 1 index) self.old.chunks }
-        ensures gains { OnOk result (Gains (filter (keeps_row (view_seen view.entry))
-            (segment_row (view_seen view.entry) index (segment_seen segment.entry) ∷ [])) self.old self.new) }
-        ensures below { OnOk result (AllBelow (rank_of view.entry.from.now.input 1 (index + 1)) self.new.chunks) }
-        ensures differ { OnOk result (Differ self.old.chunks → Differ self.new.chunks) }
-    {
-        if !view.keeps_segment(index) {
-            return Ok(());
-        }
-        view.name_windows(row, segment.windows)?;
-        let part = Part {
-            chunk: Chunk {
-                input: view.from.input,
-                kind: chunk_kinds::SEGMENT,
-                index,
-            },
-            content: Content::Segment {
-                align: segment.align,
-                flags: segment.flags,
-            },
-            source: view.source(segment.span)?,
-        };
-        self.add(part, row.as_slice())
-    }
-
-    /// The kept segments of an object.
-    fn add_segments(
-        &mut self,
-        row: &mut Seq<Named>,
-        view: ObjectView<'_>,
-    ) -> Result<(), OutOfMemory>
-        requires few { view.first + length view.from.now.symbols < 2 ^ 32 }
-        requires below { AllBelow (rank_of view.from.now.input 1 0) self.old.chunks }
-        ensures gains { OnOk result (Gains (filter (keeps_row (view_seen view.entry))
-            (indexed (segment_row (view_seen view.entry)) 0 view.entry.from.now.segments)) self.old self.new) }
-        ensures below { OnOk result (AllBelow (rank_of view.entry.from.now.input 2 0) self.new.chunks) }
-        ensures differ { OnOk result (Differ self.old.chunks → Differ self.new.chunks) }
-    {
-        for index in 0..few(view.from.segments.len())? {
-            let Some(segment) = view.from.segments.get(index as usize) else {
-                unreachable!()
-            };
-            self.add_segment(row, view, index, segment)?;
-        }
-        Ok(())
-    }
-
-    /// A global of an object.
-    fn add_global(
-        &mut self,
-        view: ObjectView<'_>,
-        index: u32,
-        global: &GlobalDef,
-    ) -> Result<(), OutOfMemory>
-        requires below { AllBelow (rank_of view.from.now.input 2 index) self.old.chunks }
-        ensures gains { OnOk result (Gains (filter (keeps_row (view_seen view.entry))
-            (global_row (view_seen view.entry) index global.now ∷ [])) self.old self.new) }
-        ensures below { OnOk result (AllBelow (rank_of view.entry.from.now.input 2 (index + 1)) self.new.chunks) }
-        ensures differ { OnOk result (Differ self.old.chunks → Differ self.new.chunks) }
-    {
-        let part = Part {
-            chunk: Chunk {
-                input: view.from.input,
-                kind: chunk_kinds::GLOBAL,
-                index,
-            },
-            content: Content::Global {
-                kind: global.kind,
-                value: global.value,
-            },
-            source: NO_SOURCE,
-        };
-        self.add(part, &[])
-    }
-
-    /// The globals of an object.
-    fn add_globals(&mut self, view: ObjectView<'_>) -> Result<(), OutOfMemory>
-        requires below { AllBelow (rank_of view.from.now.input 2 0) self.old.chunks }
-        ensures gains { OnOk result (Gains (filter (keeps_row (view_seen view.entry))
-            (indexed (global_row (view_seen view.entry)) 0 view.entry.from.now.globals)) self.old self.new) }
-        ensures below { OnOk result (AllBelow (rank_of (view.entry.from.now.input + 1) 0 0) self.new.chunks) }
-        ensures differ { OnOk result (Differ self.old.chunks → Differ self.new.chunks) }
-    {
-        for index in 0..few(view.from.globals.len())? {
-            let Some(global) = view.from.globals.get(index as usize) else {
-                unreachable!()
-            };
-            self.add_global(view, index, global)?;
-        }
-        Ok(())
-    }
-
-    /// The kept parts of an object: its functions, its segments and its globals, each by index.
-    fn add_object(&mut self, row: &mut Seq<Named>, view: ObjectView<'_>) -> Result<(), OutOfMemory>
-        requires few { view.first + length view.from.now.symbols < 2 ^ 32 }
-        requires below { AllBelow (rank_of view.from.now.input 0 0) self.old.chunks }
-        ensures gains { OnOk result (Gains (rows_in (view_seen view.entry)) self.old self.new) }
-        ensures below { OnOk result (AllBelow (rank_of (view.entry.from.now.input + 1) 0 0) self.new.chunks) }
-        ensures differ { OnOk result (Differ self.old.chunks → Differ self.new.chunks) }
-    {
-        self.add_functions(row, view)?;
-        self.add_segments(row, view)?;
-        self.add_globals(view)?;
-        Ok(())
-    }
-
-    /// A linker-made part, by its number, if it is a chunk. `calls` is what `__wasm_call_ctors` calls, whose number is 0.
-    fn add_made(&mut self, calls: &[Named], number: u32) -> Result<(), OutOfMemory>
-        requires number { number < length (made modes.Plain) }
-        requires before { AllMade number self.old.chunks }
-        ensures gains { OnOk result (Gains (option_onto (made_row calls.now number (made_at modes.Plain number).kind) []) self.old self.new) }
-        ensures made { OnOk result (AllMade (number + 1) self.new.chunks) }
-        ensures differ { OnOk result (Differ self.old.chunks → Differ self.new.chunks) }
-    {
-        let Some(kind) = made_kind(kind(Mode::Plain, number)) else {
-            return Ok(());
-        };
-        let part = Part {
-            chunk: Chunk {
-                input: 0,
-                kind,
-                index: number,
-            },
-            content: Content::Made,
-            source: NO_SOURCE,
-        };
-        let named = if kind == chunk_kinds::FUNCTION && number == 0 {
-            calls
-        } else {
-            &[]
-        };
-        self.add(part, named)
-    }
-
-    /// The linker-made parts by number.
-    fn of_made(alloc: Global, calls: &[Named]) -> Result<AllParts, OutOfMemory>
-        ensures parts { IfOk result (λ all. AreGained (made_rows calls.now 0 (made modes.Plain)) all) }
-        ensures below { IfOk result (λ all. AllBelow (rank_of 1 0 0) all.chunks) }
-        ensures differ { IfOk result (λ all. Differ all.chunks) }
-    {
-        let mut all = AllParts::new(alloc);
-        for number in 0..count(Mode::Plain) {
-            all.add_made(calls, number)?;
-        }
-        Ok(all)
-    }
-}
-
-/// The kept parts of all objects: the linker's own by number, then those of each object.
-pub(crate) fn all_parts(alloc: Global, lookups: Lookups<'_>) -> Result<AllParts, OutOfMemory>
+/// The kept parts of all objects: the linker's own by number, then those of each object. They are made by the workers, where there are many.
+pub(crate) fn all_parts<R: Threads + Sync>(
+    rt: &R,
+    alloc: Global,
+    lookups: Lookups<'_>,
+    workers: Workers,
+) -> Result<AllParts, OutOfMemory>
     requires { FitsObjects lookups.entries }
-    ensures parts { IfOk result (λ all. AreGained (all_rows lookups.entry) all) }
+    ensures parts { IfOk result (AreAll (all_rows lookups.entry)) }
     ensures few { IfOk result (λ all. length all.chunks < 2 ^ 32 - 1) }
     ensures differ { IfOk result (λ all. Differ all.chunks) }
 {
     let calls = init_calls(alloc, lookups)?;
-    let mut all = AllParts::of_made(alloc, calls.as_slice())?;
-    let mut row = Seq::new(alloc);
-    for object in 0..lookups.entries.count() {
-        let view = lookups.view(object)?;
-        all.add_object(&mut row, view)?;
-    }
-    if all.chunks.count() >= u32::MAX - 1 {
+    let made = Piece::of_made(alloc, calls.as_slice())?;
+    let ranges = ranges_for(alloc, lookups.entries.objects, workers)?;
+    let pieces = made_pieces(rt, alloc, lookups, &ranges, made)?;
+    if !are_whole(&pieces) {
         return Err(OutOfMemory);
     }
-    let AllParts {
-        parts,
-        named,
-        chunks,
-    } = all;
+    let Joined { parts, named } = put_together(alloc, pieces)?;
+    let chunks = chunks_of(alloc, parts.as_slice())?;
     Ok(AllParts {
         parts: shrunk(parts),
-        named: named.shrunk(),
+        named,
         chunks,
     })
 }

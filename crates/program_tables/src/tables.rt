@@ -18,20 +18,25 @@ use crate::view::Lookups;
 use crate::winners::all_winners;
 use link_program::{Entries, Home, Resolution, Tables};
 use std::alloc::Global;
+use std::thread::Threads;
 use symbol_race::Winners;
 use wl_base::OutOfMemory;
+use wl_fan::Workers;
 
 /// The tables of the program of these loaded objects, by the numbers of names and imports. `ranks` has the winner of each name,
 /// `resolution` what each symbol means, `homes` where the bytes of each candidate begin.
 ///
+/// The parts are made by the workers, where there are many; what is answered doesn't depend on their number.
 /// 2^32 symbols, or 2^32 - 1 parts, are answered as want of memory. `origin` is where the objects come from, by which the program is
 /// defined.
-pub fn tables_of(
+pub fn tables_of<R: Threads + Sync>(
+    rt: &R,
     alloc: Global,
     entries: Entries<'_>,
     ranks: &Winners,
     resolution: &Resolution,
     homes: &[Home],
+    workers: Workers,
 ) -> Result<Tables, OutOfMemory>
     ghost origin: { Origin }
     requires fits { Fits modes.Plain entries }
@@ -61,7 +66,7 @@ pub fn tables_of(
         parts,
         named,
         chunks,
-    } = all_parts(alloc, lookups)?;
+    } = all_parts(rt, alloc, lookups, workers)?;
     let AllTypes { types, numbers: _ } = kinds;
     Ok(Tables {
         symbols,

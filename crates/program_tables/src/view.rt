@@ -1,6 +1,5 @@
 //! What is looked up of an object when its parts are made.
 ghost use Rattle.std.specs.Prelude.{◌≡◌, ◌-◌, ◌+◌, ◌<◌, ◌^◌, [], length, slice_get, slice_index_or, option_map, Some, None, not, IfOk};
-ghost use Rattle.link_program.specs.name_entries.Fits.{FitsObjects};
 ghost use Rattle.link_program.specs.name_entries.Parts.{has_flag};
 ghost use Rattle.program_tables.specs.Views.{view_seen, view_at, keeps_function, type_from, source_from};
 
@@ -73,7 +72,7 @@ fn is_unset(flags: &Seq<bool>, at: usize) -> bool
 impl<'a> Lookups<'a> {
     /// An object by its place, if its last symbol has a number below 2^32.
     pub(crate) fn view(self, object: u32) -> Result<ObjectView<'a>, OutOfMemory>
-        requires fits { FitsObjects self.entries }
+        requires long { length self.entries.parts.now ≡ length self.entries.objects.now }
         requires there { object < length self.entries.objects.now }
         ensures view { IfOk result (λ view. view_at self.entry object ≡ Some (view_seen view)) }
         ensures few { IfOk result (λ view. view.first + length view.from.now.symbols < 2 ^ 32) }

@@ -16,6 +16,9 @@ const LEAST_PIECE: usize = 1 << 12;
 
 const PIECE: usize = 1 << 17;
 
+// So many bytes of a file's front are read at a time.
+const FRONT: usize = 16;
+
 /// The bytes of a file, or why there are none.
 pub type Loaded = Result<Vec<u8>, LoadFault>;
 
@@ -57,4 +60,28 @@ fn read_all<R: Read>(alloc: Global, len: usize, file: &mut R, piece: &mut Vec<u8
             .map_err(out_of_memory)?;
     }
     Err(LoadFault::Failed)
+}
+
+/// Whether the file of this path can be read and begins with these bytes.
+pub fn begins_with<R: Files>(rt: &R, name: &str, front: &[u8]) -> bool {
+    match fs::open(rt, name) {
+        Ok(mut file) => reads(&mut file, front),
+        Err(_) => false,
+    }
+}
+
+// Whether what is read are these bytes.
+fn reads<R: Read>(file: &mut R, mut front: &[u8]) -> bool {
+    let mut piece = [0; FRONT];
+    while !front.is_empty() {
+        let size = FRONT.min(front.len());
+        let Ok(count) = file.read(&mut piece[..size]) else {
+            return false;
+        };
+        if count == 0 || piece[..count] != front[..count] {
+            return false;
+        }
+        front = &front[count..];
+    }
+    true
 }

@@ -4,6 +4,7 @@ ghost use Rattle.std.specs.Prelude.{◌≡◌};
 
 use crate::ahead::Ahead;
 use crate::host_files::HostFiles;
+use driver_words::Finder;
 use std::alloc::Global;
 use wl_base::Seq;
 use wl_outside::{Failed, LoadFault, Shelf};
@@ -60,5 +61,15 @@ impl<R: HostFiles> Shelf for FileShelf<'_, R> {
                 Err(Failed)
             }
         }
+    }
+}
+
+impl<R: HostFiles> Finder for FileShelf<'_, R> {
+    fn holds(&self, name: &str) -> bool {
+        self.rt.is_there(name)
+    }
+
+    fn begins_with(&self, name: &str, front: &[u8]) -> bool {
+        self.rt.begins_with(name, front)
     }
 }

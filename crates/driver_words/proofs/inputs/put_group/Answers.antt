@@ -1,5 +1,5 @@
 use Rattle.std.proofs.Common.{map}
-use Rattle.driver_words.specs.Paths.{member_path}
+use Rattle.driver_texts.specs.Paths.{member_path}
 use Rattle.driver_words.proofs.Groups.{is_grouped}
 use Rattle.driver_words.proofs.inputs.put_group.Goals as goal
 

@@ -1,7 +1,7 @@
 use Rattle.std.proofs.Common.{◌≡◌, ℕ, List, Option, IsTrue, ap, ◌∙◌}
 use Rattle.std.proofs.lemmas.Result.{IfOk-weaker}
 use Rattle.driver_table.specs.Cut.{behind}
-use Rattle.driver_words.specs.Paths.{plain}
+use Rattle.driver_texts.specs.Paths.{plain}
 use Rattle.driver_words.specs.Start.{started}
 use Rattle.driver_words.specs.Inputs.{outcome, opened_of}
 use Rattle.driver_words.proofs.Worlds.{put_behind}

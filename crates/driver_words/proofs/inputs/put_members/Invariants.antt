@@ -1,5 +1,5 @@
 use Rattle.std.proofs.Common.{◌≡◌, ◌++◌, map, drop}
-use Rattle.driver_words.specs.Paths.{member_path}
+use Rattle.driver_texts.specs.Paths.{member_path}
 use Rattle.driver_words.proofs.inputs.put_members.Given as goal
 
 abbrev pub invariant-loop-name : goal.invariant-loop-name

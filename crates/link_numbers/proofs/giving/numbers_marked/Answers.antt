@@ -1,6 +1,6 @@
 use Rattle.std.proofs.Common.{length, Ok, Err, ap, ◌∙◌}
 use Rattle.std.proofs.lemmas.Result.{err_from_is_err_and}
-use Rattle.link_numbers.specs.Lists.{slots_listed}
+use Rattle.link_keys.specs.Lists.{slots_listed}
 use Rattle.link_numbers.specs.Numbered.{Numbered}
 use Rattle.link_numbers.proofs.Composed.{composed, slots_tell}
 use Rattle.link_numbers.proofs.giving.numbers_marked.Goals as goal

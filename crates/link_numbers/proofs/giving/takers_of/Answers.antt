@@ -1,10 +1,10 @@
 use Rattle.std.proofs.Common.{map, unwrap_or, ap, ◌∙◌}
 use Rattle.link_program.specs.index_layout.Numbers.{number_by}
 use Rattle.link_program.specs.Keys.{same_function_key}
-use Rattle.link_numbers.specs.Codes.{function_code}
+use Rattle.link_keys.specs.Codes.{function_code}
 use Rattle.link_numbers.specs.Places.{place_of}
 use Rattle.link_numbers.proofs.Coded.{function_coded}
-use Rattle.link_numbers.proofs.Steps.{maps_more}
+use Rattle.link_keys.proofs.Steps.{maps_more}
 use Rattle.link_numbers.proofs.giving.takers_of.Goals as goal
 
 pub loop-key-preserved : goal.loop-key-preserved

@@ -1,19 +1,38 @@
-use Rattle.program_tables.specs.Views.{view_seen}
-use Rattle.program_tables.proofs.Turning.{view_object, rows_more, rise_below, rise_more}
+use Rattle.std.proofs.Common.{◌≡◌, refl, ap, sym, subst, ◌∙◌}
+use Rattle.std.specs.Prelude.{map, slice_get}
+use Rattle.link_program.specs.mark_bits.Chunks.{Differ}
+use Rattle.link_program.specs.made_symbols.declared.mode.Mode.TheVariants.{Plain}
+use Rattle.link_program.specs.made_symbols.Made.{made}
+use Rattle.link_program.specs.declared.part.Part.{Part}
+use Rattle.program_tables.specs.Rows.{made_rows, all_rows}
+use Rattle.program_tables.specs.Gains.{AreGained}
+use Rattle.program_tables.proofs.Joined.{all_joined}
+use Rattle.program_tables.proofs.Differing.{parts_differ, chunks_are}
 use Rattle.program_tables.proofs.parts.all_parts.Goals as goal
 
-pub add_object-requires-clause-below : goal.add_object-requires-clause-below
-add_object-requires-clause-below c =
-    rise_below c.args.lookups.entries.objects.now c.loop-object.object c.in_ok-view.view.from.now c.loop-object.all
-    (view_object c.args.lookups c.loop-object.object (view_seen c.in_ok-view.view) c.in_ok-view.ensures.view) c.loop-object.invariant.rise
+pub chunks_of-requires : goal.chunks_of-requires
+chunks_of-requires g c =
+    let l = c.args.lookups in
+    let r = c.in_ok-ranges.ranges in
+    let gained = subst (λ calls. AreGained (made_rows calls 0 (made Plain)) c.in_ok-made.made) (c.as_slice.ensures ∙ c.in_ok-calls.ensures) c.in_ok-made.ensures in
+    let all = all_joined l r.cuts r.count c.in_ok-made.made c.in_ok-pieces.pieces.items c.in_ok-ranges.ensures.ranges.rising c.in_ok-ranges.ensures.count gained c.in_ok-pieces.ensures
+    (λ k p at. c.if-not-are_whole.ensures refl k p (ap (λ ps. slice_get ps k) c.deref.ensures.value ∙ at)) in
+    parts_differ l c.as_slice-2.result.now c.requires.inputs (c.as_slice-2.ensures ∙ c.in_ok-parts.ensures.parts ∙ all.0)
 
-pub loop-object-preserved : goal.loop-object-preserved
-loop-object-preserved c =
-    let n = c.loop-object.object in
-    let v = view_seen c.in_ok-view.view in
+pub returns : goal.returns
+returns g c =
+    let l = c.args.lookups in
+    let r = c.in_ok-ranges.ranges in
+    let gained = subst (λ calls. AreGained (made_rows calls 0 (made Plain)) c.in_ok-made.made) (c.as_slice.ensures ∙ c.in_ok-calls.ensures) c.in_ok-made.ensures in
+    let all = all_joined l r.cuts r.count c.in_ok-made.made c.in_ok-pieces.pieces.items c.in_ok-ranges.ensures.ranges.rising c.in_ok-ranges.ensures.count gained c.in_ok-pieces.ensures
+    (λ k p at. c.if-not-are_whole.ensures refl k p (ap (λ ps. slice_get ps k) c.deref.ensures.value ∙ at)) in
+    let parts = c.as_slice-2.ensures ∙ c.in_ok-parts.ensures.parts ∙ all.0 in
     record {
-      gained = rows_more c.args.lookups n v c.loop-object.all c.add_object.new.self c.in_ok-view.ensures.view c.loop-object.invariant.gained c.in_ok-add_object.ensures.gains;
-      rise = rise_more c.args.lookups.entries.objects.now n v.object c.loop-object.all c.add_object.new.self (view_object c.args.lookups n v c.in_ok-view.ensures.view) c.loop-object.invariant.rise
-          c.in_ok-add_object.ensures.below;
-      differ = c.in_ok-add_object.ensures.differ c.loop-object.invariant.differ;
+      parts = record {
+        parts = c.shrunk.ensures ∙ c.in_ok-parts.ensures.parts ∙ all.0;
+        named = c.in_ok-parts.ensures.named ∙ all.1;
+        chunks = c.in_ok-chunks.ensures.chunks ∙ chunks_are (all_rows l) c.as_slice-2.result.now parts;
+      };
+      few = c.in_ok-chunks.ensures.few;
+      differ = subst Differ (sym c.in_ok-chunks.ensures.chunks) (parts_differ l c.as_slice-2.result.now c.requires.inputs parts);
     }

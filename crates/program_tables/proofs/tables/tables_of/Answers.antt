@@ -1,4 +1,11 @@
-use Rattle.std.proofs.Common.{List, ℕ, subst, sym, refl, ◌∙◌}
+use Rattle.std.proofs.Common.{List, ℕ, subst, sym, refl, ◌∙◌, rules}
+use Rattle.link_program.specs.made_symbols.declared.mode.Mode.TheVariants.{Plain}
+use Rattle.link_program.specs.name_rules.Entries.{entries}
+use Rattle.link_program.specs.name_rules.Meanings.{resolve}
+use Rattle.link_program.specs.name_entries.View.{WinnersAre}
+use Rattle.link_program.specs.name_entries.Fits.{Fits}
+use Rattle.link_program.specs.name_meanings.Means.{IsResolution}
+use Rattle.link_program.specs.Loaded.{IsLoaded}
 use Rattle.link_program.specs.declared.program.Tables.{Tables}
 use Rattle.program_tables.specs.declared.symbols.Sources.{Sources}
 use Rattle.program_tables.specs.declared.view.Lookups.{Lookups}
@@ -9,14 +16,21 @@ use Rattle.program_tables.proofs.Together.{tables_are}
 use Rattle.program_tables.proofs.tables.tables_of.Goals as goal
 
 pub all_symbols-requires : goal.all_symbols-requires
-all_symbols-requires g c = record {
-  fits = c.requires.0.objects;
-  places = subst (ArePlaces c.args.entries.objects.now) (sym c.as_slice.ensures) c.in_ok-places.ensures;
-  answers = are_answered c.args.entries.objects.now g.origin.plan.allow_undefined c.args.resolution.now c.requires.0.objects.inputs c.requires.1.1.0;
-}
+all_symbols-requires g c =
+    let fits : Fits Plain c.args.entries = search rules in
+    let meant : IsResolution c.args.resolution.now (resolve Plain g.origin.plan.allow_undefined (entries Plain c.args.entries.objects.now) c.args.entries.objects.now) = search rules in
+    record {
+      fits = fits.objects;
+      places = subst (ArePlaces c.args.entries.objects.now) (sym c.as_slice.ensures) c.in_ok-places.ensures;
+      answers = are_answered c.args.entries.objects.now g.origin.plan.allow_undefined c.args.resolution.now fits.objects.inputs meant;
+    }
 
 pub returns : goal.returns
 returns g c =
+    let fits : Fits Plain c.args.entries = search rules in
+    let meant : IsResolution c.args.resolution.now (resolve Plain g.origin.plan.allow_undefined (entries Plain c.args.entries.objects.now) c.args.entries.objects.now) = search rules in
+    let ranked : WinnersAre c.args.entries.names.now.names (entries Plain c.args.entries.objects.now) c.args.ranks.now = search rules in
+    let loaded : IsLoaded g.origin.files g.origin.all c.args.entries.objects.now c.args.homes.now = search rules in
     let objects = c.args.entries.objects.now in
     let s : Sources = record { entries = c.args.entries; resolution = c.args.resolution; places = c.as_slice.result } in
     let l : Lookups = record { entries = c.args.entries; firsts = c.as_slice-2.result; types = c.numbers.result; homes = c.args.homes } in
@@ -32,15 +46,15 @@ returns g c =
     (record {
       lookups = record {
         entries = refl;
-        rise = c.requires.0.objects.inputs;
-        meant = c.requires.1.1.0;
-        parts = c.requires.0.objects.parts;
+        rise = fits.objects.inputs;
+        meant = meant;
+        parts = fits.objects.parts;
         firsts = c.as_slice-2.ensures ∙ c.in_ok-symbols.ensures.firsts;
         typed = subst (λ (n : List (List ℕ)). AreTyped t.types n objects) (sym c.numbers.ensures) c.in_ok-kinds.ensures;
-        homes = c.requires.1.1.1.homes;
-        numbered = c.requires.1.1.1.numbered;
+        homes = loaded.homes;
+        numbered = loaded.numbered;
       };
-      ranked = record { numbers = c.requires.0.numbers; rise = c.requires.0.objects.inputs; winners = c.requires.1.0 };
+      ranked = record { numbers = fits.numbers; rise = fits.objects.inputs; winners = ranked };
       symbols = c.in_ok-symbols.ensures.symbols;
       few_symbols = c.in_ok-symbols.ensures.few;
       winners = c.in_ok-winners.ensures;

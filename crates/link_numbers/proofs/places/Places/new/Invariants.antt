@@ -1,8 +1,8 @@
 use Rattle.std.proofs.Common.{◌≡◌, take}
 use Rattle.indexmap.specs.IndexMap.{get}
-use Rattle.link_numbers.specs.Codes.{same_code}
+use Rattle.link_keys.specs.Codes.{same_code}
 use Rattle.link_numbers.specs.Places.{place_of}
-use Rattle.link_numbers.specs.declared.codes.Code.{Code}
+use Rattle.link_keys.specs.declared.codes.Code.{Code}
 use Rattle.link_numbers.proofs.places.Places.new.Given as goal
 
 abbrev pub invariant-loop-at : goal.invariant-loop-at

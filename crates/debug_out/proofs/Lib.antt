@@ -1,0 +1,12 @@
+mod Begins
+mod Grouped
+mod Lent
+mod Live
+mod Long
+mod Members
+mod Names
+mod Onto
+mod Spelled
+mod Stands
+mod Tail
+mod Within

@@ -1,0 +1,5 @@
+pub mod Answers
+pub mod Grouped
+pub mod Inputs
+pub mod Refs
+pub mod Windows

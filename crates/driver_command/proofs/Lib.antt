@@ -1,0 +1,4 @@
+mod Around
+mod Due
+mod Lines
+mod Sayings

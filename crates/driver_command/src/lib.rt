@@ -1,0 +1,13 @@
+//! The program under the name `wasm-ld`: it takes the words that compiler drivers write, links as they mean, and speaks as wasm-ld does.
+#![tactic(auto)]
+
+mod driving;
+mod linking;
+mod manual;
+mod names;
+mod outcome;
+mod quiet;
+mod saying;
+
+pub use driving::drive;
+pub use outcome::Outcome;

@@ -1,0 +1,5 @@
+//! Calls by drivers' words over shelves and sinks in memory.
+#![tactic(auto)]
+
+#[cfg(test)]
+mod calls;

@@ -1,0 +1,4 @@
+pub mod Fields
+pub mod Lacking
+pub mod Own
+pub mod Values

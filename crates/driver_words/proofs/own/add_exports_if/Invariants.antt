@@ -1,7 +1,0 @@
-use Rattle.std.proofs.Common.{◌≡◌, ◌++◌, drop}
-use Rattle.std.specs.List.{flat_map}
-use Rattle.driver_words.specs.Own.{export_if_words}
-use Rattle.driver_words.proofs.own.add_exports_if.Given as goal
-
-abbrev pub invariant-loop-item : goal.invariant-loop-item
-invariant-loop-item l = l.words ++ flat_map export_if_words (drop l.item-index l.items) ≡ l.initial.words ++ flat_map export_if_words l.items

@@ -1,6 +1,0 @@
-use Rattle.std.proofs.Common.{◌≡◌, ◌++◌, take, drop}
-use Rattle.driver_words.specs.Thin.{until}
-use Rattle.driver_words.proofs.thin.until.Given as goal
-
-abbrev pub invariant-loop-at : goal.invariant-loop-at
-invariant-loop-at l = take l.at l.bytes ++ until l.stop (drop l.at l.bytes) ≡ until l.stop l.bytes

@@ -1,6 +1,0 @@
-use Rattle.std.proofs.Common.{◌≡◌, drop}
-use Rattle.driver_words.specs.Values.{values_fault}
-use Rattle.driver_words.proofs.values.values_fault.Given as goal
-
-abbrev pub invariant-loop-item : goal.invariant-loop-item
-invariant-loop-item l = values_fault (drop l.item-index l.items) ≡ values_fault l.items

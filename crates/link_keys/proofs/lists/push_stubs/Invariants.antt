@@ -1,0 +1,7 @@
+use Rattle.std.proofs.Common.{◌≡◌, ◌++◌, ◌&&◌, map, filter, filter_map, take, slice_get}
+use Rattle.link_program.specs.declared.keys.FunctionKey.TheVariants as functions
+use Rattle.link_keys.specs.Lists.{numbers_below, flag_at}
+use Rattle.link_keys.proofs.lists.push_stubs.Given as goal
+
+abbrev pub invariant-loop-number : goal.invariant-loop-number
+invariant-loop-number l = l.keys.items ≡ l.fn.keys.items ++ map functions.Stub (numbers_below (flag_at l.flags) l.number)

@@ -1,0 +1,7 @@
+pub mod Codes
+pub mod LiveRefs
+pub mod Noted
+pub mod Asked
+pub mod Lists
+pub mod Firsts
+pub mod Types

@@ -1,0 +1,19 @@
+//! What the output has, in order: its functions, the slots of its table, its globals and its types, by what the live parts ask for.
+//! `link_numbers` gives them their numbers.
+#![tactic(auto)]
+
+mod asked;
+mod codes;
+mod firsts;
+mod lists;
+mod marking;
+mod marks;
+mod types;
+
+pub(crate) use codes::got_code;
+pub use codes::{Code, function_code, global_code};
+pub use firsts::At;
+pub use lists::{function_codes, functions_listed, global_codes, globals_listed, slots_taken};
+pub use marking::marks_of;
+pub use marks::Marks;
+pub use types::{TypeNumbers, numbers_in, types_told};

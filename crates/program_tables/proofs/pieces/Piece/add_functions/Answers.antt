@@ -1,0 +1,15 @@
+use Rattle.std.proofs.Common.{ap, sym, subst, ◌∙◌}
+use Rattle.std.specs.Option.{option_map}
+use Rattle.link_program.specs.object_columns.Seen.{function_seen}
+use Rattle.program_tables.specs.Views.{view_seen}
+use Rattle.program_tables.specs.Rows.{function_row, keeps_row}
+use Rattle.program_tables.specs.Gains.{Gains}
+use Rattle.program_tables.proofs.Growing.{gains_more, rows_more}
+use Rattle.program_tables.proofs.pieces.Piece.add_functions.Goals as goal
+
+pub loop-index-preserved : goal.loop-index-preserved
+loop-index-preserved c =
+    let v = view_seen c.args.view in
+    let at = sym c.get.ensures ∙ ap (option_map function_seen) c.in-Some.is in
+    subst (λ rows. Gains rows c.args.self.now c.add_function.new.self) (sym (rows_more (keeps_row v) (function_row v) c.args.view.from.now.functions c.loop-index.index (function_seen c.in-Some.function) at))
+    (gains_more _ _ c.args.self.now c.loop-index.self c.add_function.new.self c.loop-index.invariant c.in_ok-add_function.ensures)

@@ -1,0 +1,13 @@
+//! Both machines over the same link: `run_sym` over the loaded objects with nothing linked, and `run_mod` over
+//! the bytes that the link gives.
+#![tactic(auto)]
+
+ghost use Rattle.run_laws.specs.Agree.{TracesAgree};
+
+/// Where `link_of` gives bytes, `run_mod` on them and `run_sym` on the objects that it loads have the same
+/// trace, for each session that gives an imported memory enough pages, and each number of steps.
+pub fn traces_agree()
+    ensures { TracesAgree }
+{
+    link_runs::links_run();
+}

@@ -1,0 +1,5 @@
+mod Fitting
+mod SameCells
+pub mod Seen
+mod Steps
+mod Written

@@ -1,0 +1,275 @@
+#!/usr/bin/env bash
+# Builds programs as compiler drivers and build systems do, with the linker in wasm-ld's place: by clang with -fuse-ld and with -B, by
+# cmake, meson and rustc. The modules run under node. What isn't installed is left out. The linker is $WASMLD under the names of wasm-ld,
+# or else bin/wasm-ld. The last line is 'N passed, M failed'.
+set -u
+top=$(cd "$(dirname "${BASH_SOURCE[0]}")/.." && pwd)
+. "$top/tests/common/expect.bash"
+real=$top/tests/real
+sources=$top/tests/drivers
+libc=/usr/lib/wasm32-wasi
+
+skip() {
+  echo "skipped: $1"
+}
+
+skip_all() {
+  skip "compiler drivers ($1)"
+  finish
+  exit
+}
+
+for tool in clang llvm-ar node; do
+  command -v "$tool" >/dev/null || skip_all "no $tool"
+done
+clang --print-targets | grep -q wasm32 || skip_all "clang has no wasm32"
+[ -e "$libc/crt1.o" ] || skip_all "no wasi-libc"
+[ -e "$(clang --target=wasm32-wasi --print-libgcc-file-name)" ] || skip_all "no compiler-rt for wasm32"
+
+folder=$(mktemp -d)
+trap 'rm -rf "$folder"' EXIT
+cd "$folder" || exit 2
+
+# The linker, by each name that a driver looks for.
+mkdir names
+program=$(readlink -f "${WASMLD:-$top/bin/wasm-ld}")
+version=$(clang -dumpversion)
+ln -s "$program" names/wasm-ld
+ln -s "$program" "names/wasm-ld-${version%%.*}"
+linker=$folder/names/wasm-ld
+
+cc() { clang --target=wasm32-wasi "-fuse-ld=$linker" "$@"; }
+cc_by_folder() { clang --target=wasm32-wasi "-B$folder/names" "$@"; }
+cxx() { clang++ --target=wasm32-wasi -fno-exceptions "-fuse-ld=$linker" "$@"; }
+bare() { clang --target=wasm32-unknown-unknown -nostdlib "-fuse-ld=$linker" "$@"; }
+
+# Takes the file that holds what is wanted, and a command. Its output is compared, and its errors are shown.
+gives() {
+  local wanted=$1
+  shift
+  "$@" >got.txt 2>err.txt && diff got.txt "$wanted" || {
+    cat err.txt
+    return 1
+  }
+}
+
+# Takes a module and what it prints under WASI.
+prints() {
+  local module=$1
+  printf '%b' "$2" >wanted.txt
+  gives wanted.txt node --no-warnings "$sources/run.mjs" "$folder" "$module"
+}
+
+runs_as() {
+  gives "$2" node --no-warnings "$real/run.mjs" "$1"
+}
+
+# Takes a command that prints more than is to be shown where it succeeds.
+quietly() {
+  "$@" >quiet.txt 2>&1 || {
+    cat quiet.txt
+    return 1
+  }
+}
+
+# Takes the module that isn't to be written, the line on standard error, and the linker's words. Standard output stays empty.
+is_refused_as() {
+  local module=$1 line=$2
+  shift 2
+  "$linker" "$@" >got.txt 2>err.txt
+  [ $? -eq 1 ] && [ "$(cat err.txt)" = "$line" ] && [ ! -s got.txt ] && [ ! -e "$module" ] || {
+    cat err.txt got.txt
+    return 1
+  }
+}
+
+is_refused() {
+  "$linker" "$@" 2>err.txt
+  [ $? -eq 1 ]
+}
+
+# Programs of C.
+programs_of_c() {
+  local level
+  for level in -O0 -O2 -g; do
+    expect "clang $level links hello.c" cc "$level" "$real/hello.c" -o hello.wasm
+    expect "and it runs" runs_as hello.wasm "$real/hello.txt"
+    expect "clang $level -B links two files with constructors" cc_by_folder "$level" "$real/order.c" "$real/order_other.c" -o order.wasm
+    expect "and they run" runs_as order.wasm "$real/order.txt"
+    expect "clang $level links a program with files" cc "$level" "$sources/files.c" -o files.wasm
+    expect "and it runs" prints files.wasm '1 words, at home\nno newline'
+  done
+  expect "with -s, a stack and an export" cc -O2 -s -Wl,-z,stack-size=65536 -Wl,--export=malloc "$real/sort.c" -lm -o sort.wasm
+  expect "it runs" runs_as sort.wasm "$real/sort.txt"
+  expect "clang links a reactor" cxx -O2 -mexec-model=reactor "$sources/reactor.cpp" -o reactor.wasm
+  expect "and it runs" prints reactor.wasm '41 42\n'
+  expect "clang links without a library" bare -O2 -Wl,--no-entry -Wl,--export=doubled "$real/words.c" -o words.wasm
+  expect "and it runs" gives "$real/words_dead.txt" node --no-warnings "$real/call.mjs" words.wasm doubled 5
+}
+
+# Programs of C++.
+programs_of_cpp() {
+  local level
+  command -v clang++ >/dev/null && [ -e "$libc/libc++.a" ] || {
+    skip "C++ by a driver (no libc++)"
+    return
+  }
+  for level in -O0 -O2; do
+    expect "clang++ $level links static objects" cxx "$level" "$sources/objects.cpp" -o objects.wasm
+    expect "and they run" prints objects.wasm 'first 50\nsecond 6\na=1\nb=2\nend of second\nend of first\n'
+  done
+  # Some builds of the C++ library declare functions otherwise than they define them: what links has to run, and else is refused.
+  if cxx -O2 "$sources/streams.cpp" -o streams.wasm 2>streams.txt; then
+    expect "streams run" prints streams.wasm 'hello from a stream 42\n'
+  else
+    expect "streams are refused by the name of a function" grep -q "^wasm-ld: error: .*_ZNSt3" streams.txt
+    expect "and nothing is written" test ! -e streams.wasm
+  fi
+}
+
+# Libraries that are looked for.
+libraries() {
+  mkdir one two
+  clang --target=wasm32-wasi -O1 -c "$real/library_add.c" "$real/library_triple.c" "$real/library_unused.c" "$real/uses_library.c"
+  llvm-ar rcs two/libsmall.a library_add.o library_unused.o library_triple.o
+  llvm-ar rcsT thin.a library_add.o library_unused.o library_triple.o
+  expect "a library is found behind -L and -l" cc uses_library.o -lsmall -Lone -Ltwo -o found.wasm
+  expect "and runs" runs_as found.wasm "$real/uses_library.txt"
+  expect "a thin library is read" cc uses_library.o thin.a -o thin.wasm
+  expect "and runs" runs_as thin.wasm "$real/uses_library.txt"
+  expect "a library without members is no fault" cc uses_library.o -lm -Ltwo -lsmall -Wl,--start-group -lc -Wl,--end-group -o group.wasm
+}
+
+# So many objects that their names can stand in a file alone, and that clang puts them into one.
+many_objects() {
+  mkdir many
+  python3 "$top/bench/link_inputs.py" small many 20000 2>err.txt || {
+    skip "20,000 objects ($(head -n 1 err.txt))"
+    return
+  }
+  sed 's|^|many/|' many/inputs >many.rsp
+  expect "a response file of 20,000 objects is linked" "$linker" @many.rsp -o by_file.wasm
+  expect "and so is clang's" bare @many.rsp -o by_clang.wasm
+  expect "to the same module" cmp by_file.wasm by_clang.wasm
+  if [ -n "${WASMLD:-}" ]; then
+    mapfile -t objects <many.rsp
+    expect "the linker's own words" "$WASMLD" "${objects[@]}" --stack-first -o by_words.wasm
+    expect "give the same module" cmp by_file.wasm by_words.wasm
+  fi
+  rm -r many
+}
+
+# What is refused, by which lines.
+refusals() {
+  printf 'int nowhere(void);\nint main(void) { return nowhere(); }\n' >undefined.c
+  clang --target=wasm32-wasi -c undefined.c "$real/hello.c"
+  expect "an undefined symbol" is_refused_as no.wasm "wasm-ld: error: undefined.o: undefined symbol: nowhere" \
+    "-L$libc" "$libc/crt1-command.o" undefined.o -lc -o no.wasm
+  expect "a library that isn't there" is_refused_as no.wasm "wasm-ld: error: unable to find library -lnosuch" hello.o -lnosuch -o no.wasm
+  expect "an object that isn't there" is_refused_as no.wasm "wasm-ld: error: cannot open absent.o: No such file or directory" \
+    hello.o absent.o -o no.wasm
+  mkdir inside
+  expect "a folder as an input" is_refused_as no.wasm "wasm-ld: error: cannot open inside" hello.o inside -o no.wasm
+  expect "an output in no folder" is_refused_as absent/no.wasm "wasm-ld: error: cannot open output file absent/no.wasm" \
+    --no-entry hello.o "-L$libc" -lc -o absent/no.wasm
+  expect "no output" is_refused_as no.wasm "wasm-ld: error: no output file specified" hello.o
+  expect "an option that there isn't" is_refused_as no.wasm "wasm-ld: error: unknown argument: --frob" hello.o --frob -o no.wasm
+  expect "no entry" is_refused_as no.wasm "wasm-ld: error: entry symbol not defined (pass --no-entry to suppress): _start" \
+    undefined.o -o no.wasm
+  printf 'module' >old.wasm
+  cp old.wasm kept.wasm
+  expect "the linker refuses in place of an old output" is_refused undefined.o --no-entry --export=main -o old.wasm
+  expect "which stays" cmp old.wasm kept.wasm
+  expect "clang passes the line on" test "$(cc undefined.c -o no.wasm 2>&1 | grep -c 'undefined symbol: nowhere')" -eq 1
+  expect "a warning is told" test "$("$linker" --Map=m.txt --no-entry library_add.o -o warned.wasm 2>&1)" = "wasm-ld: warning: ignored: --Map=m.txt"
+}
+
+versions() {
+  expect "the version has LLD" grep -q '^LLD [0-9]' <("$linker" --version)
+  expect "also behind other words" grep -q '^LLD [0-9]' <("$linker" absent.o -v -o no.wasm)
+  expect "and as clang asks" grep -q '^LLD [0-9]' <(cc -Wl,--version)
+  expect "help tells the words" grep -q -- '--whole-archive' <("$linker" --help)
+}
+
+# A project with a library and a program, by a build system.
+project() {
+  mkdir -p "$1"
+  cp "$real/library_add.c" "$real/library_triple.c" "$real/uses_library.c" "$1/"
+}
+
+by_cmake() {
+  local kind
+  command -v cmake >/dev/null && command -v ninja >/dev/null || {
+    skip "cmake (not installed)"
+    return
+  }
+  project cmade
+  cat >cmade/CMakeLists.txt <<'END'
+cmake_minimum_required(VERSION 3.13)
+project(demo C)
+add_library(small STATIC library_add.c library_triple.c)
+add_executable(demo.wasm uses_library.c)
+target_link_libraries(demo.wasm small m)
+END
+  for kind in Debug Release; do
+    expect "cmake makes the $kind project ready" quietly cmake -G Ninja -S cmade -B "cmade/$kind" -DCMAKE_BUILD_TYPE="$kind" -DCMAKE_SYSTEM_NAME=Generic \
+      -DCMAKE_C_COMPILER=clang -DCMAKE_C_COMPILER_TARGET=wasm32-wasi -DCMAKE_AR="$(command -v llvm-ar)" \
+      -DCMAKE_RANLIB="$(command -v llvm-ranlib)" "-DCMAKE_EXE_LINKER_FLAGS=-fuse-ld=$linker" -Wno-dev --log-level=ERROR
+    expect "builds it" quietly ninja -C "cmade/$kind"
+    expect "and it runs" runs_as "cmade/$kind/demo.wasm" "$real/uses_library.txt"
+  done
+}
+
+by_meson() {
+  command -v meson >/dev/null && command -v ninja >/dev/null || {
+    skip "meson (not installed)"
+    return
+  }
+  project mesonic
+  cat >mesonic/meson.build <<'END'
+project('demo', 'c')
+small = static_library('small', 'library_add.c', 'library_triple.c')
+cc = meson.get_compiler('c')
+executable('demo', 'uses_library.c', link_with: small, dependencies: cc.find_library('m'), name_suffix: 'wasm')
+END
+  cat >mesonic/cross.txt <<END
+[binaries]
+c = ['clang', '--target=wasm32-wasi', '-fuse-ld=$linker']
+ar = 'llvm-ar'
+[host_machine]
+system = 'wasi'
+cpu_family = 'wasm32'
+cpu = 'wasm32'
+endian = 'little'
+END
+  expect "meson makes the project ready" quietly meson setup --cross-file mesonic/cross.txt mesonic/made mesonic
+  expect "builds it" quietly ninja -C mesonic/made
+  expect "and it runs" runs_as mesonic/made/demo.wasm "$real/uses_library.txt"
+}
+
+by_rustc() {
+  local target=wasm32-unknown-unknown libraries
+  command -v rustc >/dev/null || {
+    skip "rustc (not installed)"
+    return
+  }
+  libraries=$(rustc --print target-libdir --target "$target" 2>err.txt)
+  compgen -G "$libraries/libcore-*.rlib" >/dev/null || {
+    skip "rustc (no core for $target)"
+    return
+  }
+  expect "rustc links a cdylib" rustc --target "$target" -O --crate-type=cdylib -C linker-flavor=wasm-ld -C "linker=$linker" "$sources/nth.rs" -o nth.wasm
+  printf 'nth: 9\n' >wanted.txt
+  expect "and it runs" gives wanted.txt node --no-warnings "$real/call.mjs" nth.wasm nth 3
+}
+
+programs_of_c
+programs_of_cpp
+libraries
+many_objects
+refusals
+versions
+by_cmake
+by_meson
+by_rustc
+finish
