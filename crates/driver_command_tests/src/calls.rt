@@ -15,7 +15,7 @@ fn shelf(alloc: Global, failing: &[u32]) -> Result<MemShelf, OutOfMemory> {
     files.push(file(alloc, "a.o", calling_object())?)?;
     files.push(file(alloc, "b.o", calling_object())?)?;
     files.push(file(alloc, "d/libx.a", library())?)?;
-    let words = b"a.o -o out\n--no-entry '--export=f'".as_slice();
+    let words = b"a.o -o out\n--no-entry '--export=f' --no-stack-first".as_slice();
     files.push(file(alloc, "words", words)?)?;
     shelf_of(alloc, files, failing)
 }
@@ -84,11 +84,14 @@ fn links<R: Threads + Sync>(
 fn words_of_drivers_are_linked(rt: HostRuntime) -> Result<(), Fail> {
     let alloc = rt.alloc();
     let cases = [
-        ("a.o -o out --no-entry --export=f", ""),
-        ("-m wasm32 --export=f -Ld --no-entry -oout a.o -O2 -lx", ""),
+        ("a.o -o out --no-entry --export=f --no-stack-first", ""),
+        (
+            "-m wasm32 --no-stack-first --export=f -Ld --no-entry -oout a.o -O2 -lx",
+            "",
+        ),
         ("-flavor wasm @words", ""),
         (
-            "a.o --Map=m -o out -t --no-entry --export=f",
+            "a.o --Map=m -o out -t --no-entry --export=f --no-stack-first",
             "wasm-ld: warning: ignored: --Map=m\nwasm-ld: warning: ignored: -t\n",
         ),
     ];
