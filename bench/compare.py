@@ -42,9 +42,9 @@ class Skipped(Exception):
 class Run:
     """What one run took: seconds of wall and of processor."""
 
-    def __init__(self, words, folder):
+    def __init__(self, words, folder, around):
         begin = time.perf_counter()
-        process = subprocess.Popen(words, cwd=folder, stdout=subprocess.DEVNULL, stderr=subprocess.PIPE)
+        process = subprocess.Popen(words, cwd=folder, env=around, stdout=subprocess.DEVNULL, stderr=subprocess.PIPE)
         said = process.stderr.read()
         _, status, used = os.wait4(process.pid, 0)
         process.returncode = os.waitstatus_to_exitcode(status)
@@ -54,9 +54,14 @@ class Run:
             sys.exit(f"compare.py: {' '.join(words[:4])} ..: {said.decode(errors='replace')[:400]}")
 
 
-def peak(words, folder):
+def around(name):
+    """The variables of a run. Those of wasmld are as the script that starts it sets them: memory in large pages."""
+    return {"GLIBC_TUNABLES": "glibc.malloc.hugetlb=1", **os.environ} if name == "wasmld" else dict(os.environ)
+
+
+def peak(words, folder, around):
     """KiB at the peak of one more run: by a small program between, since a child's peak counts what this one holds."""
-    subprocess.run(["/usr/bin/time", "-q", "-o", "peak", "-f", "%M", *words], cwd=folder, check=True, stdout=subprocess.DEVNULL)
+    subprocess.run(["/usr/bin/time", "-q", "-o", "peak", "-f", "%M", *words], cwd=folder, env=around, check=True, stdout=subprocess.DEVNULL)
     with open(f"{folder}/peak") as file:
         return int(file.read())
 
@@ -130,9 +135,9 @@ def measured(case, folder, linkers, runs):
                     os.remove(f"{folder}/{output}")
                 whole = [*words, f"--threads={workers}", *inputs, "-o", output]
                 if run < runs:
-                    found.runs[name, workers].append(Run(whole, folder))
+                    found.runs[name, workers].append(Run(whole, folder, around(name)))
                 else:
-                    found.peaks[name, workers] = peak(whole, folder)
+                    found.peaks[name, workers] = peak(whole, folder, around(name))
     with open(f"{folder}/wasmld-1.wasm", "rb") as one, open(f"{folder}/wasmld-4.wasm", "rb") as four:
         if one.read() != four.read():
             sys.exit(f"compare.py: {case}: the bytes differ by workers")

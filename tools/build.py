@@ -1,5 +1,5 @@
 #!/usr/bin/env python3
-"""Proves and builds the program and the libraries below it, as many at once as the machine holds: build.py.
+"""Proves and builds programs and the libraries below them, as many at once as the machine holds: build.py [PROGRAM..], by default all.
 
 It calls the toolchain's compiler, which builds nothing that isn't proved, and keeps what it built in each crate's out/built, with a sum
 of all that it was made from. It runs no test and tries no edit: `rt ci` does.
@@ -15,7 +15,7 @@ import threading
 from concurrent.futures import ThreadPoolExecutor
 
 TOP = os.path.dirname(os.path.dirname(os.path.realpath(__file__)))
-PROGRAM = "wasmld"
+PROGRAMS = ("wasmld", "wasmrun")
 # What a check may take of memory, in bytes.
 NEEDED = 5_000_000_000
 
@@ -91,7 +91,7 @@ def is_built(crate):
 
 def words_of(crate, jobs):
     """What the compiler is told of a crate and of the libraries below it."""
-    words = ["--crate-name", crate, "src/main.rt" if crate == PROGRAM else "src/lib.rt"]
+    words = ["--crate-name", crate, "src/main.rt" if crate in PROGRAMS else "src/lib.rt"]
     for name in ["std", *listed()[crate]]:
         place = library(name) if name in listed() else f"{KIT}/rlibs/{name}.rlib"
         words += ["--extern", f"{name}={place}"]
@@ -131,7 +131,7 @@ def build(crate, jobs):
     shutil.rmtree(folder, ignore_errors=True)
     os.makedirs(folder)
     with open(f"{folder}/log", "w", encoding="utf-8") as log:
-        status = (build_program if crate == PROGRAM else build_library)(crate, jobs, log)
+        status = (build_program if crate in PROGRAMS else build_library)(crate, jobs, log)
     if status:
         return False
     with open(f"{folder}/sum", "w", encoding="utf-8") as kept:
@@ -168,7 +168,12 @@ def build_all(wanted):
 
 
 def main():
-    failed = build_all([*below(PROGRAM), PROGRAM])
+    wanted = {}
+    for program in sys.argv[1:] or PROGRAMS:
+        if program not in PROGRAMS:
+            sys.exit(__doc__)
+        wanted.update(dict.fromkeys([*below(program), program]))
+    failed = build_all(list(wanted))
     if failed:
         with open(f"{folder_of(failed[0])}/log", encoding="utf-8") as log:
             sys.stderr.write("".join(log.readlines()[-40:]))

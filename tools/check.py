@@ -18,7 +18,7 @@ def words_over_sources(crate):
     """What the compiler is told of a crate and of the sources of the libraries below it."""
     used, lower = direct.copy_of(crate), build.below(crate)
     kits = {name for names in used.values() for name in names if name not in build.listed()}
-    words = ["--crate-name", crate, "src/main.rt" if crate == build.PROGRAM else "src/lib.rt"]
+    words = ["--crate-name", crate, "src/main.rt" if crate in build.PROGRAMS else "src/lib.rt"]
     for name in ["core", "std", *sorted(kits)]:
         words += ["--extern", f"{name}={build.KIT}/rlibs/{name}.rlib"]
     for each in lower:

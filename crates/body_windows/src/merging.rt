@@ -7,11 +7,19 @@ use crate::fault::Mismatch;
 use crate::immediate::{Immediate, ImmediateKind};
 use crate::operand::Operand;
 use crate::operands::Operands;
-use reloc_section::Reloc;
+use reloc_section::{Reloc, kinds};
 use std::alloc::Global;
 use std::marker::Model;
 use wasm_instr::Outline;
 use wl_base::OutOfMemory;
+
+/// How many of these are for a type.
+fn types_in(relocs: &[Reloc]) -> usize {
+    relocs
+        .iter()
+        .filter(|reloc| reloc.kind == kinds::TYPE_INDEX_LEB)
+        .count()
+}
 
 /// What is known behind some of a body's immediates.
 #[derive(Drop)]
@@ -131,11 +139,12 @@ impl<'a> Merger<'a> {
         }
     }
 
-    /// Room for the operands of the relocations.
+    /// Room for the operands of the relocations. Behind the type of an indirect call stands its table, which has none.
     pub fn reserve(&mut self) -> Result<(), OutOfMemory>
         ensures { OnOk result (self.new ≡ self.old) }
     {
-        self.operands.reserve(self.left.len())
+        self.operands
+            .reserve(self.left.len().saturating_add(types_in(self.left)))
     }
 
     /// Takes so many numbers.

@@ -53,6 +53,7 @@ fn say_later<E: Sink>(say: &mut E) -> Result<(), Failed> {
     say_fault(&Fault::DebugTooLong { needed }, say)?;
     say_fault(&Fault::NotPartial { file: 3 }, say)?;
     say_fault(&Fault::PartialTooLong { needed }, say)?;
+    say_fault(&Fault::Uncalled, say)?;
     say_usage(Usage::PartialClash, say)
 }
 
@@ -63,7 +64,7 @@ fn lines_of_later_words_come_letter_for_letter(rt: HostRuntime) -> Result<(), Fa
     say_later(&mut sink)?;
     assert_eq!(rt;
         sink.bytes(),
-        b"wasmld: invalid output: body 4294967295\nwasmld: invalid output: module\nwasmld: input 2: bad debug section 11\nwasmld: debug sections need 2147483648 bytes\nwasmld: file 3: not an object for a partial link\nwasmld: partial link needs 2147483648 bytes\nwasmld: usage: PartialClash\n".as_slice()
+        b"wasmld: invalid output: body 4294967295\nwasmld: invalid output: module\nwasmld: input 2: bad debug section 11\nwasmld: debug sections need 2147483648 bytes\nwasmld: file 3: not an object for a partial link\nwasmld: partial link needs 2147483648 bytes\nwasmld: constructors would not be called: link a start file that calls __wasm_call_ctors\nwasmld: usage: PartialClash\n".as_slice()
     );
     Ok(())
 }

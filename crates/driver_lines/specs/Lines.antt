@@ -2,7 +2,7 @@
 use Rattle.std.specs.Prelude.{ℕ, ◌==◌, List, [], ◌∷◌, ◌++◌, if◌then◌else◌, Option, codes, decimal}
 use Rattle.std.specs.Fmt.{signed_decimal}
 use Rattle.wl_base.specs.declared.fault.Fault.{Fault}
-use Rattle.wl_base.specs.declared.fault.Fault.TheVariants.{TooMuchInput, Library, TooManyInputs, TooLong, Malformed, Unsupported, IndexLies, TooManyNames, Clash, Duplicate, NotPic, Unresolved, Overflow, Invalid, BadDebug, DebugTooLong, NotPartial, PartialTooLong}
+use Rattle.wl_base.specs.declared.fault.Fault.TheVariants.{TooMuchInput, Library, TooManyInputs, TooLong, Malformed, Unsupported, IndexLies, TooManyNames, Clash, Duplicate, NotPic, Unresolved, Overflow, Invalid, BadDebug, DebugTooLong, NotPartial, PartialTooLong, Uncalled}
 use Rattle.wl_base.specs.declared.fault.Part.{Part}
 use Rattle.wl_base.specs.declared.fault.Part.TheVariants.{Frame, Section, Cross}
 use Rattle.wl_base.specs.declared.fault.LibFault.{LibFault}
@@ -116,3 +116,5 @@ refusal_line program entry inputs files (DebugTooLong needed) =
 refusal_line program entry inputs files (NotPartial file) =
     about_line program [] (called_file files file) (codes ": only object files can be linked with -r") [] (codes "\n")
 refusal_line program entry inputs files (PartialTooLong needed) = plain_line program (codes "output too large, ") (decimal needed) (codes " bytes needed\n")
+refusal_line program entry inputs files Uncalled =
+    plain_line program (codes "constructors would not be called: link a start file that calls __wasm_call_ctors") [] (codes "\n")

@@ -2,7 +2,7 @@
 use Rattle.std.specs.Prelude.{◌≡◌, refl, ℕ, List, [], ◌∷◌, ◌++◌, Some, None, codes, pos}
 use Rattle.std.specs.Fmt.{digits}
 use Rattle.wl_base.specs.declared.fault.Fault.{Fault}
-use Rattle.wl_base.specs.declared.fault.Fault.TheVariants.{Library, TooLong, Malformed, Unsupported, IndexLies, TooManyNames, Clash, Duplicate, NotPic, Unresolved, Overflow, Invalid, NotPartial}
+use Rattle.wl_base.specs.declared.fault.Fault.TheVariants.{Library, TooLong, Malformed, Unsupported, IndexLies, TooManyNames, Clash, Duplicate, NotPic, Unresolved, Overflow, Invalid, NotPartial, Uncalled}
 use Rattle.wl_base.specs.declared.fault.Part.TheVariants.{Frame, Section, Cross}
 use Rattle.wl_base.specs.declared.fault.LibFault.TheVariants.{BadHeader, NoIndex, BadIndex}
 use Rattle.wl_base.specs.declared.fault.What.TheVariants.{MaxMemory, TableSize}
@@ -128,6 +128,10 @@ an_invalid_body = refl
 pub too_many_names : line TooManyNames ≡ codes "wasm-ld: error: too many names\n"
 unfolding plain_line
 too_many_names = refl
+
+pub constructors_lost : line Uncalled ≡ codes "wasm-ld: error: constructors would not be called: link a start file that calls __wasm_call_ctors\n"
+unfolding plain_line
+constructors_lost = refl
 
 -- ---- where no name is known
 

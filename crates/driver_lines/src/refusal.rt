@@ -135,6 +135,13 @@ pub fn say_refusal<'a, E: Sink>(
             " bytes needed\n",
             say,
         ),
+        Fault::Uncalled => say_plain(
+            program,
+            "constructors would not be called: link a start file that calls __wasm_call_ctors",
+            Text(""),
+            "\n",
+            say,
+        ),
     }
 }
 

@@ -293,6 +293,10 @@ fn number_lines_stand(alloc: Global) -> bool {
                 Fault::PartialTooLong { needed: 1073741825 },
                 "wasm-ld: error: output too large, 1073741825 bytes needed\n",
             ),
+            (
+                Fault::Uncalled,
+                "wasm-ld: error: constructors would not be called: link a start file that calls __wasm_call_ctors\n",
+            ),
         ],
     )
 }

@@ -1,6 +1,6 @@
 -- The words of inputs and of the marks between them, from left to right.
-use Rattle.std.specs.Prelude.{ℕ, List, [], ◌∷◌, ◌++◌, Bool, true, false, not, ◌||◌, map, if◌then◌else◌, Option, Some, None, unwrap_or, is_some, Result, Ok, Err, codes}
-use Rattle.std.specs.List.{filter_map}
+use Rattle.std.specs.Prelude.{ℕ, List, [], ◌∷◌, ◌++◌, eqb, Bool, true, false, not, ◌&&◌, ◌||◌, map, if◌then◌else◌, Option, Some, None, unwrap_or, is_some, Result, Ok, Err, codes}
+use Rattle.std.specs.List.{filter_map, ends_with}
 use Rattle.wl_base.specs.Choice.{given}
 use Rattle.driver_table.specs.declared.meaning.Meaning.{Meaning}
 use Rattle.driver_table.specs.declared.meaning.Meaning.TheVariants.{Input, Library, Folder, WholeArchive, NoWholeArchive, StartLib, EndLib}
@@ -33,9 +33,13 @@ abbrev pub members_in : List ℕ → Option (List ℕ) → List (List ℕ)
 members_in path None = []
 members_in path (Some text) = map (member_path path) (members_of text)
 
+-- A thin library. What is named as an object isn't looked into.
+abbrev pub is_thin : (List ℕ → Option (List ℕ)) → List ℕ → Bool
+is_thin held path = not (ends_with eqb path (codes ".o")) && begins_with (held path) thin
+
 -- The words of a path.
 abbrev pub opened : (List ℕ → Option (List ℕ)) → Bool → List ℕ → List (List ℕ)
-opened held within path = if begins_with (held path) thin then grouped within (members_in path (held path)) else path ∷ []
+opened held within path = if is_thin held path then grouped within (members_in path (held path)) else path ∷ []
 
 abbrev pub opened_of : (List ℕ → Option (List ℕ)) → Bool → Result (List ℕ) (List ℕ) → Result (List (List ℕ)) (List ℕ)
 opened_of held within (Ok path) = Ok (opened held within path)

@@ -1,10 +1,11 @@
 -- The translation: what drivers' words stand for, where names hold what they hold.
-use Rattle.std.specs.Prelude.{ℕ, List, [], ◌∷◌, Bool, true, ◌||◌, if◌then◌else◌, Option, Some, None, Result, Ok, Err, codes}
+use Rattle.std.specs.Prelude.{ℕ, List, [], ◌∷◌, length, drop, Bool, true, not, ◌||◌, if◌then◌else◌, Option, Some, None, Result, Ok, Err, codes}
+use Rattle.std.specs.List.{list_any}
 use Rattle.std.specs.Str.{bytes_eq}
 use Rattle.driver_table.specs.declared.meaning.Meaning.TheVariants.{Version as AsksVersion, Help as AsksHelp}
 use Rattle.driver_table.specs.Meanings.{same}
 use Rattle.driver_table.specs.Items.{Said}
-use Rattle.driver_table.specs.Texts.{line}
+use Rattle.driver_table.specs.Texts.{line, begins}
 use Rattle.driver_table.specs.Cut.{cut_of, behind}
 use Rattle.driver_fields.specs.Values.{values_fault}
 use Rattle.driver_fields.specs.Lacking.{lacking}
@@ -45,9 +46,21 @@ abbrev pub unless_said : Option What → Answer → Answer
 unless_said (Some what) answer = Says what
 unless_said None answer = answer
 
+-- Whether there is an input among words.
+abbrev pub is_path : List ℕ → Bool
+is_path word = not (begins (codes "-") word)
+
+abbrev pub has_path : List (List ℕ) → Bool
+has_path words = list_any is_path words
+
+-- Behind so many words there has to be an input: a thin library may have no member, and so stand for none.
+abbrev pub with_path : ℕ → Result (List (List ℕ)) (List ℕ) → Result (List (List ℕ)) (List ℕ)
+with_path options (Ok words) = if has_path (drop options words) then Ok words else Err (codes "no input files")
+with_path options (Err refusal) = Err refusal
+
 -- Files from left to right, and then warnings.
 abbrev pub linked : World → List Said → Answer
-linked held items = then_answer (behind (own_words items) (inputs_of held items)) (λ own. links (fatal items) own (warnings items))
+linked held items = then_answer (with_path (length (own_words items)) (behind (own_words items) (inputs_of held items))) (λ own. links (fatal items) own (warnings items))
 
 -- What is asked for, values from left to right, what all words together lack, and then the files.
 abbrev pub answered : World → List Said → Answer

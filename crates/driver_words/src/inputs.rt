@@ -6,7 +6,7 @@ ghost use Rattle.driver_words.specs.Expand.{Blames};
 ghost use Rattle.driver_table.specs.Cut.{behind};
 ghost use Rattle.driver_texts.specs.Paths.{plain as plain_of, member_path as member_path_of};
 ghost use Rattle.driver_words.specs.Start.{started};
-ghost use Rattle.driver_words.specs.Inputs.{file_named, or_unfound as or_unfound_of, library_path as library_path_of, marked, grouped, opened, opened_of, given_by, inside_after, whole_after, inputs_of, inputs_from, folders_of, outcome};
+ghost use Rattle.driver_words.specs.Inputs.{file_named, or_unfound as or_unfound_of, library_path as library_path_of, marked, grouped, is_thin as is_thin_of, opened, opened_of, given_by, inside_after, whole_after, inputs_of, inputs_from, folders_of, outcome};
 
 use crate::search::{find_library, library_file};
 use crate::spread::load_members;
@@ -89,6 +89,13 @@ fn put_group(
     Ok(())
 }
 
+// Whether a path has a thin library. What is named as an object isn't looked into, so that no object is opened twice.
+fn is_thin<F: Finder>(shelf: &F, path: &str) -> bool
+    ensures { IsTrue (F.shown shelf.now).tells → result ≡ is_thin_of (F.shown shelf.now).held path.now }
+{
+    !path.as_bytes().ends_with(b".o".as_slice()) && shelf.begins_with(path, THIN.as_bytes())
+}
+
 // Puts the words of a path behind the others.
 fn open<F: Finder>(
     alloc: Global,
@@ -102,7 +109,7 @@ fn open<F: Finder>(
     ensures grows { Grows (F.shown shelf.old) (F.shown shelf.new) }
     ensures cause { IfErr result (λ e. Blames e (F.shown shelf.old) (F.shown shelf.new)) }
 {
-    if !shelf.begins_with(path.as_str(), THIN.as_bytes()) {
+    if !is_thin(shelf, path.as_str()) {
         words.push(path)?;
         return Ok(());
     }

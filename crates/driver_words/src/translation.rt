@@ -1,10 +1,10 @@
 //! The translation. Each step judges all words before the next begins, so that the first fault in
 //! this order is told.
-ghost use Rattle.std.specs.Prelude.{◌≡◌, IsTrue, IfOk, IfErr};
+ghost use Rattle.std.specs.Prelude.{◌≡◌, drop, IsTrue, IfOk, IfErr};
 ghost use Rattle.std.specs.Option.{option_map};
 ghost use Rattle.wl_outside.specs.Shelf.{Same, Grows};
 ghost use Rattle.driver_words.specs.Expand.{Blames};
-ghost use Rattle.driver_words.specs.Translated.{asked as asked_of, links as links_of, linked, answered, cut_and_answered, expanded_and_answered, translated_words, under_flavor, first_and_rest, flavored, is_flavor as is_flavor_of, behind_flavor as behind_flavor_of, translated};
+ghost use Rattle.driver_words.specs.Translated.{asked as asked_of, links as links_of, has_path as has_path_of, linked, answered, cut_and_answered, expanded_and_answered, translated_words, under_flavor, first_and_rest, flavored, is_flavor as is_flavor_of, behind_flavor as behind_flavor_of, translated};
 
 use crate::answer::{Answer, What};
 use crate::inputs::with_inputs;
@@ -47,6 +47,16 @@ fn links(
     Ok(Answer::Links { own, warnings })
 }
 
+// Whether there is an input behind so many words.
+fn has_path(words: &[Text], options: usize) -> bool
+    ensures { result ≡ has_path_of (drop options words.now) }
+{
+    words
+        .iter()
+        .skip(options)
+        .any(|word| !word.as_str().starts_with("-"))
+}
+
 // The answer of the files that items name.
 fn link<F: Finder>(alloc: Global, shelf: &mut F, items: &[Item<'_>]) -> Result<Answer, Stop>
     ensures answer { IfOk result (λ answer. IsTrue (F.shown shelf.old).tells → answer ≡ linked (F.shown shelf.old).held items.now) }
@@ -55,7 +65,11 @@ fn link<F: Finder>(alloc: Global, shelf: &mut F, items: &[Item<'_>]) -> Result<A
     ensures cause { IfErr result (λ e. Blames e (F.shown shelf.old) (F.shown shelf.new)) }
 {
     let own = own_words(alloc, items)?;
+    let options = own.len();
     match with_inputs(alloc, shelf, items, own)? {
+        Ok(own) if !has_path(own.as_slice(), options) => {
+            Ok(Answer::Refuses(Text::new(alloc, "no input files")?))
+        }
         Ok(own) => Ok(links(alloc, fatal(items), own, warnings(alloc, items)?)?),
         Err(refusal) => Ok(Answer::Refuses(refusal)),
     }

@@ -191,6 +191,9 @@ const THIN_LIBRARY: &[File] = &[(
     "!<thin>\n/               0           0     0     644     4         `\n\0\0\0\0//              0           0     0     644     15        `\na.o/\n/abs/b.o/\n\n/0              0           0     0     644     100       `\n/5              0           0     0     644     100       `\n",
 )];
 
+/// A thin library without members.
+const THIN_LIBRARY_OF_NONE: &[File] = &[("d/t.a", "!<thin>\n")];
+
 /// A thin library of one member.
 const THIN_LIBRARY_OF_ONE: &[File] = &[(
     "d/t.a",
@@ -490,7 +493,17 @@ fn response_files(rt: HostRuntime) -> Result<(), Fail> {
 
 #[test]
 fn thin_libraries(rt: HostRuntime) -> Result<(), Fail> {
-    let cases: [(&[File], &'static str, Want); 3] = [
+    let cases: [(&[File], &'static str, Want); 5] = [
+        (
+            THIN_LIBRARY_OF_NONE,
+            "m.o d/t.a -o o",
+            Want::Own("-o o --stack-first m.o --start-lib --end-lib"),
+        ),
+        (
+            THIN_LIBRARY_OF_NONE,
+            "d/t.a -o o",
+            Want::Line("no input files"),
+        ),
         (
             THIN_LIBRARY,
             "m.o d/t.a -o o",

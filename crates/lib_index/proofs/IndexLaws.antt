@@ -13,7 +13,7 @@ use Rattle.std.proofs.lemmas.List.Kept.{AllPairs-from_increasing}
 use Rattle.std.proofs.lemmas.List.Sums.{position_or_len_is}
 use Rattle.std.proofs.lemmas.List.Sorted.{searched}
 use Rattle.std.proofs.lemmas.List.Quantifiers.{position-Some}
-use Rattle.std.proofs.lemmas.Option.{slice_get_past, slice_get-get_or, get_or_from_slice_get}
+use Rattle.std.proofs.lemmas.Option.{slice_get_past, slice_get-get_or, slice_get_within, get_or_from_slice_get}
 use Rattle.std.proofs.Math.Seq.{drop-cons}
 use Rattle.std.proofs.Math.ListN.{get_or}
 use Rattle.wl_base.specs.declared.fault.LibFault.{LibFault}
@@ -50,6 +50,10 @@ position_at xs x i rise lt is =
     (λ k below. ne_eqb (get_or xs k 0) x (omega (arith, rises xs rise k i below lt, is)))
     (λ within. eq-eqb (get_or xs i 0) x is) in
     rw (n, lt-ltb i (length xs) lt) refl
+
+-- the same, as a list is asked
+pub found_at : (xs : List ℕ) (x i : ℕ) → IsStrictlyIncreasing xs → slice_get xs i ≡ Some x → Some i ≡ position (here x) xs
+found_at xs x i rise at = sym (position_at xs x i rise (slice_get_within xs i x at) (get_or_from_slice_get xs i x 0 at))
 
 position_none : (xs : List ℕ) (x : ℕ) → ((k : ℕ) → k < length xs → get_or xs k 0 ≢ x) → position (here x) xs ≡ None
 position_none xs x other =

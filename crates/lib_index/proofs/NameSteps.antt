@@ -1,18 +1,17 @@
 -- Reading names one after the other, as a loop does, into what is offered.
 use Rattle.std.proofs.Common.{◌≡◌, ℕ, ◌+◌, ◌≤◌, ◌<◌, true, false, cond, List, [], ◌∷◌, length, drop, Some, None, Result, Ok, Err, refl, sym, ap, ◌∙◌, arith, inl, inr, add-one}
-use Rattle.std.specs.Prelude.{min, map}
+use Rattle.std.specs.Prelude.{min, nat_lt}
 use Rattle.std.specs.Map.{lookup}
 use Rattle.std.specs.Str.{bytes_eq}
-use Rattle.std.proofs.lemmas.Bool.{cases_Bool, leb-true, leb-false}
+use Rattle.std.proofs.lemmas.Bool.{cases_Bool, ltb-true, ltb-false}
 use Rattle.std.proofs.lemmas.List.{drop_all}
 use Rattle.std.proofs.Math.Seq.{drop-cons}
 use Rattle.std.proofs.Math.ListN.{get_or}
 use Rattle.wl_base.specs.declared.fault.LibFault.{LibFault}
 use Rattle.wl_base.specs.declared.fault.LibFault.TheVariants.{BadIndex}
 use Rattle.lib_index.specs.Reading.{◌>>=◌, name_at, entries_at, offers}
-use Rattle.std.specs.Global.{Vec}
 use Rattle.indexmap.specs.IndexMap.{insert_entry}
-use Rattle.lib_index.specs.Table.{offered_onto, is_kept}
+use Rattle.lib_index.specs.Table.{offered_onto, lesser}
 use Rattle.lib_index.proofs.LeastLaws.{Entry, onto_all, onto_nothing}
 
 -- what is offered so far, and the entries that are still read
@@ -55,43 +54,41 @@ onto_offers (Err d) = refl
 
 -- ---- one offer
 
--- a member that isn't less than the one that is there changes nothing
-pub kept : (os : List Entry) (name : List ℕ) (k : ℕ) → is_kept os name k ≡ true → os ≡ offered_onto os name k
-kept [] name k is = absurd cc
-kept (o ∷ os) name k is =
-    elim (cases_Bool (bytes_eq name o.0)) [
-      | inl same ↦
-          let le : o.1 ≤ k = leb-true o.1 k (rw same at is) in
-          let least : min k o.1 ≡ o.1 = omega (arith, le) in
-          rw (same, least) refl
-      | inr other ↦ rw other (ap (λ (xs : List Entry). o ∷ xs) (kept os name k (rw other at is)))
+not_less : (first k : ℕ) → lesser (Some first) k ≡ None → k ≤ first
+not_less first k none =
+    elim (cases_Bool (nat_lt first k)) [
+      | inl less ↦ let h : lesser (Some first) k ≡ Some first = rw less refl in absurd cc
+      | inr not_so ↦ ltb-false first k not_so
     ]
 
--- and any other is put in
-pub put_in : (os : List Entry) (name : List ℕ) (k : ℕ) → is_kept os name k ≡ false → insert_entry bytes_eq os name k ≡ offered_onto os name k
+is_less : (before k first : ℕ) → lesser (Some before) k ≡ Some first → (before ≡ first) × (before < k)
+is_less before k first some =
+    elim (cases_Bool (nat_lt before k)) [
+      | inl less ↦ let h : lesser (Some before) k ≡ Some before = rw less refl in (let e : before ≡ first = cc in e, ltb-true before k less)
+      | inr not_so ↦ let h : lesser (Some before) k ≡ None = rw not_so refl in absurd cc
+    ]
+
+-- where none that is less was offered, the member takes the place
+pub put_in : (os : List Entry) (name : List ℕ) (k : ℕ) → lesser (lookup (bytes_eq name) os) k ≡ None → insert_entry bytes_eq os name k ≡ offered_onto os name k
 put_in [] name k is = refl
 put_in (o ∷ os) name k is =
     elim (cases_Bool (bytes_eq name o.0)) [
       | inl same ↦
-          let lt : k < o.1 = leb-false o.1 k (rw same at is) in
-          let least : min k o.1 ≡ k = omega (arith, lt) in
+          let none : lesser (Some o.1) k ≡ None = rw same at is in
+          let least : min k o.1 ≡ k = omega (arith, not_less o.1 k none) in
           rw (same, least) refl
       | inr other ↦ rw other (ap (λ (xs : List Entry). o ∷ xs) (put_in os name k (rw other at is)))
     ]
 
--- ---- the map's keys own their bytes
-
-abbrev pub plain : Vec ℕ × ℕ → Entry
-plain e = (e.0.items, e.1)
-
-pub shown_lookup : (es : List (Vec ℕ × ℕ)) (name : List ℕ) → lookup (λ key. bytes_eq name key.items) es ≡ lookup (bytes_eq name) (map plain es)
-shown_lookup [] name = refl
-shown_lookup (e ∷ es) name = ap (cond (bytes_eq name e.0.items) (Some e.1)) (shown_lookup es name)
-
-pub shown_insert : (es : List (Vec ℕ × ℕ)) (key : Vec ℕ) (k : ℕ) → map plain (insert_entry (λ a b. bytes_eq a.items b.items) es key k) ≡ insert_entry bytes_eq (map plain es) key.items k
-shown_insert [] key k = refl
-shown_insert (e ∷ es) key k =
-    elim (cases_Bool (bytes_eq key.items e.0.items)) [
-      | inl same ↦ rw same refl
-      | inr other ↦ rw other (ap (λ (xs : List Entry). plain e ∷ xs) (shown_insert es key k))
+-- and else the lesser is put back
+pub put_back : (os : List Entry) (name : List ℕ) (k first : ℕ) → lesser (lookup (bytes_eq name) os) k ≡ Some first
+    → insert_entry bytes_eq (insert_entry bytes_eq os name k) name first ≡ offered_onto os name k
+put_back [] name k first is = absurd cc
+put_back (o ∷ os) name k first is =
+    elim (cases_Bool (bytes_eq name o.0)) [
+      | inl same ↦
+          let less = is_less o.1 k first (rw same at is) in
+          let least : min k o.1 ≡ first = omega (arith, less.0, less.1) in
+          rw (same, same, least) refl
+      | inr other ↦ rw (other, other) (ap (λ (xs : List Entry). o ∷ xs) (put_back os name k first (rw other at is)))
     ]

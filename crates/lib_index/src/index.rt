@@ -1,5 +1,5 @@
 //! The index of a library.
-ghost use Rattle.std.specs.Prelude.{◌≡◌, ◌==◌, ◌^◌, ◌<◌, ◌≤◌, ◌+◌, length, Ok, All, option_map, position};
+ghost use Rattle.std.specs.Prelude.{◌≡◌, ◌==◌, ◌^◌, ◌<◌, ◌≤◌, ◌+◌, length, Ok, Some, All, IsTrue, option_map, position, slice_get};
 ghost use Rattle.std.specs.List.Sorted.{IsStrictlyIncreasing};
 ghost use Rattle.lib_index.specs.Library.{headers};
 ghost use Rattle.lib_index.specs.Reading.{Reads, offers, Answers, word_at, number_at, numbers_at, counted_index, index_at, first_index, entries_of};
@@ -24,19 +24,37 @@ fn word_at(bytes: &[u8]) -> Option<(u32, &[u8])>
     Some((0x1_0000 * high + low, rest))
 }
 
-/// The number of the member whose header stands at a place.
-fn number_of(places: &[u64], place: u32) -> Option<usize>
+/// Whether the header of the member of a number stands at a place.
+fn stands_at(places: &[u64], number: usize, place: u64) -> bool
+    ensures { IsTrue result → slice_get places.now number ≡ Some place }
+{
+    match places.get(number) {
+        Some(other) => *other == place,
+        None => false,
+    }
+}
+
+/// The number of the member whose header stands at a place. Most names are of the member of the name before, which has the number
+/// `near`, or of the next one.
+fn number_of(places: &[u64], near: usize, place: u32) -> Option<usize>
     requires { IsStrictlyIncreasing places.now }
     ensures { result ≡ position (λ p. p == place) places.now }
 {
     let place = place as u64;
+    if stands_at(places, near, place) {
+        return Some(near);
+    }
+    let next = near.saturating_add(1);
+    if stands_at(places, next, place) {
+        return Some(next);
+    }
     places.binary_search(&place).ok()
 }
 
 /// The number of the member whose header stands at the place that is at the front, and the bytes
 /// after it.
 #[tactic(auto, unfolding(crate::specs::Reading::number_at))]
-fn number_at<'a>(places: &[u64], bytes: &'a [u8]) -> Result<(u32, &'a [u8]), LibFault>
+fn number_at<'a>(places: &[u64], near: usize, bytes: &'a [u8]) -> Result<(u32, &'a [u8]), LibFault>
     requires rising { IsStrictlyIncreasing places.now }
     requires few { length places.now < 2 ^ 32 }
     ensures { Reads (λ x. (x.0, x.1.now)) result (number_at places.now bytes.now) }
@@ -44,7 +62,7 @@ fn number_at<'a>(places: &[u64], bytes: &'a [u8]) -> Result<(u32, &'a [u8]), Lib
     let Some((place, rest)) = word_at(bytes) else {
         return Err(LibFault::BadIndex(1));
     };
-    let Some(number) = number_of(places, place) else {
+    let Some(number) = number_of(places, near, place) else {
         return Err(LibFault::BadIndex(2));
     };
     Ok((number as u32, rest))
@@ -57,10 +75,12 @@ fn numbers_at(alloc: Global, places: &[u64], count: u32, bytes: &[u8]) -> Result
     ensures { Answers (λ x. x) result (numbers_at places.now count bytes.now) }
 {
     let mut numbers = Seq::new(alloc);
+    let mut near = 0;
     let mut rest = bytes;
     for _ in 0..count {
-        let (number, after) = number_at(places, rest)?;
+        let (number, after) = number_at(places, near, rest)?;
         numbers.push(number)?;
+        near = number as usize;
         rest = after;
     }
     Ok(numbers)

@@ -1,10 +1,9 @@
 -- Names in a table, and the names of an object.
 use Rattle.std.proofs.Common.{◌≡◌, ℕ, zero, suc, ◌+◌, ◌-◌, ◌<◌, ◌≤◌, ltb, eqb, Bool, true, false, cond, List, [], ◌∷◌, length, drop, Option, Some, None, refl, sym, ap, ◌∙◌, arith, inl, inr, add-one}
-use Rattle.std.specs.Prelude.{map, slice_get, filter, filter_map}
+use Rattle.std.specs.Prelude.{slice_get, filter, filter_map}
 use Rattle.std.specs.Option.{option_and_then}
 use Rattle.std.specs.Map.{lookup}
 use Rattle.std.specs.Str.{bytes_eq}
-use Rattle.std.specs.Global.{Vec}
 use Rattle.std.proofs.lemmas.Bool.{cases_Bool}
 use Rattle.std.proofs.lemmas.Option.{slice_get-get_or}
 use Rattle.std.proofs.lemmas.Slice.Eq.{bytes_eq-Decides}
@@ -17,13 +16,6 @@ use Rattle.std.specs.Ordering.{nat_cmp, is_lt}
 use Rattle.std.specs.Cmp.Lexicographic.{slice_cmp}
 use Rattle.round_rules.specs.Rounds.{comes_before, lesser_name, least_name}
 use Rattle.lib_rounds.specs.Held.{name_if}
-
-abbrev pub plain : Vec ℕ × ℕ → List ℕ × ℕ
-plain e = (e.0.items, e.1)
-
-pub shown_lookup : (es : List (Vec ℕ × ℕ)) (name : List ℕ) → lookup (λ key. bytes_eq name key.items) es ≡ lookup (bytes_eq name) (map plain es)
-shown_lookup [] name = refl
-shown_lookup (e ∷ es) name = ap (cond (bytes_eq name e.0.items) (Some e.1)) (shown_lookup es name)
 
 -- the names of the symbols that pass a test
 abbrev pub names_in : (Symbol → Bool) → List Symbol → List (List ℕ)
@@ -96,21 +88,21 @@ one_more names name input n before =
 same_name : (a b : List ℕ) → bytes_eq a b ≡ true → a ≡ b
 same_name a b e = (bytes_eq-Decides a b).0 e
 
-pub put_lookup : (es : List (Vec ℕ × ℕ)) (key : Vec ℕ) (k : ℕ) (n : List ℕ)
-    → lookup (bytes_eq n) (map plain (insert_entry (λ a b. bytes_eq a.items b.items) es key k)) ≡ cond (bytes_eq n key.items) (Some k) (lookup
-    (bytes_eq n) (map plain es))
+pub put_lookup : (es : List (List ℕ × ℕ)) (key : List ℕ) (k : ℕ) (n : List ℕ)
+    → lookup (bytes_eq n) (insert_entry bytes_eq es key k) ≡ cond (bytes_eq n key) (Some k) (lookup
+    (bytes_eq n) es)
 put_lookup [] key k n = refl
 put_lookup (e ∷ es) key k n =
-    elim (cases_Bool (bytes_eq key.items e.0.items)) [
-      | inl is ↦ let s : key.items ≡ e.0.items = same_name key.items e.0.items is in
-          elim (cases_Bool (bytes_eq n e.0.items)) [ inl h ↦ rw (is, s, h) refl | inr h ↦ rw (is, s, h) refl ]
+    elim (cases_Bool (bytes_eq key e.0)) [
+      | inl is ↦ let s : key ≡ e.0 = same_name key e.0 is in
+          elim (cases_Bool (bytes_eq n e.0)) [ inl h ↦ rw (is, s, h) refl | inr h ↦ rw (is, s, h) refl ]
       | inr not_so ↦
-          elim (cases_Bool (bytes_eq n e.0.items)) [
+          elim (cases_Bool (bytes_eq n e.0)) [
             | inl h ↦
-                let s : n ≡ e.0.items = same_name n e.0.items h in
-                elim (cases_Bool (bytes_eq n key.items)) [
-                  | inl g ↦ let t : n ≡ key.items = same_name n key.items g in let u : bytes_eq key.items e.0.items ≡ true = rw (sym t, s)
-                      ((bytes_eq-Decides e.0.items e.0.items).1 refl) in absurd cc
+                let s : n ≡ e.0 = same_name n e.0 h in
+                elim (cases_Bool (bytes_eq n key)) [
+                  | inl g ↦ let t : n ≡ key = same_name n key g in let u : bytes_eq key e.0 ≡ true = rw (sym t, s)
+                      ((bytes_eq-Decides e.0 e.0).1 refl) in absurd cc
                   | inr g ↦ rw (not_so, h, g) refl
                 ]
             | inr h ↦ rw (not_so, h) (put_lookup es key k n)

@@ -11,23 +11,23 @@ ghost use Rattle.round_rules.specs.Rounds.{defined_names};
 use indexmap::IndexMap;
 use object_file::Object;
 use std::alloc::Global;
-use wl_base::{InputId, OutOfMemory};
+use wl_base::{InputId, Key, KeyRef, OutOfMemory};
 
 /// An input for each of some names.
-pub type Table = IndexMap<Vec<u8>, InputId>;
+pub type Table = IndexMap<Key, InputId>;
 
 /// The input of the name.
 pub fn input_of(table: &Table, name: &[u8]) -> Option<InputId>
     ensures { result ≡ lookup (bytes_eq name.now) (shown table.now) }
 {
-    table.get(name).copied()
+    table.get(KeyRef { bytes: name }).copied()
 }
 
 /// Gives the name this input, in the place of the one that it may have.
 pub fn put(alloc: Global, table: &mut Table, name: &[u8], input: InputId) -> Result<(), OutOfMemory>
     ensures { OnOk result ((n : List ℕ) → lookup (bytes_eq n) (shown table.new) ≡ cond (bytes_eq n name.now) (Some input) (lookup (bytes_eq n) (shown table.old))) }
 {
-    table.insert(Vec::from_slice(alloc, name)?, input)?;
+    table.insert(Key::new(alloc, name)?, input)?;
     Ok(())
 }
 

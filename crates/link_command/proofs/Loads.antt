@@ -1,14 +1,8 @@
 -- What a run of loads keeps.
 use Rattle.std.proofs.Common.{◌≡◌, ℕ, ◌+◌, List, [], ◌∷◌, ◌++◌, length, map, take, Option, Some, None, IsTrue, subst, sym, ◌∙◌, refl, ap, get_or, ◌<◌, arith, length-append}
-use Rattle.std.specs.Prelude.{Result, Ok, Err, IfOk, IfErr}
 use Rattle.std.proofs.lemmas.List.{take_more, map-append}
 use Rattle.wl_outside.specs.Shelf.{Shown, Same, Grows, Holds}
 use Rattle.link_command.specs.Command.{contents, with_first}
-use Rattle.link_command.specs.ReadCause.{ReadCause}
-use Rattle.link_command.specs.declared.inputs.ReadError.{ReadError}
-use Rattle.link_command.specs.declared.inputs.ReadError.TheVariants.{Failed, OutOfMemory}
-use Rattle.link_plan.specs.declared.plan.Plan.{Plan}
-use Rattle.link_words.specs.Words.{word}
 
 -- the shelf holds what it held, and the files are the contents of the names
 pub record SoFar (before now : Shown) (names : List (List ℕ)) (files : List (List ℕ)) : Type 0 where
@@ -56,15 +50,3 @@ so_far_more before mid after names files n b s same grows holds =
       count = omega (arith, s.count, length-append names (n ∷ []), length-append files (b ∷ []));
       loaded = λ t. contents_push before.held names files n b (s.loaded t) (sym (s.held t n) ∙ holds (tells t));
     }
-
--- what holds behind a shelf that is as it was before, and has no count that fell
-module _ (before mid after : Shown) (same : Same before mid) (grows : Grows before mid) where
-  pub told_on : (names : List (List ℕ)) (r : Result (List (List ℕ)) ReadError) → IfOk r (λ files. IsTrue mid.tells → contents mid.held names ≡ Some files)
-      → IfOk r (λ files. IsTrue before.tells → contents before.held names ≡ Some files)
-  told_on names (Ok files) told = λ t. (λ i. contents (λ n. sym (same t n) i) names) ∙ told (subst (λ v. IsTrue v) (sym grows.tells) t)
-  told_on names (Err e) told = tt
-
-  pub cause_on : (r : Result (List (List ℕ)) ReadError) (words : List (List ℕ)) (plan : Plan) → IfErr r (λ e. ReadCause e mid after words plan) → IfErr r (λ e. ReadCause e before after words plan)
-  cause_on (Ok files) words plan cause = tt
-  cause_on (Err (Failed k)) words plan cause = let x = grows.loads (word words k) in let y = cause.1 in (cause.0, omega arith)
-  cause_on (Err OutOfMemory) words plan cause = tt

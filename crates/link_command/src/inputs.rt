@@ -53,50 +53,8 @@ pub fn files<F: Shelf>(
     }
 }
 
-// Tells the shelf which names will be loaded. Where memory for them is refused, it isn't told.
-fn foresee_inputs<F: Shelf>(alloc: Global, plan: &Plan, words: &[Text], shelf: &mut F)
-    requires { All (λ i. i.place < length words.now) plan.now.inputs }
-    ensures held { Same (F.shown shelf.old) (F.shown shelf.new) }
-    ensures counts { Grows (F.shown shelf.old) (F.shown shelf.new) }
-{
-    if let Ok(names) = names_of(alloc, plan, words) {
-        shelf.foresee(alloc, names.as_slice(), plan.threads);
-    }
-}
-
-// The names of the inputs, in the order of the words.
-fn names_of<'a>(alloc: Global, plan: &Plan, words: &'a [Text]) -> Result<Seq<&'a str>, OutOfMemory>
-    requires { All (λ i. i.place < length words.now) plan.now.inputs }
-{
-    let mut names = Seq::new(alloc);
-    for input in plan.inputs.as_slice() {
-        names.push(words[input.place as usize].as_str())?;
-    }
-    Ok(names)
-}
-
-// Loads each input whole, in the order of the words, where the shelf was told of them.
+// Loads each input whole, in the order of the words.
 fn load_inputs<F: Shelf>(
-    alloc: Global,
-    plan: &Plan,
-    words: &[Text],
-    shelf: &mut F,
-) -> Result<Seq<Seq<u8>>, ReadError>
-    requires { All (λ i. i.place < length words.now) plan.now.inputs }
-    ensures count { IfOk result (λ files. length files ≡ length plan.now.inputs) }
-    ensures files { IfOk result (λ files. IsTrue (F.shown shelf.old).tells
-        → contents (F.shown shelf.old).held (input_names words.now plan.now) ≡ Some files) }
-    ensures held { Same (F.shown shelf.old) (F.shown shelf.new) }
-    ensures counts { Grows (F.shown shelf.old) (F.shown shelf.new) }
-    ensures cause { IfErr result (λ e. ReadCause e (F.shown shelf.old) (F.shown shelf.new) words.now plan.now) }
-{
-    foresee_inputs(alloc, plan, words, shelf);
-    let files = load_each(alloc, plan, words, shelf);
-    files
-}
-
-// The same one by one.
-fn load_each<F: Shelf>(
     alloc: Global,
     plan: &Plan,
     words: &[Text],

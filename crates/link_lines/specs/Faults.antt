@@ -2,7 +2,7 @@
 use Rattle.std.specs.Prelude.{ℕ, List, [], ◌∷◌, ◌++◌, codes, decimal}
 use Rattle.std.specs.Fmt.{signed_decimal}
 use Rattle.wl_base.specs.declared.fault.Fault.{Fault}
-use Rattle.wl_base.specs.declared.fault.Fault.TheVariants.{TooMuchInput, Library, TooManyInputs, TooLong, Malformed, Unsupported, IndexLies, TooManyNames, Clash, Duplicate, NotPic, Unresolved, Overflow, Invalid, BadDebug, DebugTooLong, NotPartial, PartialTooLong}
+use Rattle.wl_base.specs.declared.fault.Fault.TheVariants.{TooMuchInput, Library, TooManyInputs, TooLong, Malformed, Unsupported, IndexLies, TooManyNames, Clash, Duplicate, NotPic, Unresolved, Overflow, Invalid, BadDebug, DebugTooLong, NotPartial, PartialTooLong, Uncalled}
 use Rattle.wl_base.specs.declared.fault.Part.{Part}
 use Rattle.wl_base.specs.declared.fault.Part.TheVariants.{Frame, Section, Cross}
 use Rattle.wl_base.specs.declared.fault.InvalidAt.{InvalidAt}
@@ -67,3 +67,4 @@ fault_line (BadDebug input section) = input_line input (codes ": bad debug secti
 fault_line (DebugTooLong needed) = number_line (codes "wasmld: debug sections need ") (decimal needed) (codes " bytes\n")
 fault_line (NotPartial file) = number_line (codes "wasmld: file ") (decimal file) (codes ": not an object for a partial link\n")
 fault_line (PartialTooLong needed) = number_line (codes "wasmld: partial link needs ") (decimal needed) (codes " bytes\n")
+fault_line Uncalled = codes "wasmld: constructors would not be called: link a start file that calls __wasm_call_ctors\n"

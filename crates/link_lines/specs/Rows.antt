@@ -1,7 +1,7 @@
 -- Lines, letter for letter.
 use Rattle.std.specs.Prelude.{◌≡◌, refl, ℕ, List, [], ◌∷◌, codes, pos, negsuc}
 use Rattle.std.specs.Fmt.{digits}
-use Rattle.wl_base.specs.declared.fault.Fault.TheVariants.{TooMuchInput, Library, TooManyInputs, TooLong, Malformed, Unsupported, IndexLies, TooManyNames, Clash, Duplicate, NotPic, Unresolved, Overflow, Invalid, BadDebug, DebugTooLong, NotPartial, PartialTooLong}
+use Rattle.wl_base.specs.declared.fault.Fault.TheVariants.{TooMuchInput, Library, TooManyInputs, TooLong, Malformed, Unsupported, IndexLies, TooManyNames, Clash, Duplicate, NotPic, Unresolved, Overflow, Invalid, BadDebug, DebugTooLong, NotPartial, PartialTooLong, Uncalled}
 use Rattle.wl_base.specs.declared.fault.Part.TheVariants.{Frame, Section, Cross}
 use Rattle.wl_base.specs.declared.fault.LibFault.TheVariants.{Thin, BadIndex}
 use Rattle.wl_base.specs.declared.fault.What.TheVariants.{OutputLength}
@@ -111,6 +111,9 @@ not_partial = refl
 pub partial_too_long : fault_line (PartialTooLong 1073741825) ≡ codes "wasmld: partial link needs 1073741825 bytes\n"
 unfolding number_line digits
 partial_too_long = refl
+
+pub constructors_lost : fault_line Uncalled ≡ codes "wasmld: constructors would not be called: link a start file that calls __wasm_call_ctors\n"
+constructors_lost = refl
 
 pub a_missing_value : usage_line (MissingValue 3) ≡ codes "wasmld: usage: MissingValue at word 3\n"
 unfolding digits

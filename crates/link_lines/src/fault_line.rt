@@ -103,6 +103,12 @@ pub fn say_fault<E: Sink>(fault: &Fault, say: &mut E) -> Result<(), Failed>
             " bytes\n",
             say,
         ),
+        Fault::Uncalled => print(
+            &[Text(
+                "wasmld: constructors would not be called: link a start file that calls __wasm_call_ctors\n",
+            )],
+            say,
+        ),
     }
 }
 

@@ -8,5 +8,6 @@ pub mod Grouped
 pub mod Few
 pub mod Each
 pub mod Added
+pub mod Along
 pub mod Told
 pub use Rattle.object_file.proofs as object_file_lemmas

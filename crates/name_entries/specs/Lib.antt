@@ -3,6 +3,7 @@ pub mod Parts
 pub mod Fits
 pub mod Shown
 pub mod Rows
+pub mod Pieces
 pub use Rattle.object_file.specs.wl_base as wl_base
 pub use Rattle.object_file.specs.wl_lists as wl_lists
 pub use Rattle.object_file.specs.wasm_types as wasm_types

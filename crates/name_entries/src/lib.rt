@@ -5,7 +5,9 @@
 mod dropping;
 mod entry;
 mod lookups;
+mod making;
 mod parts;
+mod pieces;
 mod spaces;
 mod symbol_rows;
 mod table;

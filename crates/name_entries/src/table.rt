@@ -9,14 +9,18 @@ ghost use Rattle.name_entries.specs.Fits.{GroupsAreNumbered, IsTable, Fits};
 
 use crate::dropping::dropped_of;
 use crate::lookups::Entries;
+use crate::making::made_piece;
 use crate::parts::ObjectParts;
-use crate::symbol_rows::{EntryRow, fill_rows};
+use crate::pieces::Piece;
+use crate::symbol_rows::EntryRow;
 use comdat_pick::ComdatWinners;
 use link_names::Names;
 use object_file::{ImportPlaces, Imports, Object};
 use std::alloc::Global;
+use std::thread::Threads;
 use wasm_types::ImportKind;
 use wl_base::{OutOfMemory, Seq};
+use wl_fan::Workers;
 use wl_lists::{Lists, shrunk};
 
 /// What is looked up of the objects; `view` lends it with them.
@@ -59,7 +63,7 @@ pub(crate) fn places_of(alloc: Global, imports: &Imports) -> Result<ImportPlaces
 }
 
 /// What is looked up of an object, which has this place among the objects.
-fn parts_of(
+pub(crate) fn parts_of(
     alloc: Global,
     objects: &[Object],
     object: u32,
@@ -81,6 +85,18 @@ fn parts_of(
     })
 }
 
+/// The table of what is looked up of all objects.
+fn table_of(piece: Piece) -> EntryTable
+    ensures parts { result.parts ≡ piece.parts }
+    ensures rows { result.rows ≡ piece.rows }
+{
+    let Piece { parts, rows } = piece;
+    EntryTable {
+        parts,
+        rows: rows.shrunk(),
+    }
+}
+
 impl EntryTable {
     /// The table of these objects: `groups` has the winners of their groups, by the numbers of the groups' names.
     pub fn new(
@@ -94,20 +110,25 @@ impl EntryTable {
         requires groups { GroupsAre names.now.names objects.now groups.now }
         ensures { IfOk result (IsTable objects.now names.now) }
     {
-        let mut parts = Seq::from_vec(Vec::with_capacity(alloc, objects.len())?);
-        let mut rows = Lists::new(alloc);
-        let mut row = Seq::new(alloc);
-        for object in 0..objects.len() as u32 {
-            let from = &objects[object as usize];
-            let own = parts_of(alloc, objects, object, from, names, groups)?;
-            fill_rows(&mut row, objects, object, from, &own, names)?;
-            rows.push(row.as_slice())?;
-            parts.push(own)?;
-        }
-        Ok(EntryTable {
-            parts,
-            rows: rows.shrunk(),
-        })
+        let piece = Piece::of(alloc, objects, names, groups, 0, objects.len() as u32)?;
+        Ok(table_of(piece))
+    }
+
+    /// The same table, made by the workers, where the objects have many symbols.
+    pub fn by_workers<R: Threads + Sync>(
+        rt: &R,
+        alloc: Global,
+        objects: &[Object],
+        names: &Names,
+        groups: &ComdatWinners,
+        workers: Workers,
+    ) -> Result<EntryTable, OutOfMemory>
+        requires numbers { GroupsAreNumbered objects.now names.now }
+        requires groups { GroupsAre names.now.names objects.now groups.now }
+        ensures { IfOk result (IsTable objects.now names.now) }
+    {
+        let piece = made_piece(rt, alloc, objects, names, groups, workers)?;
+        Ok(table_of(piece))
     }
 
     /// The view of the objects that the table was made of.

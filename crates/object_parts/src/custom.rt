@@ -8,7 +8,8 @@ use crate::parts::Parts;
 use linking_section::{Linking, linking_at};
 use reloc_section::{RelocSection, relocs_at};
 use std::alloc::Global;
-use wasm_grammar::{ReadFault, Stop, name_at, u32_at};
+use wasm_grammar::{ReadFault, Stop, u32_at};
+use wasm_module::lent_name_at;
 use wasm_sections::SectionSpan;
 use wl_base::{Item, OutOfMemory, Seq};
 
@@ -127,7 +128,7 @@ pub fn add_custom(
 ) -> Result<(), ReadFault>
     ensures { Gives (λ _. parts.new) result (add_custom all.now parts.old end payload.now) }
 {
-    let (name, bytes) = name_at(alloc, end, payload)?;
-    let kind = CustomKind::of(name.as_slice());
+    let (name, bytes) = lent_name_at(end, payload)?;
+    let kind = CustomKind::of(name);
     add_named(alloc, all, kind, parts, end, bytes)
 }

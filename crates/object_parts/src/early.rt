@@ -11,7 +11,8 @@ use crate::kind::CustomKind;
 use crate::placed::bytes_in;
 use reloc_section::{RelocSection, relocs_at};
 use std::alloc::Global;
-use wasm_grammar::{ReadFault, Stop, name_at, u32_at};
+use wasm_grammar::{ReadFault, Stop, u32_at};
+use wasm_module::lent_name_at;
 use wasm_sections::SectionSpan;
 use wl_base::OutOfMemory;
 
@@ -82,13 +83,12 @@ fn early_named(
 ) -> Result<Option<Result<RelocSection, Stop>>, OutOfMemory>
     ensures { IfOk result (λ read. read ≡ early_named all.now end (name_at end payload.now)) }
 {
-    match name_at(alloc, end, payload) {
+    match lent_name_at(end, payload) {
         Ok((name, rest)) => {
-            let kind = CustomKind::of(name.as_slice());
+            let kind = CustomKind::of(name);
             early_of(alloc, all, kind, end, rest)
         }
-        Err(ReadFault::Stopped(_)) => Ok(None),
-        Err(ReadFault::OutOfMemory) => Err(OutOfMemory),
+        Err(Stop::Broken(_) | Stop::Foreign(_)) => Ok(None),
     }
 }
 

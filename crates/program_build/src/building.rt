@@ -42,7 +42,7 @@ pub fn find<G: Gate, R: Threads + Sync>(
 {
     let names = numbers_of(alloc, plan, objects, Mode::Plain)?;
     let groups = group_winners(rt, alloc, objects, &names, workers, gate)?;
-    let entries = EntryTable::new(alloc, objects, &names, &groups)?;
+    let entries = EntryTable::by_workers(rt, alloc, objects, &names, &groups, workers)?;
     let view = entries.view(objects, &names);
     let Meanings {
         ranks,

@@ -27,9 +27,21 @@ pub trait Form: Drop + Sized {
     ghost exact: { IsReader spells read_at };
 }
 
+// Most items take no fewer bytes.
+const ITEM_LEN: usize = 4;
+
+// For so many items there is room in any case.
+const FEW: usize = 64;
+
+/// For how many items there is room, where there are to be so many in these bytes.
+fn room(count: u32, bytes: &[u8]) -> usize {
+    (count as usize).min((bytes.len() / ITEM_LEN).max(FEW))
+}
+
 /// So many items at the front, and the bytes after them.
 ///
-/// The items are kept as they are read, so a count that is too great takes no memory.
+/// Room is made for them at the start, but for no more than a part of the bytes that are left: a count that is too great takes
+/// little memory.
 pub fn many_at<T: Form>(
     alloc: Global,
     count: u32,
@@ -38,7 +50,7 @@ pub fn many_at<T: Form>(
 ) -> Result<(Seq<T>, &[u8]), ReadFault>
     ensures { Gives (λ x. (x.0, x.1.now)) result (many_at T.read_at count end bytes.now) }
 {
-    let mut items = Seq::new(alloc);
+    let mut items = Seq::with_room(alloc, room(count, bytes))?;
     let mut rest = bytes;
     for _ in 0..count {
         let (item, after) = T::form_at(alloc, end, rest)?;

@@ -10,6 +10,9 @@ use std::alloc::Global;
 use wasm_grammar::{place, u32_at};
 use wl_base::{Seq, Span};
 
+// Few modules have more sections.
+const USUAL: usize = 16;
+
 /// Where a section stands in the order, from 1; 0 for a custom one, which may stand anywhere.
 fn rank_of(id: u8) -> u8
     ensures { result ≡ rank_of id }
@@ -60,7 +63,7 @@ fn section_at(last: u8, end: usize, bytes: &[u8]) -> Result<(SectionSpan, &[u8])
 fn sections_at(alloc: Global, end: usize, bytes: &[u8]) -> Result<Seq<SectionSpan>, FrameFault>
     ensures { Gives (λ x. x) result (sections_at (length bytes.now) 0 end bytes.now) }
 {
-    let mut sections = Seq::new(alloc);
+    let mut sections = Seq::with_room(alloc, USUAL)?;
     let mut last = 0;
     let mut rest = bytes;
     while rest.len() > 0 {

@@ -2,8 +2,8 @@
 //! with a small one.
 ghost use Rattle.std.specs.Prelude.{◌<◌, ◌≤◌, ◌^◌, All, length};
 
-use crate::file_reading::Loaded;
 use crate::host_files::HostFiles;
+use host_outside::{Loaded, ReadAhead};
 use link_words::{Plan, read_words};
 use std::alloc::Global;
 use std::thread;
@@ -129,9 +129,10 @@ impl Ahead {
         read_rest(rt, alloc, &mut files[first..], workers);
         ahead
     }
+}
 
-    /// What was read of a file, where it is the next one of those foreseen.
-    pub fn take(&mut self, name: &str) -> Option<Loaded> {
+impl ReadAhead for Ahead {
+    fn take(&mut self, name: &str) -> Option<Loaded> {
         let next = self.next;
         if next >= self.files.len() || self.files[next].name.as_str() != name {
             return None;

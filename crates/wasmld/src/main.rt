@@ -5,32 +5,28 @@
 ghost use Rattle.std.specs.Prelude.{◌<◌, ◌^◌, IfOk, length};
 
 mod ahead;
-mod file_reading;
-mod file_shelf;
-mod file_writing;
+mod driver_shelf;
 mod host_files;
 mod manual;
-mod output_sink;
 mod words;
-mod writing;
 
 use ahead::Ahead;
 use driver_command::drive;
 use driver_lines::say_error;
-use file_reading::{Loaded, begins_with, read_whole};
-use file_shelf::FileShelf;
-use file_writing::write_whole;
+use driver_shelf::DriverShelf;
+use driver_words::{Answer, translate};
 use host_files::HostFiles;
+use host_outside::{FileShelf, Loaded, OutputSink, WordsFault, read_whole, words_of};
 use link_command::link_command;
 use manual::answer;
-use output_sink::OutputSink;
 use std::alloc::Global;
+use std::env;
 use std::process::ExitCode;
+use std::rt::Files;
 use std::thread::Threads;
-use std::{env, fs};
 use wl_base::{Seq, Text};
-use wl_outside::{Failed, OpenGate};
-use words::{LONGEST_NAME, WordsFault, driver_name, words_of};
+use wl_outside::OpenGate;
+use words::{LONGEST_NAME, driver_name, line_of};
 
 // The exit status where standard output can't be written.
 const WRITE_FAULT: u8 = 4;
@@ -42,18 +38,6 @@ const DRIVER_FAULT: u8 = 1;
 impl HostFiles for HostRuntime {
     fn read_file(&self, alloc: Global, name: &str, piece: &mut Vec<u8>) -> Loaded {
         read_whole(self, alloc, name, piece)
-    }
-
-    fn is_there(&self, name: &str) -> bool {
-        fs::metadata(self, name).is_ok()
-    }
-
-    fn begins_with(&self, name: &str, front: &[u8]) -> bool {
-        begins_with(self, name, front)
-    }
-
-    fn write_file(&self, name: &str, bytes: &[u8]) -> Result<(), Failed> {
-        write_whole(self, name, bytes)
     }
 }
 
@@ -67,7 +51,7 @@ fn main(rt: HostRuntime) -> ExitCode {
 }
 
 // The program under its own name.
-fn run<R: HostFiles + Threads + Print + AllocGlobal>(
+fn run<R: HostFiles + Files + Threads + Print + AllocGlobal>(
     rt: &R,
     words: Result<Seq<Text>, WordsFault>,
 ) -> ExitCode
@@ -77,7 +61,7 @@ fn run<R: HostFiles + Threads + Print + AllocGlobal>(
         Ok(words) => words,
         Err(fault) => {
             // A line that can't be written changes no status.
-            let _ = rt.print(fault.line());
+            let _ = rt.print(line_of(&fault));
             return ExitCode::from(fault.code());
         }
     };
@@ -101,8 +85,27 @@ fn run<R: HostFiles + Threads + Print + AllocGlobal>(
     ExitCode::from(status.code())
 }
 
+// The files that own words name, read ahead.
+fn of_answer<R: HostFiles + Threads>(rt: &R, alloc: Global, answer: &Answer) -> Ahead {
+    match answer {
+        Answer::Links { own, .. } if own.len() <= u32::MAX as usize => {
+            Ahead::of_words(rt, alloc, own.as_slice())
+        }
+        _ => Ahead::nothing(alloc),
+    }
+}
+
+// The files that a driver's words name, read ahead. For that the words are translated once more.
+fn read_ahead<R: HostFiles + Files + Threads>(rt: &R, alloc: Global, words: &[Text]) -> Ahead {
+    let mut shelf = DriverShelf::new(rt, alloc, Ahead::nothing(alloc));
+    match translate(alloc, &mut shelf, words) {
+        Ok(answer) => of_answer(rt, alloc, &answer),
+        Err(_stop) => Ahead::nothing(alloc),
+    }
+}
+
 // The program as the linker of a compiler driver: it tells what is wrong on the standard error.
-fn run_driven<R: HostFiles + Threads + Print + AllocGlobal, P: Print>(
+fn run_driven<R: HostFiles + Files + Threads + Print + AllocGlobal, P: Print>(
     rt: &R,
     err: &P,
     program: &str,
@@ -116,7 +119,8 @@ fn run_driven<R: HostFiles + Threads + Print + AllocGlobal, P: Print>(
             return ExitCode::from(DRIVER_FAULT);
         }
     };
-    let mut shelf = FileShelf::new(rt, rt.alloc(), Ahead::nothing(rt.alloc()));
+    let ahead = read_ahead(rt, rt.alloc(), words.as_slice());
+    let mut shelf = DriverShelf::new(rt, rt.alloc(), ahead);
     let mut out = OutputSink::new(rt);
     let outcome = drive(
         rt,

@@ -1,8 +1,7 @@
--- Places in a list that is seen by a map.
-use Rattle.std.proofs.Common.{◌≡◌, ℕ, ◌+◌, ◌<◌, Bool, true, false, cond, not, ◌||◌, List, [], ◌∷◌, ◌++◌, length, map, get_or, slice_get, Some, None, Ok, Err, refl, sym, ap, subst, ◌∙◌, arith, nat_lt}
+-- Places in a list.
+use Rattle.std.proofs.Common.{◌≡◌, ℕ, ◌+◌, ◌<◌, Bool, true, false, cond, not, ◌||◌, List, [], ◌∷◌, ◌++◌, length, get_or, slice_get, Some, None, Ok, Err, refl, sym, ap, subst, ◌∙◌, arith, nat_lt}
 use Rattle.std.specs.List.{position, position_or_len, list_any, IsDistinct}
 use Rattle.std.specs.Str.{bytes_eq}
-use Rattle.std.proofs.lemmas.List.{length-map, map-append}
 use Rattle.std.proofs.lemmas.List.Sums.{position_or_len_is}
 use Rattle.std.proofs.lemmas.Map.Keys.{apart_from_distinct}
 use Rattle.std.proofs.lemmas.Option.{slice_get_within, get_or_from_slice_get}
@@ -12,14 +11,6 @@ use Rattle.wl_base.specs.declared.name_table.NameFault.TheVariants.{TooMany}
 use Rattle.std.proofs.lemmas.Bool.Decides.{nat_tests}
 use Rattle.indexmap.specs.IndexSet.{insert_key}
 use Rattle.wl_base.specs.Names.{Names, number_of, interned, added, held_or}
-
-position_or_len_map : {A B : Type 0} (xs : List A) (f : A → B) (test : B → Bool) → position_or_len test (map f xs) ≡ position_or_len (λ x. test (f x)) xs
-position_or_len_map [] f test = refl
-position_or_len_map (x ∷ xs) f test = ap (λ n. cond (not (test (f x))) (1 + n) 0) (position_or_len_map xs f test)
-
--- the place in the list as it is seen is the place in the list
-pub position_map : {A B : Type 0} (xs : List A) (f : A → B) (test : B → Bool) → position test (map f xs) ≡ position (λ x. test (f x)) xs
-position_map xs f test = rw (position_or_len_map xs f test, length-map xs f) refl
 
 any_is : {A : Type 0} (xs : List A) (test : A → Bool) → list_any test xs ≡ nat_lt (position_or_len test xs) (length xs)
 any_is [] test = refl
@@ -38,13 +29,12 @@ none_of xs test e = by (nat_lt (position_or_len test xs) (length xs)) (any_is xs
     by true here e = cc
     by false here e = here
 
--- a new key goes last, also as it is seen
-pub seen_after : {A : Type 0} (keys after : List A) (key : A) (spelled : A → List ℕ) (name : List ℕ) → position (bytes_eq name) (map spelled keys) ≡ None
-    → spelled key ≡ name → after ≡ insert_key (λ x y. bytes_eq (spelled x) (spelled y)) keys key → map spelled after ≡ map spelled keys ++ name ∷ []
-seen_after keys after key spelled name none is inserted =
-    let absent = none_of keys (λ k. bytes_eq name (spelled k)) (sym (position_map keys spelled (bytes_eq name)) ∙ none) in
-    let absent' : list_any (λ k. bytes_eq (spelled key) (spelled k)) keys ≡ false = subst (λ n. list_any (λ k. bytes_eq n (spelled k)) keys ≡ false) (sym is) absent in
-    ap (map spelled) (inserted ∙ ap (λ b. cond b keys (keys ++ key ∷ [])) absent') ∙ map-append spelled keys (key ∷ []) ∙ ap (λ n. map spelled keys ++ n ∷ []) is
+-- a new key goes last
+pub new_last : (names after : List (List ℕ)) (key name : List ℕ) → position (bytes_eq name) names ≡ None → key ≡ name → after ≡ insert_key bytes_eq names key
+    → after ≡ names ++ name ∷ []
+new_last names after key name none is inserted =
+    let absent : list_any (bytes_eq key) names ≡ false = subst (λ n. list_any (bytes_eq n) names ≡ false) (sym is) (none_of names (bytes_eq name) none) in
+    inserted ∙ ap (λ b. cond b names (names ++ key ∷ [])) absent ∙ ap (λ n. names ++ n ∷ []) is
 
 pub interned_new : (t : Names) (name : List ℕ) (count limit : ℕ) (names : List (List ℕ)) → number_of t.names name ≡ None → count ≡ length t.names → count < limit → limit ≡ t.limit
     → names ≡ t.names ++ name ∷ [] → interned t name ≡ Ok (count, record { limit = limit; names = names })
@@ -55,12 +45,11 @@ interned_new t name count limit names none counted room limited after =
     ∙ (λ j. Ok (sym counted j, record { limit = sym limited j; names = sym after j }))
 
 -- the place of an item of a list without repetition
-pub own_place : {A : Type 0} (xs : List A) (spelled : A → List ℕ) (i : ℕ) (x : A) → IsDistinct (λ x y. bytes_eq (spelled x) (spelled y)) xs → slice_get xs i ≡ Some x
-    → position (bytes_eq (spelled x)) (map spelled xs) ≡ Some i
-own_place xs spelled i x distinct at =
+pub own_place : (xs : List (List ℕ)) (i : ℕ) (x : List ℕ) → IsDistinct bytes_eq xs → slice_get xs i ≡ Some x → position (bytes_eq x) xs ≡ Some i
+own_place xs i x distinct at =
     let within = slice_get_within xs i x at in
     let here : get_or xs i x ≡ x = get_or_from_slice_get xs i x x at in
-    let place = position_or_len_is (λ y. bytes_eq (spelled x) (spelled y)) xs i x (omega arith)
-    (λ k below. nat_list_eq_equiv.symm (spelled x) (spelled (get_or xs k x)) ∙ (subst (λ y. bytes_eq (spelled (get_or xs k x)) (spelled y) ≡ false) here (apart_from_distinct (λ x y. bytes_eq (spelled x) (spelled y)) xs k i x distinct below within)))
-    (λ h. (bytes_eq-Decides _ _).1 (ap spelled (sym here))) in
-    position_map xs spelled (bytes_eq (spelled x)) ∙ rw place (let b : nat_lt i (length xs) ≡ true = grind (arith, nat_tests) in rw b refl)
+    let place = position_or_len_is (bytes_eq x) xs i x (omega arith)
+    (λ k below. nat_list_eq_equiv.symm x (get_or xs k x) ∙ (subst (λ y. bytes_eq (get_or xs k x) y ≡ false) here (apart_from_distinct bytes_eq xs k i x distinct below within)))
+    (λ h. (bytes_eq-Decides _ _).1 (sym here)) in
+    rw place (let b : nat_lt i (length xs) ≡ true = grind (arith, nat_tests) in rw b refl)

@@ -153,4 +153,7 @@ pub enum Fault {
     PartialTooLong {
         needed: u64,
     },
+    /// Nothing calls `__wasm_call_ctors`, and something would be lost. Judged where the link is like lld's, which
+    /// then wraps exported functions.
+    Uncalled,
 }

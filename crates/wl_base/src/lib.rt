@@ -4,6 +4,7 @@
 
 mod fault;
 mod item;
+mod key;
 mod layout_error;
 mod memory;
 mod name_table;
@@ -15,6 +16,7 @@ mod usage;
 
 pub use fault::{Fault, InputId, InvalidAt, LibFault, Part, What};
 pub use item::Item;
+pub use key::{Key, KeyRef};
 pub use layout_error::LayoutError;
 pub use memory::OutOfMemory;
 pub use name_table::{NameFault, NameTable};

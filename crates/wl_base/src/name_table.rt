@@ -2,8 +2,9 @@
 ghost use Rattle.std.specs.Prelude.{◌≡◌, ◌<◌, [], Some, length, slice_get};
 ghost use Rattle.wl_base.specs.Names.{number_of, interned, Interns};
 
+use crate::{Key, KeyRef, OutOfMemory};
 use indexmap::IndexSet;
-use std::alloc::{AllocError, AllocFailed, Global};
+use std::alloc::{AllocFailed, Global};
 use std::marker::Model;
 
 /// Why a name is given no number.
@@ -15,13 +16,13 @@ pub enum NameFault {
     OutOfMemory,
 }
 
-impl From<AllocError> for NameFault {
+impl From<OutOfMemory> for NameFault {
     ghost use Rattle.std.specs.Prelude.{◌≡◌};
     ghost use Rattle.wl_base.specs.declared.name_table.NameFault.TheVariants.{OutOfMemory as WantOfMemory};
 
     ghost from_gives = { λ _ e. e ≡ WantOfMemory };
 
-    fn from(_: AllocError) -> Self {
+    fn from(_: OutOfMemory) -> Self {
         NameFault::OutOfMemory
     }
 }
@@ -40,7 +41,7 @@ impl<T: Drop> From<AllocFailed<T>> for NameFault {
 /// A table of at most `limit` different names, each with a number from 0 in the order in which they came.
 #[derive(Drop)]
 pub struct NameTable {
-    names: IndexSet<Vec<u8>>,
+    names: IndexSet<Key>,
     limit: u32,
     alloc: Global,
 }
@@ -51,7 +52,7 @@ impl Model for NameTable {
 
     ghost Value = { Names };
 
-    ghost view = { λ t. record { limit = t.limit; names = map (λ key. key.items) t.names.keys } };
+    ghost view = { λ t. record { limit = t.limit; names = t.names.keys } };
 
     ghost invariant = { λ t. (length t.names.keys ≤ t.limit) × (t.limit < 2 ^ 32) };
 }
@@ -80,7 +81,7 @@ impl NameTable {
         if number >= self.limit {
             return Err(NameFault::TooMany);
         }
-        self.names.insert(Vec::from_slice(self.alloc, name)?)?;
+        self.names.insert(Key::new(self.alloc, name)?)?;
         Ok(number)
     }
 
@@ -97,14 +98,14 @@ impl NameTable {
         ensures name { slice_get self.now.names number ≡ Some result.now }
         ensures own { number_of self.now.names result.now ≡ Some number }
     {
-        &self.names.as_slice()[number as usize]
+        self.names.as_slice()[number as usize].as_slice()
     }
 
     /// The number of a name; `None` exactly where it isn't held.
     pub fn find(&self, name: &[u8]) -> Option<u32>
         ensures { result ≡ number_of self.now.names name.now }
     {
-        let number = self.names.get_index_of(name)?;
+        let number = self.names.get_index_of(KeyRef { bytes: name })?;
         Some(number as u32)
     }
 }

@@ -157,7 +157,7 @@ impl<T: Copy> Lists<T> {
 pub fn with_room<T>(alloc: Global, items: usize) -> Result<Seq<T>, OutOfMemory>
     ensures { IfOk result (λ made. made ≡ []) }
 {
-    Ok(Seq::from_vec(Vec::with_capacity(alloc, items)?))
+    Seq::with_room(alloc, items)
 }
 
 /// The same items in no more memory than they need.

@@ -42,13 +42,6 @@ pub trait Shelf {
         ensures counts { Grows (shown self.old) (shown self.new) }
         ensures cause { IsErrOf result LoadFault.Failed → LoadFailed (shown self.old) (shown self.new) name.now };
 
-    /// Tells the names that will be loaded next, in this order, so that a shelf whose loads take long may begin them, by as many workers.
-    /// It changes nothing that is held, and counts no load as failed. A shelf may pass it over, as this does.
-    fn foresee(&mut self, _alloc: Global, _names: &[&str], _workers: u32)
-        ensures held { Same (shown self.old) (shown self.new) }
-        ensures counts { Grows (shown self.old) (shown self.new) }
-    {}
-
     /// Puts the bytes under a name, in place of what it holds. All else stays as it was.
     ///
     /// # Errors

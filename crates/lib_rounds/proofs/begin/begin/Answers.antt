@@ -33,7 +33,7 @@ put_given-requires g c =
           subst (λ (hs : List Held). Defines g.w.mode hs (shown c.in_ok-definers.definers)) (sym slots)
               (subst (λ (m : Mode). Defines m (replicate (length g.w.all) absent) (shown c.in_ok-definers.definers)) (sym c.requires.0)
               (start_defines c.args.mode (length g.w.all) (shown c.in_ok-definers.definers) c.in_ok-definers.ensures)),
-          λ n. ap (λ es. lookup (bytes_eq n) (map (λ e. (e.0.items, e.1)) es)) c.new-lazies.ensures.empty,
+          λ n. ap (lookup (bytes_eq n)) c.new-lazies.ensures.empty,
         ),
       ),
     )

@@ -27,3 +27,6 @@ returns-in-NotPartial g c = at _ _ _ _ _ c.in-NotPartial.is c.say_number-in-NotP
 
 pub returns-in-PartialTooLong : goal.returns-in-PartialTooLong
 returns-in-PartialTooLong g c = at _ _ _ _ _ c.in-PartialTooLong.is c.say_number-in-PartialTooLong.ensures
+
+pub returns-in-Uncalled : goal.returns-in-Uncalled
+returns-in-Uncalled g c = at _ _ _ _ _ c.in-Uncalled.is c.print-in-Uncalled.ensures

@@ -5,7 +5,7 @@ use Rattle.wasm_sections.proofs.reading.sections_at.Goals as goal
 
 pub returns-in_err-section : goal.returns-in_err-section
 returns-in_err-section c =
-    let p = err_from_is_err_and c.from_residual.result c.from_residual.ensures.1 in
+    let p = err_from_is_err_and c.from_residual-in_err-section.result c.from_residual-in_err-section.ensures.1 in
     rw (p.1, p.2) (ends c.in_err-section.field-0.0 c.loop-rest.sections c.loop-rest.last c.args.end c.loop-rest.rest.now _ (omega arith) c.in_err-section.ensures.value c.loop-rest.invariant)
 
 pub loop-rest-preserved : goal.loop-rest-preserved

@@ -1,0 +1,126 @@
+//! Links that are refused: sections whose relocations are broken, and outputs that are too long.
+
+use crate::links::{Link, debug_x, front, gives, is_refused, link_of, symbols};
+use std::alloc::Global;
+use wl_base::Fault;
+
+/// Whether section 3 of the first object is at fault, where these sections stand behind the symbols.
+fn is_bad(alloc: Global, relocs: &[u8]) -> bool {
+    let object = [front(), debug_x(), symbols(), &relocs[..]];
+    let objects = [object.as_slice()];
+    is_refused(alloc, link_of(&objects, &[]), &bad(1, 3))
+}
+
+fn are_bad(alloc: Global, cases: &[&[u8]]) -> bool {
+    for relocs in cases {
+        if !is_bad(alloc, relocs) {
+            return false;
+        }
+    }
+    true
+}
+
+fn entries_at_fault(alloc: Global) -> bool {
+    are_bad(
+        alloc,
+        &[
+            // type 0
+            b"\0\x14\x0ereloc..debug_x\x03\x01\0\0\0".as_slice(),
+            // one byte past the end
+            b"\0\x15\x0ereloc..debug_x\x03\x01\x08\x05\0\0".as_slice(),
+            // windows that share a byte, and windows that fall
+            b"\0\x19\x0ereloc..debug_x\x03\x02\x08\0\0\0\x08\x03\x01\0".as_slice(),
+            b"\0\x19\x0ereloc..debug_x\x03\x02\x08\x04\0\0\x08\0\x01\0".as_slice(),
+            // a symbol that isn't there, and one of another kind
+            b"\0\x15\x0ereloc..debug_x\x03\x01\x08\0\x03\0".as_slice(),
+            b"\0\x15\x0ereloc..debug_x\x03\x01\x08\0\x02\0".as_slice(),
+            // a byte left over, and an entry that is cut
+            b"\0\x12\x0ereloc..debug_x\x03\0\0".as_slice(),
+            b"\0\x12\x0ereloc..debug_x\x03\x01\x08".as_slice(),
+        ],
+    )
+}
+
+fn bad(input: u32, section: u32) -> Fault {
+    Fault::BadDebug { input, section }
+}
+
+/// Whether a link of two objects is refused by this fault.
+fn two_are_bad<'a>(
+    alloc: Global,
+    first: &'a [&'a [u8]],
+    second: &'a [&'a [u8]],
+    wanted: &Fault,
+) -> bool {
+    let objects = [&first[..], &second[..]];
+    is_refused(alloc, link_of(&objects, &[]), wanted)
+}
+
+/// Of two sections at fault the one that comes first in the file, and of two objects the first.
+fn first_of_two(alloc: Global) -> bool {
+    let debug_y = b"\0\x09\x08.debug_y".as_slice();
+    let bad_y = b"\0\x15\x0ereloc..debug_y\x04\x01\x08\0\0\0".as_slice();
+    let bad_x = b"\0\x14\x0ereloc..debug_x\x03\x01\0\0\0".as_slice();
+    let one = [front(), debug_x(), debug_y, symbols(), bad_y];
+    let both = [front(), debug_x(), debug_y, symbols(), bad_y, bad_x];
+    let sound = [front(), debug_x(), symbols()];
+    two_are_bad(alloc, one.as_slice(), both.as_slice(), &bad(1, 4))
+        && two_are_bad(alloc, sound.as_slice(), both.as_slice(), &bad(2, 3))
+}
+
+/// A place in a section that is no debug section.
+fn other_section(alloc: Global) -> bool {
+    let other = b"\0\x06\x05other".as_slice();
+    let relocs = b"\0\x15\x0ereloc..debug_x\x04\x01\x09\0\x02\0".as_slice();
+    let object = [front(), other, debug_x(), symbols(), relocs];
+    let objects = [object.as_slice()];
+    is_refused(alloc, link_of(&objects, &[]), &bad(1, 4))
+}
+
+#[test]
+fn faults_are_found(rt: HostRuntime) {
+    let alloc = rt.alloc();
+    assert!(rt; entries_at_fault(alloc));
+    assert!(rt; first_of_two(alloc));
+    assert!(rt; other_section(alloc));
+}
+
+/// A link of these objects behind an output of so many bytes.
+fn behind<'a>(objects: &'a [&'a [&'a [u8]]], length: u64) -> Link<'a> {
+    Link {
+        length,
+        ..link_of(objects, &[])
+    }
+}
+
+/// Whether these bytes come behind an output of so many.
+fn fits(alloc: Global, object: &[&[u8]], length: u64, wanted: &[u8]) -> bool {
+    let objects = [&object[..]];
+    gives(alloc, behind(&objects, length), wanted)
+}
+
+/// Whether the link behind an output of so many bytes is refused by this fault.
+fn fails(alloc: Global, object: &[&[u8]], length: u64, wanted: &Fault) -> bool {
+    let objects = [&object[..]];
+    is_refused(alloc, behind(&objects, length), wanted)
+}
+
+/// An output of 2^31 - 20 bytes has room for 19 more, one of 2^31 - 19 has not; a fault of a section
+/// comes first.
+fn lengths(alloc: Global) -> bool {
+    let bad_x = b"\0\x14\x0ereloc..debug_x\x03\x01\0\0\0".as_slice();
+    let sound = [front(), debug_x(), symbols()];
+    let broken = [front(), debug_x(), symbols(), bad_x];
+    let whole = b"\0\x11\x08.debug_x\0\0\0\0\0\0\0\0".as_slice();
+    let too_long = Fault::DebugTooLong {
+        needed: 0x8000_0000,
+    };
+    fits(alloc, sound.as_slice(), 0x7fff_ffec, whole)
+        && fails(alloc, sound.as_slice(), 0x7fff_ffed, &too_long)
+        && fails(alloc, broken.as_slice(), 0x7fff_ffed, &bad(1, 3))
+}
+
+#[test]
+fn lengths_are_judged(rt: HostRuntime) {
+    assert!(rt; lengths(rt.alloc()));
+}

@@ -1,0 +1,5 @@
+mod Pieces
+mod Numbers
+mod Options
+mod Inputs
+mod Plans

@@ -1,0 +1,149 @@
+-- Words as they are spelled, an option or an input at a time.
+use Rattle.std.proofs.Common.{◌≡◌, inr, ℕ, ◌+◌, Bool, true, false, not, ◌||◌, cond, List, [], ◌∷◌, ◌++◌, length, flat_map, Some, refl, sym, ap, subst, ◌∙◌, append_assoc, append-nil}
+use Rattle.std.specs.List.{list_any}
+use Rattle.std.specs.Prelude.{IsSome, codes}
+use Rattle.link_words.specs.declared.kind.Kind.{Kind}
+use Rattle.link_words.specs.declared.kind.Kind.TheVariants as kinds
+use Rattle.link_words.specs.declared.options.Form.TheVariants as forms
+use Rattle.link_words.specs.declared.options.Takes.{Takes}
+use Rattle.link_words.specs.declared.options.Takes.TheVariants as takes
+use Rattle.link_words.specs.declared.range.Range.{Range}
+use Rattle.link_words.specs.declared.range.Range.TheVariants.{Stack}
+use Rattle.link_words.specs.Kinds.{same}
+use Rattle.link_words.specs.Items.{Said}
+use Rattle.link_words.specs.Numbers.{number_in}
+use Rattle.link_words.specs.Options.{options, row_of}
+use Rattle.link_words.specs.Spelled.{Spells, SpellsValue, Cuts}
+
+-- what holds of each of a list
+abbrev pub Every : {A : Type 0} → (A → Type 0) → List A → Type 0
+Every P [] = Unit {0}
+Every P (x ∷ xs) = P x × Every P xs
+
+-- an item and its words
+pub record Piece : Type 0 where
+  pub kind : Kind
+  pub value : List ℕ
+  pub own : List (List ℕ)
+
+abbrev pub words_of : List Piece → List (List ℕ)
+words_of [] = []
+words_of (p ∷ ps) = p.own ++ words_of ps
+
+abbrev pub said_at : ℕ → Piece → Said
+said_at at p = record { kind = p.kind; at = at; value = p.value }
+
+abbrev pub placed : ℕ → List Piece → List Said
+placed at [] = []
+placed at (p ∷ ps) = said_at at p ∷ placed (at + length p.own) ps
+
+pub record IsSpelled (p : Piece) : Type 0 where
+  pub spells : (at : ℕ) → Spells false (said_at at p) p.own
+  pub more : same p.kind kinds.OnlyInputs ≡ false
+
+pub cuts : (ps : List Piece) (at : ℕ) → Every IsSpelled ps → Cuts false at (placed at ps) (words_of ps)
+cuts [] at all = refl
+cuts (p ∷ ps) at all =
+    (p.own, words_of ps, refl, refl, all.0.spells at, subst (λ b. Cuts b (at + length p.own) (placed (at + length p.own) ps) (words_of ps)) (sym all.0.more) (cuts ps (at + length p.own) all.1))
+
+pub words_both : (a b : List Piece) → words_of (a ++ b) ≡ words_of a ++ words_of b
+words_both [] b = refl
+words_both (p ∷ ps) b = ap (λ (ws : List (List ℕ)). p.own ++ ws) (words_both ps b) ∙ sym (append_assoc p.own (words_of ps) (words_of b))
+
+pub all_both : {A : Type 0} (P : A → Type 0) (a b : List A) → Every P a → Every P b → Every P (a ++ b)
+all_both P [] b x y = y
+all_both P (p ∷ ps) b x y = (x.0, all_both P ps b x.1 y)
+
+-- ---- options that say nothing of inputs, groups and generated cases
+
+abbrev pub is_plain : Kind → Bool
+is_plain kind = not (same kind kinds.Input || (same kind kinds.StartLib || (same kind kinds.EndLib || (same kind kinds.WholeArchive || (same kind kinds.NoWholeArchive || same kind kinds.MakeCase)))))
+
+pub record IsOption (p : Piece) : Type 0 where
+  pub spelled : IsSpelled p
+  pub plain : is_plain p.kind ≡ true
+
+pub record AreOptions (words : List (List ℕ)) : Type 0 where
+  pub pieces : List Piece
+  pub words_are : words ≡ words_of pieces
+  pub all : Every IsOption pieces
+
+pub none : AreOptions []
+none = record { pieces = []; words_are = refl; all = tt }
+
+pub both : (a b : List (List ℕ)) → AreOptions a → AreOptions b → AreOptions (a ++ b)
+both a b x y = record {
+  pieces = x.pieces ++ y.pieces;
+  words_are = (λ i. x.words_are i ++ y.words_are i) ∙ sym (words_both x.pieces y.pieces);
+  all = all_both IsOption x.pieces y.pieces x.all y.all;
+}
+
+pub when_so : (test : Bool) (words : List (List ℕ)) → AreOptions words → AreOptions (cond test words [])
+when_so true words x = x
+when_so false words x = none
+
+pub each : {A : Type 0} (f : A → List (List ℕ)) → ((x : A) → AreOptions (f x)) → (xs : List A) → AreOptions (flat_map f xs)
+each f h [] = none
+each f h (x ∷ xs) = both (f x) (flat_map f xs) (h x) (each f h xs)
+
+option : (kind : Kind) (name value : List ℕ) (t : Takes) (own : List (List ℕ)) → row_of options name ≡ Some (record { kind = kind; takes = t }) → SpellsValue t name value own
+    → same kind kinds.OnlyInputs ≡ false → is_plain kind ≡ true → AreOptions own
+option kind name value t own row spelled more plain =
+    let piece : Piece = record { kind = kind; value = value; own = own } in
+    let one : IsOption piece = record {
+      spelled = record { spells = λ at. inr (inr (record { name = name; takes = t; is_option = row; spelled = spelled })); more = more };
+      plain = plain;
+    } in
+    record { pieces = piece ∷ []; words_are = sym (append-nil own); all = (one, tt) }
+
+-- an option without a value
+pub flag : (kind : Kind) (name : List ℕ) → row_of options name ≡ Some (record { kind = kind; takes = takes.Nothing }) → same kind kinds.OnlyInputs ≡ false → is_plain kind ≡ true → AreOptions (name ∷ [])
+flag kind name row more plain = option kind name [] takes.Nothing (name ∷ []) row (refl, refl) more plain
+
+-- an option with a text in the next word
+pub next_text : (kind : Kind) (name text : List ℕ) → row_of options name ≡ Some (record { kind = kind; takes = takes.Next forms.Text }) → same kind kinds.OnlyInputs ≡ false → is_plain kind ≡ true
+    → AreOptions (name ∷ text ∷ [])
+next_text kind name text row more plain = option kind name text (takes.Next forms.Text) (name ∷ text ∷ []) row (text, refl, refl) more plain
+
+-- an option with a text behind `=`
+pub long_text : (kind : Kind) (name text : List ℕ) → row_of options name ≡ Some (record { kind = kind; takes = takes.Long forms.Text }) → same kind kinds.OnlyInputs ≡ false → is_plain kind ≡ true
+    → AreOptions ((name ++ 61 ∷ text) ∷ [])
+long_text kind name text row more plain = option kind name text (takes.Long forms.Text) ((name ++ 61 ∷ text) ∷ []) row (text, refl, inr refl) more plain
+
+-- an option with a number behind `=`
+pub long_number : (kind : Kind) (range : Range) (name text : List ℕ) → row_of options name ≡ Some (record { kind = kind; takes = takes.Long (forms.Number range) }) → IsSome (number_in range text)
+    → same kind kinds.OnlyInputs ≡ false → is_plain kind ≡ true → AreOptions ((name ++ 61 ∷ text) ∷ [])
+long_number kind range name text row number more plain = option kind name text (takes.Long (forms.Number range)) ((name ++ 61 ∷ text) ∷ []) row (text, (refl, number), inr refl) more plain
+
+-- the size of the stack
+pub next_size : (kind : Kind) (name front value : List ℕ) → row_of options name ≡ Some (record { kind = kind; takes = takes.Next forms.StackSize }) → front ≡ codes "stack-size" → IsSome (number_in Stack value)
+    → same kind kinds.OnlyInputs ≡ false → is_plain kind ≡ true → AreOptions (name ∷ (front ++ 61 ∷ value) ∷ [])
+next_size kind name front value row is number more plain =
+    option kind name value (takes.Next forms.StackSize) (name ∷ (front ++ 61 ∷ value) ∷ []) row (front ++ 61 ∷ value, (ap (λ (f : List ℕ). f ++ 61 ∷ value) is, number), refl) more plain
+
+-- ---- a kind among options
+
+abbrev pub has_kind : Kind → List Piece → Bool
+has_kind kind ps = list_any (λ (p : Piece). same p.kind kind) ps
+
+pub record HaveKind (kind : Kind) (words : List (List ℕ)) : Type 0 where
+  pub options : AreOptions words
+  pub has : has_kind kind options.pieces ≡ true
+
+-- an option with a text in the next word has its kind
+pub next_text_has : (kind : Kind) (name text : List ℕ) → row_of options name ≡ Some (record { kind = kind; takes = takes.Next forms.Text }) → same kind kinds.OnlyInputs ≡ false → is_plain kind ≡ true
+    → same kind kind ≡ true → HaveKind kind (name ∷ text ∷ [])
+unfolding next_text option
+next_text_has kind name text row more plain itself = record { options = next_text kind name text row more plain; has = (λ i. itself i || false) }
+
+or_left : (a b c : Bool) → (b ≡ true → c ≡ true) → (a || b) ≡ true → (a || c) ≡ true
+or_left true b c rest h = refl
+or_left false b c rest h = rest h
+
+pub any_left : (kind : Kind) (a b : List Piece) → has_kind kind a ≡ true → has_kind kind (a ++ b) ≡ true
+any_left kind [] b h = absurd cc
+any_left kind (p ∷ ps) b h = or_left (same p.kind kind) (has_kind kind ps) (has_kind kind (ps ++ b)) (any_left kind ps b) h
+
+pub and_more : (kind : Kind) (a b : List (List ℕ)) → HaveKind kind a → AreOptions b → HaveKind kind (a ++ b)
+unfolding both
+and_more kind a b x y = record { options = both a b x.options y; has = any_left kind x.options.pieces y.pieces x.has }

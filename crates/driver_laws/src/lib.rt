@@ -1,0 +1,14 @@
+//! What holds of the words that drivers' words stand for: the linker has a plan of them, and its inputs are the files that drivers' words
+//! name.
+#![tactic(auto)]
+
+ghost use Rattle.driver_laws.specs.Laws.{OwnWordsHavePlans, PlansNameTheFiles};
+
+/// The linker's own words that a translation gives have a plan, so that no line speaks of words that nobody wrote. Its inputs are the files
+/// that were named and found, in their order and with their modes.
+pub fn own_words_have_plans()
+    ensures plans { OwnWordsHavePlans }
+    ensures files { PlansNameTheFiles }
+{
+    link_words::laws::words_are_cut();
+}

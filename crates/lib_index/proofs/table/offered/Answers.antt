@@ -1,6 +1,0 @@
-use Rattle.std.proofs.Common.{◌∙◌}
-use Rattle.lib_index.proofs.NameSteps.{shown_lookup}
-use Rattle.lib_index.proofs.table.offered.Goals as goal
-
-pub returns : goal.returns
-returns c = c.copied.ensures ∙ c.get.ensures.value ∙ shown_lookup c.args.table.now.entries c.args.name.now
