@@ -46,15 +46,20 @@ pub(crate) fn is_held(found: Option<&[u8]>, bytes: &[u8]) -> bool {
     }
 }
 
-// Whether the object gives its module, the input stays, and nothing is printed.
-fn gives_its_module<R: Threads + Sync>(rt: &R, alloc: Global) -> Result<bool, OutOfMemory> {
-    let mut shelf = one_input(alloc, calling_object(), 65)?;
+// Whether the object gives this module, the input stays, and nothing is printed.
+fn gives_its_module<R: Threads + Sync>(
+    rt: &R,
+    alloc: Global,
+    object: &[u8],
+    module: &[u8],
+) -> Result<bool, OutOfMemory> {
+    let mut shelf = one_input(alloc, object, 65)?;
     let mut say = MemSink::new(alloc, Seq::new(alloc));
     let status = run(rt, alloc, &WORDS, &mut shelf, &mut say, &OpenGate)?;
     Ok(
         status == Status::Linked
-            && is_held(shelf.held("out"), calling_module())
-            && is_held(shelf.held("a.o"), calling_object())
+            && is_held(shelf.held("out"), module)
+            && is_held(shelf.held("a.o"), object)
             && say.bytes().is_empty(),
     )
 }
@@ -62,7 +67,24 @@ fn gives_its_module<R: Threads + Sync>(rt: &R, alloc: Global) -> Result<bool, Ou
 #[test]
 fn an_object_gives_its_module(rt: HostRuntime) -> Result<(), Fail> {
     let alloc = rt.alloc();
-    assert!(rt; gives_its_module(&rt, alloc)?);
+    assert!(rt; gives_its_module(&rt, alloc, calling_object(), calling_module())?);
+    Ok(())
+}
+
+// What clang 14 wrote of `int f(int x) { return x + 1; }`.
+const CLANG_OBJECT: &[u8; 151] =
+    b"\0asm\x01\0\0\0\x01\x86\x80\x80\x80\0\x01`\x01\x7f\x01\x7f\x02\x98\x80\x80\x80\0\x01\x03env\x0f__linear_memory\x02\0\0\x03\x82\x80\x80\x80\0\x01\0\x0a\x89\x80\x80\x80\0\x01\x07\0 \0A\x01j\x0b\0\x95\x80\x80\x80\0\x07linking\x02\x08\x86\x80\x80\x80\0\x01\0\x04\0\x01f\0\xad\x80\x80\x80\0\x09producers\x01\x0cprocessed-by\x01\x0cDebian clang\x0614.0.6";
+
+// The module that it is linked to: one function, a table of one place and a memory of two pages; it exports the memory and `f`.
+const CLANG_MODULE: &[u8; 59] =
+    b"\0asm\x01\0\0\0\x01\x06\x01`\x01\x7f\x01\x7f\x03\x02\x01\0\x04\x05\x01\x70\x01\x01\x01\x05\x03\x01\0\x02\x07\x0e\x02\x06memory\x02\0\x01f\0\0\x0a\x09\x01\x07\0 \0A\x01j\x0b";
+
+#[test]
+fn the_object_of_a_compiler_gives_its_module(rt: HostRuntime) -> Result<(), Fail> {
+    let alloc = rt.alloc();
+    let object = CLANG_OBJECT.as_slice();
+    let module = CLANG_MODULE.as_slice();
+    assert!(rt; gives_its_module(&rt, alloc, object, module)?);
     Ok(())
 }
 

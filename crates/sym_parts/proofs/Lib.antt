@@ -1,0 +1,5 @@
+pub mod Coded
+pub mod AllOf
+pub mod Found
+pub mod Gives
+pub mod Fewer

@@ -1,0 +1,12 @@
+pub mod Known
+pub mod Listed
+pub mod Ground
+pub mod BasesTold
+pub mod OpsTold
+pub mod CodeTold
+pub mod CellsTold
+pub mod WorldTold
+pub mod Composed
+pub mod SymSteps
+pub mod SymAnswering
+pub mod SymLoading

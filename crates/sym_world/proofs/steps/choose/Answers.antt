@@ -1,0 +1,44 @@
+use Rattle.std.proofs.Common.{rules, ◌∙◌}
+use Rattle.std.proofs.lemmas.Result.{err_from_is_err_and}
+use Rattle.link_program.specs.made_symbols.declared.mode.Mode.TheVariants.{Plain}
+use Rattle.link_program.specs.link_rules.Marks as marks
+use Rattle.sym_world.proofs.SymAnswering.{exports_are_winners, export_repeats, name_left_open, all_closed}
+use Rattle.sym_world.proofs.steps.choose.Goals as goal
+
+pub repeated_export-requires : goal.repeated_export-requires
+repeated_export-requires g c =
+    (c.requires.1.1.1.1.0, (exports_are_winners g.p, c.as_slice.ensures ∙ c.in_ok-exports.ensures))
+
+pub live_parts-requires : goal.live_parts-requires
+live_parts-requires g c κs within =
+    let program = c.requires.1.1.1.1.0 in
+    let exports = c.as_slice-2.ensures ∙ c.in_ok-exports.ensures in
+    search (rules, program, exports)
+
+pub returns-in_err-repeated_export : goal.returns-in_err-repeated_export
+returns-in_err-repeated_export g c =
+    let p = err_from_is_err_and c.from_residual-in_err-repeated_export.result c.from_residual-in_err-repeated_export.ensures.1 in
+    rw (p.1) (export_repeats g.p (marks.exported Plain g.p) c.in_err-repeated_export.field-0.0 p.0 p.2 c.in_err-repeated_export.ensures)
+
+pub unresolved-requires-sync-R : goal.unresolved-requires-sync-R
+unresolved-requires-sync-R g c κs within =
+    let program = c.requires.1.1.1.1.0 in
+    let live = c.in_ok-live.ensures in
+    search (rules, program, live)
+
+pub returns-in_err-unresolved : goal.returns-in_err-unresolved
+returns-in_err-unresolved g c =
+    let p = err_from_is_err_and c.from_residual-in_err-unresolved.result c.from_residual-in_err-unresolved.ensures.1 in
+    rw (p.1) (name_left_open g.p (marks.exported Plain g.p) c.in_err-unresolved.field-0.0 p.0 p.2 c.in_ok-repeated_export.ensures c.in_err-unresolved.ensures)
+
+pub returns : goal.returns
+returns g c =
+    let parts = marks.live g.p (marks.exported Plain g.p) in (
+      all_closed g.p (marks.exported Plain g.p) c.in_ok-repeated_export.ensures c.in_ok-unresolved.ensures,
+      record {
+        exports = c.in_ok-exports.ensures;
+        among = exports_are_winners g.p;
+        live = c.in_ok-live.ensures.are;
+        meant = c.all_are_meant.ensures g.p c.in_ok-live.live.numbers parts c.requires.1.1.1.1.1 c.in_ok-live.ensures.are c.in_ok-unresolved.ensures;
+      },
+    )

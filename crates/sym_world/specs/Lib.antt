@@ -1,0 +1,5 @@
+pub mod Bases
+pub mod Exports
+pub mod SymOf
+pub mod Choosing
+pub mod Whole
