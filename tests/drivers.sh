@@ -1,6 +1,6 @@
 #!/usr/bin/env bash
 # Builds programs as compiler drivers and build systems do, with the linker in wasm-ld's place: by clang with -fuse-ld and with -B, by
-# cmake, meson and rustc. The modules run under node. What isn't installed is left out. The linker is $WASMLD under the names of wasm-ld,
+# cmake, meson, a configure script and rustc. The modules run under node. What isn't installed is left out. The linker is $WASMLD under the names of wasm-ld,
 # or else bin/wasm-ld. The last line is 'N passed, M failed'.
 set -u
 top=$(cd "$(dirname "${BASH_SOURCE[0]}")/.." && pwd)
@@ -85,6 +85,14 @@ is_refused_as() {
 
 is_refused() {
   "$linker" "$@" 2>err.txt
+  [ $? -eq 1 ]
+}
+
+# The same by the linker's own words, where it is there under its own name.
+is_refused_by_own_words() {
+  [ -z "${WASMLD:-}" ] && return
+  shift
+  "$WASMLD" "$@" 2>err.txt
   [ $? -eq 1 ]
 }
 
@@ -184,6 +192,35 @@ refusals() {
   expect "a warning is told" test "$("$linker" --Map=m.txt --no-entry library_add.o -o warned.wasm 2>&1)" = "wasm-ld: warning: ignored: --Map=m.txt"
 }
 
+# Functions that are declared by other types than they are defined by, as the probes of configure scripts and old headers do.
+other_types() {
+  printf 'char strlen(void);\nint main(void) { return strlen(); }\n' >probe.c
+  printf 'char no_such_function(void);\nint main(void) { return no_such_function(); }\n' >no_probe.c
+  printf '#include <stdio.h>\nvoid twice(void);\nint (*volatile told)(int) = (int (*)(int))twice;\nint main(void) { printf("%%d\\n", told(21)); }\n' >address.c
+  printf 'int twice(int a) { return 2 * a; }\n' >twice.c
+  printf 'int twice;\n' >twice_too.c
+  printf 'void twice(long long);\nvoid once(void) { twice(1); }\n' >once.c
+  expect "a probe of a function that is there links" cc probe.c -o probe.wasm
+  expect "and one of a function that isn't there doesn't" test "$(cc no_probe.c -o no.wasm 2>&1 | grep -c 'undefined symbol: no_such_function')" -eq 1
+  expect "the address of a function that is declared otherwise is taken" cc address.c twice.c once.c -o address.wasm
+  expect "and is that of its definition" prints address.wasm '42\n'
+  clang --target=wasm32-wasi -c address.c twice_too.c twice.c
+  expect "a function isn't a datum" is_refused address.o twice_too.o --no-entry -o no.wasm
+  expect "own words let no other type through" is_refused_by_own_words no.wasm address.o twice.o --no-entry --allow-undefined -o no.wasm
+}
+
+# Constructors that nothing would call, where no start file does.
+lost_constructors() {
+  local line="wasm-ld: error: constructors would not be called: link a start file that calls __wasm_call_ctors"
+  printf 'volatile int source = 42;\nstatic int before = source;\nextern "C" int made_before(void) { return before; }\n' >made.cpp
+  clang++ --target=wasm32-unknown-unknown -O1 -fno-exceptions -c made.cpp
+  expect "a constructor that would be lost" is_refused_as no.wasm "$line" made.o --no-entry --export=made_before -o no.wasm
+  expect "and that is asked for" "$linker" made.o --no-entry --export=made_before --export=__wasm_call_ctors -o made.wasm
+  if [ -n "${WASMLD:-}" ]; then
+    expect "own words ask for it themselves" "$WASMLD" made.o --no-entry --export=made_before -o own.wasm
+  fi
+}
+
 versions() {
   expect "the version has LLD" grep -q '^LLD [0-9]' <("$linker" --version)
   expect "also behind other words" grep -q '^LLD [0-9]' <("$linker" absent.o -v -o no.wasm)
@@ -247,20 +284,58 @@ END
   expect "and it runs" runs_as mesonic/made/demo.wasm "$real/uses_library.txt"
 }
 
+# The answers of a configure script to its probes, which declare each function by a type of their own.
+by_autoconf() {
+  local linked
+  command -v autoconf >/dev/null || {
+    skip "configure (no autoconf)"
+    return
+  }
+  mkdir -p configured/ours configured/theirs
+  cat >configured/configure.ac <<'END'
+AC_INIT([demo], [1])
+AC_CONFIG_HEADERS([config.h])
+AC_PROG_CC
+AC_CHECK_FUNCS([strlen memcpy qsort getenv fork no_such_function])
+AC_SEARCH_LIBS([cos], [m])
+AC_CHECK_LIB([m], [sqrt])
+AC_CHECK_LIB([m], [no_such_root])
+AC_OUTPUT
+END
+  printf '%s\n' HAVE_STRLEN HAVE_MEMCPY HAVE_QSORT HAVE_GETENV HAVE_FORK HAVE_NO_SUCH_FUNCTION HAVE_LIBM | sed 's/^/#undef /' >configured/config.h.in
+  expect "a configure script is made" quietly autoconf -o configured/configure configured/configure.ac
+  linked="clang --target=wasm32-wasi"
+  (cd configured/ours && quietly ../configure --host=wasm32-wasi "CC=$linked -fuse-ld=$linker")
+  printf '#define HAVE_%s 1\n' GETENV LIBM MEMCPY QSORT STRLEN >wanted.txt
+  expect "it finds what is there" gives wanted.txt sh -c "sed -n '/^#define HAVE/p' configured/ours/config.h | LC_ALL=C sort"
+  if command -v wasm-ld >/dev/null; then
+    (cd configured/theirs && quietly ../configure --host=wasm32-wasi "CC=$linked")
+    expect "as it does with LLVM's linker" cmp configured/ours/config.h configured/theirs/config.h
+  fi
+}
+
+# The first rustc that has a library for a target, as $compiler.
+find_rustc() {
+  local target=$1 library=$2
+  for compiler in $(type -ap rustc); do
+    compgen -G "$("$compiler" --print target-libdir --target "$target" 2>err.txt)/lib$library-*.rlib" >/dev/null && return
+  done
+  skip "rustc (no $library for $target)"
+  return 1
+}
+
 by_rustc() {
-  local target=wasm32-unknown-unknown libraries
-  command -v rustc >/dev/null || {
-    skip "rustc (not installed)"
-    return
-  }
-  libraries=$(rustc --print target-libdir --target "$target" 2>err.txt)
-  compgen -G "$libraries/libcore-*.rlib" >/dev/null || {
-    skip "rustc (no core for $target)"
-    return
-  }
-  expect "rustc links a cdylib" rustc --target "$target" -O --crate-type=cdylib -C linker-flavor=wasm-ld -C "linker=$linker" "$sources/nth.rs" -o nth.wasm
-  printf 'nth: 9\n' >wanted.txt
-  expect "and it runs" gives wanted.txt node --no-warnings "$real/call.mjs" nth.wasm nth 3
+  local target=wasm32-unknown-unknown compiler
+  if find_rustc "$target" core; then
+    expect "rustc links a cdylib" "$compiler" --target "$target" -O --crate-type=cdylib -C linker-flavor=wasm-ld -C "linker=$linker" "$sources/nth.rs" -o nth.wasm
+    printf 'nth: 9\n' >wanted.txt
+    expect "and it runs" gives wanted.txt sh -c "node --no-warnings '$real/call.mjs' nth.wasm nth 3 | tail -n 1"
+  fi
+  target=wasm32-wasi
+  if find_rustc "$target" std; then
+    expect "rustc links a program with its standard library" "$compiler" --target "$target" -O -C linker-flavor=wasm-ld -C "linker=$linker" -C "link-arg=-L$libc" "$sources/words.rs" -o words.wasm
+    expect "and it runs" prints words.wasm 'a: 3\nis: 2\nrose: 3\n'
+  fi
 }
 
 programs_of_c
@@ -268,8 +343,11 @@ programs_of_cpp
 libraries
 many_objects
 refusals
+other_types
+lost_constructors
 versions
 by_cmake
 by_meson
+by_autoconf
 by_rustc
 finish

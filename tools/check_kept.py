@@ -31,8 +31,16 @@ def newest():
     return found
 
 
+def linked(source, place):
+    """A second name of a file, or on another file system a copy."""
+    try:
+        os.link(source, place)
+    except OSError:
+        shutil.copyfile(source, place)
+
+
 def laid_out(name, entry):
-    """Whether the entry holds a library, which then lies in LIBRARIES/NAME."""
+    """Whether the entry holds a library, whose files then lie in LIBRARIES/NAME."""
     with open(f"{entry}/made.json", encoding="utf-8") as file:
         files = [(number, path) for number, (path, _) in enumerate(json.load(file)["files"]) if path.startswith("rlib/")]
     to = f"{LIBRARIES}/{name}"
@@ -40,7 +48,7 @@ def laid_out(name, entry):
     for number, path in files:
         place = f"{to}/{path[len('rlib/'):]}"
         os.makedirs(os.path.dirname(place), exist_ok=True)
-        shutil.copyfile(f"{entry}/{number}", place)
+        linked(f"{entry}/{number}", place)
     return bool(files)
 
 

@@ -1,14 +1,14 @@
 -- A link shows what it shows whatever was asked of the shelf before it or is asked behind it.
-use Rattle.std.proofs.Common.{◌≡◌, ◌⊎◌, inl, inr, ℕ, List, Option, Some, None, IsTrue, Result, Ok, Err, refl, sym, ap, subst, ◌∙◌, arith}
+use Rattle.std.proofs.Common.{◌≡◌, ◌⊎◌, inl, inr, ℕ, true, List, Option, Some, None, IsTrue, Result, Ok, Err, refl, sym, ap, subst, ◌∙◌, arith}
 use Rattle.std.specs.Prelude.{IfOk, IfSome, IsSomeAnd}
 use Rattle.wl_base.specs.declared.fault.Fault.{Fault}
 use Rattle.wl_base.specs.declared.usage.Usage.{Usage as UsageFault}
 use Rattle.wl_outside.specs.Shelf.{Shown, Same, SameBut, Grows, Holds, Torn, LoadFailed, SaveFailed}
 use Rattle.link_plan.specs.declared.plan.Plan.{Plan}
-use Rattle.link_words.specs.Words.{plan_of, word}
+use Rattle.link_words.specs.Words.{word}
 use Rattle.link_command.specs.declared.status.Status.{Status}
 use Rattle.link_command.specs.declared.status.Status.TheVariants.{Linked, Refused, Usage, ReadFault, WriteFault, NoMemory}
-use Rattle.link_command.specs.Command.{Shows, LinkIs, IsTold, LoadsWork, SaveWorks, Saved, SavedRuns, Cut, contents, input_names, files_of}
+use Rattle.link_command.specs.Command.{planned, Shows, LinkIs, IsTold, LoadsWork, SaveWorks, Saved, SavedRuns, Cut, contents, input_names, files_of}
 use Rattle.driver_command.specs.Linked.{LinksBy}
 
 pub tells_on : (old new : Shown) → Grows old new → IsTrue old.tells → IsTrue new.tells
@@ -108,7 +108,7 @@ module _ (before mid after : Shown) (grows : Grows before mid) (same : Same befo
   pub links_after : (status : Status) → LinksBy status mid after own → LinksBy status before after own
   links_after status h = record {
     usage = λ u is. let p = h.usage u is in (p.0, same_all before mid after grows same p.1);
-    cause = on_ok (λ plan. Shows status mid after own plan) (λ plan. Shows status before after own plan) (plan_of own) (shows_back status) h.cause;
+    cause = on_ok (λ plan. Shows status mid after own plan) (λ plan. Shows status before after own plan) (planned true own) (shows_back status) h.cause;
     memory = λ is. same_all before mid after grows same (h.memory is);
     runs = λ plan is linked told. runs_back plan told (h.runs plan is linked (told_in plan.make_case told));
     is_usage = h.is_usage;
@@ -174,7 +174,7 @@ module _ (before mid after : Shown) (first : Grows before mid) (grows : Grows mi
   pub links_before : (status : Status) → LinksBy status before mid own → LinksBy status before after own
   links_before status h = record {
     usage = λ u is. let p = h.usage u is in (p.0, same_on p.1);
-    cause = on_ok (λ plan. Shows status before mid own plan) (λ plan. Shows status before after own plan) (plan_of own) (shows_on status) h.cause;
+    cause = on_ok (λ plan. Shows status before mid own plan) (λ plan. Shows status before after own plan) (planned true own) (shows_on status) h.cause;
     memory = λ is. same_on (h.memory is);
     runs = λ plan is linked told. runs_on plan (h.runs plan is linked told);
     is_usage = h.is_usage;

@@ -37,7 +37,7 @@ Ends (Refused line) before after words = Means before words (Refuses line) × Sa
 Ends (Stopped stop) before after words = Blames stop before after × Same before after
 Ends (Linked status) before after words = IsLink status before after words
 
--- What is due where the words stand for this: a link by the own words that shows all that `link_command` promises of them, the line that
+-- What is due where the words stand for this: a link by the own words that shows all that `link_like_lld` promises of them, the line that
 -- refuses them, or the text that is asked for. It fails to come only where there is no answer to the words.
 abbrev pub IsDue : Outcome → Shown → Shown → Answer → Type 0
 IsDue (Stopped stop) before after answer = Blames stop before after

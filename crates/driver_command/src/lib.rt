@@ -6,7 +6,6 @@ mod linking;
 mod manual;
 mod names;
 mod outcome;
-mod quiet;
 mod saying;
 
 pub use driving::drive;

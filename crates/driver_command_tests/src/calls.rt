@@ -5,7 +5,10 @@ use driver_words::tokens;
 use std::alloc::Global;
 use std::test::Fail;
 use std::thread::Threads;
-use test_kit::{calling_module, calling_object, file, library, shelf_of};
+use test_kit::{
+    begun_object, calling_module, calling_object, calls_a_otherwise, defines_a, file, library,
+    shelf_of,
+};
 use wl_base::{OutOfMemory, Seq, Text};
 use wl_outside::{MemShelf, MemSink, OpenGate};
 
@@ -97,6 +100,60 @@ fn words_of_drivers_are_linked(rt: HostRuntime) -> Result<(), Fail> {
     ];
     for (line, said) in cases {
         assert!(rt; links(&rt, alloc, line, said)?, "{line}");
+    }
+    Ok(())
+}
+
+// Whether a call by these words over objects that LLVM's linker knows how to take links anything, or else says this.
+fn ends_as<R: Threads + Sync>(
+    rt: &R,
+    alloc: Global,
+    line: &str,
+    code: u8,
+    said: &str,
+) -> Result<bool, OutOfMemory> {
+    let mut files = Seq::new(alloc);
+    files.push(file(alloc, "other.o", calls_a_otherwise())?)?;
+    files.push(file(alloc, "a.o", defines_a())?)?;
+    files.push(file(alloc, "begun.o", begun_object())?)?;
+    let mut shelf = shelf_of(alloc, files, &[])?;
+    let mut out = MemSink::new(alloc, Seq::new(alloc));
+    let mut say = MemSink::new(alloc, Seq::new(alloc));
+    let ended = call(rt, alloc, line, &mut shelf, &mut out, &mut say)?;
+    Ok(
+        ended == code
+            && shelf.held("out").is_some() == (code == 0)
+            && say.bytes() == said.as_bytes(),
+    )
+}
+
+#[test]
+fn a_link_is_as_lld_does_it(rt: HostRuntime) -> Result<(), Fail> {
+    let alloc = rt.alloc();
+    let cases = [
+        // a call by another type traps
+        ("other.o a.o -o out --no-entry --export=f", 0u8, ""),
+        ("a.o other.o -o out --no-entry --export=f", 0, ""),
+        // an init function that nothing calls
+        (
+            "begun.o -o out --no-entry --export=f",
+            1,
+            "wasm-ld: error: constructors would not be called: link a start file that calls __wasm_call_ctors\n",
+        ),
+        (
+            "begun.o -o out --no-entry --export=f --export=__wasm_call_ctors",
+            0,
+            "",
+        ),
+        (
+            "begun.o -o out --no-entry --export=__wasm_call_ctors",
+            0,
+            "",
+        ),
+        ("begun.o -o out --no-entry --export=i", 0, ""),
+    ];
+    for (line, code, said) in cases {
+        assert!(rt; ends_as(&rt, alloc, line, code, said)?, "{line}");
     }
     Ok(())
 }

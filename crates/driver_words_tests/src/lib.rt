@@ -5,4 +5,12 @@
 #[cfg(test)]
 mod cases;
 #[cfg(test)]
+mod drivers;
+#[cfg(test)]
+mod inputs;
+#[cfg(test)]
+mod refusals;
+#[cfg(test)]
+mod values;
+#[cfg(test)]
 mod words;

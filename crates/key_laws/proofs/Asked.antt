@@ -1,5 +1,5 @@
 -- What references of the parts of loaded objects name: a symbol of a kind that the reference's type names, which means what is of the same kind.
-use Rattle.std.proofs.Common.{◌≡◌, ℕ, List, map, None, true, false, refl, sym, ap, ◌∙◌, subst, inl, inr, ⊎_elim, arith}
+use Rattle.std.proofs.Common.{◌≡◌, ℕ, List, map, None, Bool, true, false, refl, sym, ap, ◌∙◌, subst, inl, inr, ⊎_elim, arith}
 use Rattle.std.specs.Prelude.{◌⊎◌, ◌==◌, ◌||◌}
 use Rattle.std.proofs.lemmas.Bool.{eqb-true, or_cases}
 use Rattle.list_places.specs.Has.{Has}
@@ -12,16 +12,18 @@ use Rattle.made_symbols.specs.Made.{made}
 use Rattle.made_symbols.specs.declared.mode.Mode.TheVariants.{Plain}
 use Rattle.round_rules.specs.Rounds.{Candidate}
 use Rattle.link_plan.specs.declared.plan.Plan.{Plan}
+use Rattle.mark_bits.specs.declared.chunk.Chunk.{Chunk}
 use Rattle.name_rules.specs.Entries.{InputSymbol, ImportKey, is_entry, is_named, name_of, entries}
 use Rattle.name_rules.specs.Meanings.{Meaning, here, imported, Resolved, resolved_in, no_uses}
-use Rattle.name_rules.specs.Cases.{clash}
-use Rattle.link_rules.specs.Program.{Program, program_of, Part, Ref, refs, parts_of, init_calls}
+use Rattle.name_rules.specs.Cases.{clash_by}
+use Rattle.link_rules.specs.Program.{Program, strict_program, loosened, Part, Ref, refs, parts_of, init_calls}
 use Rattle.link_rules.specs.Keys.{is_function_type}
 use Rattle.link_facts.specs.Loaded.{AreLoaded}
 use Rattle.link_facts.proofs.Symbols.{entry_known, symbol_listed}
 use Rattle.link_facts.proofs.Meant.{Means, means, one_kind}
 use Rattle.link_facts.proofs.Parts.{made_behind, made_by_input}
-use Rattle.link_facts.proofs.SoundPrograms.{Stands, stands_ref, import_type, made_calls, parts_are}
+use Rattle.link_facts.proofs.SoundPrograms.{Stands, stands_ref, import_type, made_calls, parts_are, names_symbol}
+use Rattle.link_facts.proofs.Loosened.{came, ref_came, changed_or_not, ref_by, kind_is as loose_kind, chunk_is}
 
 -- What is known of a reference.
 pub record IsAsked (ref : Ref) : Type 0 where
@@ -78,9 +80,9 @@ cell_names Table t g = absurd (grind arith)
 
 -- ---- references of the program
 
-module _ (plan : Plan) (files : List (List ℕ)) (all : List Candidate) (objects : List Object) (loaded : AreLoaded objects) (clear : clash (entries Plain objects) ≡ None) where
+module _ (plan : Plan) (files : List (List ℕ)) (all : List Candidate) (objects : List Object) (loaded : AreLoaded objects) (clear : clash_by plan.like_lld (entries Plain objects) ≡ None) where
   abbrev p : Program
-  p = program_of Plain plan files all objects
+  p = strict_program Plain plan files all objects
 
   abbrev es : List InputSymbol
   es = entries Plain objects
@@ -96,7 +98,7 @@ module _ (plan : Plan) (files : List (List ℕ)) (all : List Candidate) (objects
     means_by m q = subst (Means es ref.entry) (sym s.names.is.meant ∙ q) (means plan.allow_undefined es ref.entry)
 
     same_by : (e : InputSymbol) → Means es ref.entry (here e) → e.symbol.kind ≡ ref.entry.symbol.kind
-    same_by e (inl x) = one_kind es e ref.entry clear (listed x.0) x.1.0
+    same_by e (inl x) = one_kind plan.like_lld es e ref.entry clear (listed x.0) x.1.0
     same_by e (inr (inl x)) = ap (λ (w : InputSymbol). w.symbol.kind) (here_is e ref.entry x.0)
       where
         here_is : (a b : InputSymbol) → here a ≡ here b → a ≡ b
@@ -107,7 +109,7 @@ module _ (plan : Plan) (files : List (List ℕ)) (all : List Candidate) (objects
     import_by k (inl x) =
         let r = x.1.0 in
         let known = entry_known objects r (has_filter (is_named (name_of ref.entry)) es r x.1.1).0 in
-        let t = import_type plan files all objects loaded clear r known k x.1.2 ref.entry.symbol.kind (one_kind es r ref.entry clear (listed x.0) x.1.1) in
+        let t = import_type plan files all objects loaded clear r known k x.1.2 ref.entry.symbol.kind (one_kind plan.like_lld es r ref.entry clear (listed x.0) x.1.1) in
         (t.0, t.2)
     import_by k (inr (inl x)) = absurd (let z = x.0 in grind arith)
     import_by k (inr (inr x)) = absurd (grind arith)
@@ -132,3 +134,31 @@ module _ (plan : Plan) (files : List (List ℕ)) (all : List Candidate) (objects
       let there = subst (λ xs. Has xs part) (parts_are plan files all objects loaded clear) h in
       let m = made_by_input all objects res (λ o. refl) to loaded.rise part there z in
       made_calls plan files all objects loaded clear part ref (made_behind to 0 (made Plain) part m).0 r
+
+  -- ---- the same when calls are loosened
+
+  changed : (r : Ref) → IsAsked r → (b : Bool) → IsAsked (ref_by es b r)
+  changed r s b = elim (changed_or_not es b r) as (λ _. IsAsked (ref_by es b r)) [
+    | inl c ↦ subst IsAsked (sym c.is) (record {
+      names = s.names;
+      same = λ e q. absurd (grind arith);
+      function = λ k q. absurd (grind arith);
+      datum = λ k q. absurd (grind arith);
+    })
+    | inr same ↦ subst IsAsked (sym same) s
+  ]
+
+  pub loose_asked : (part : Part) (ref : Ref) → Has (loosened p).parts part → Has (refs part) ref → IsAsked ref
+  loose_asked part ref h r =
+      let symbols = names_symbol plan files all objects loaded clear in
+      let x = came p refl symbols part h in
+      let y = ref_came p refl symbols x.0 ref (subst (λ (w : Part). Has (refs w) ref) (sym x.2) r) in
+      subst IsAsked y.2 (changed y.0 (asked x.0 y.0 x.1 y.1) plan.like_lld)
+
+  pub loose_calls : (part : Part) (ref : Ref) → Has (loosened p).parts part → part.chunk.input ≡ 0 → Has (refs part) ref → ref.kind ≡ 0
+  loose_calls part ref h z r =
+      let symbols = names_symbol plan files all objects loaded clear in
+      let x = came p refl symbols part h in
+      let y = ref_came p refl symbols x.0 ref (subst (λ (w : Part). Has (refs w) ref) (sym x.2) r) in
+      let k = ap (λ (w : Part). w.chunk) (sym x.2) ∙ chunk_is es plan.like_lld x.0 in
+      ap (λ (w : Ref). w.kind) (sym y.2) ∙ loose_kind es plan.like_lld y.0 ∙ calls x.0 y.0 x.1 (ap (λ (c : Chunk). c.input) (sym k) ∙ z) y.1

@@ -12,7 +12,7 @@ use Rattle.made_symbols.specs.declared.mode.Mode.TheVariants.{Plain}
 use Rattle.mark_bits.specs.declared.chunk.Chunk.{Chunk}
 use Rattle.live_mark.specs.Live.{ReachedLaw}
 use Rattle.name_rules.specs.Entries.{InputSymbol, ImportKey, is_kind, name_of, same_import}
-use Rattle.name_rules.specs.Meanings.{Meaning, here, imported, null, nothing}
+use Rattle.name_rules.specs.Meanings.{Meaning, here, imported, null, nothing, is_nothing}
 use Rattle.link_rules.specs.Program.{Program, Part, Ref, refs, same_chunk, chunk_at, chunk_of, chunk_by, meant_chunk}
 use Rattle.link_rules.specs.Marks.{live, unresolved, refs_of}
 use Rattle.link_rules.specs.Keys.{FunctionKey, outside, same_function, functions, function_imports_of, defined_functions, is_function_type, has_import, used_imports, imports_by, import_of, imports_in_order, ref_function, meant_function, is_null, takes_slot, may_have_slot, slots, is_taken, types, type_of, window_types, function_number}
@@ -91,7 +91,7 @@ module _ (law : ReachedLaw) (p : Program) (exports : List InputSymbol) (sound : 
     known = asked part ref (live_part p exports part h) r
 
     pub not_nothing : ref.meaning ≡ nothing → ⊥
-    not_nothing m = resolved p (live p exports) ref open' in_refs said.known m
+    not_nothing m = resolved p (live p exports) ref open' in_refs (said.known (ap is_nothing m)) m
 
     -- what it means is live
     target : (e : InputSymbol) (c : Chunk) → ref.meaning ≡ here e → chunk_of e ≡ Some c → SoundHere p ref e → PartOf (live p exports) c

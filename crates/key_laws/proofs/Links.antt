@@ -13,6 +13,7 @@ use Rattle.key_laws.specs.Standing.{KeysStand}
 use Rattle.key_laws.specs.Links.{LinksNumber}
 
 pub links_number : KeysDiffer → KeysStand → LoadedAreSound → LinksNumber
+unfolding program_of
 links_number differ stand loads plan files bytes all objects long c l e =
     let p = program_of Plain plan files all objects in
     let loaded = are_loaded files all objects (map home_of all) (loads Plain plan files (asked_names plan) all objects long c l).1 in

@@ -10,7 +10,7 @@ use Rattle.made_symbols.specs.declared.mode.Mode.TheVariants.{Plain}
 use Rattle.name_rules.specs.Entries.{InputSymbol, ImportKey, is_kind, name_of, same_import, same_entry}
 use Rattle.link_rules.specs.Program.{Program, Part, same_chunk}
 use Rattle.link_rules.specs.Marks.{refs_of}
-use Rattle.link_rules.specs.Keys.{FunctionKey, outside, linker_function, stub, own, GlobalKey, outside_global, linker_global, own_global, got, exported_datum, same_function, same_global, same_got, functions, function_imports_of, stub_names, calls_stub, made_function_key, own_function_key, is_function_type, is_global_type, has_import, used_imports, imports_by, imports_in_order, slots, is_taken, takes_slot, ref_function, globals, used_globals, made_global_key, own_global_key, got_entries, needs_got, parts_of_kind, ref_got, datum_key, types, type_of, window_types}
+use Rattle.link_rules.specs.Keys.{FunctionKey, outside, linker_function, stub, own, GlobalKey, outside_global, linker_global, own_global, got, exported_datum, same_function, same_global, same_got, functions, function_imports_of, stub_names, calls_stub, made_function_key, own_function_key, is_function_type, is_global_type, has_import, used_imports, imports_by, imports_in_order, slots, callable, is_taken, takes_slot, ref_function, globals, used_globals, made_global_key, own_global_key, got_entries, needs_got, parts_of_kind, ref_got, datum_key, types, type_of, window_types}
 use Rattle.link_rules.specs.Values.{segments}
 use Rattle.link_rules.specs.Output.{layout}
 use Rattle.link_worlds.specs.Sound.{same_part}
@@ -80,7 +80,7 @@ module _ (p : Program) (parts : List Part) (apart : Apart same_part parts) where
       let b : S 1 2 mades = one_sort same_function function_sort functions_sorted 1 mades (apart_pick same_part same_function made_function_key (made_pick same_function 0 linker_function (λ i j h. h)) parts apart)
       (λ k h. let r = has_pick made_function_key parts k h in ap function_sort (sym (given_some ((r.0.chunk.input == 0) && (r.0.chunk.kind == 0)) (linker_function r.0.chunk.index) k r.2).1)) in
       let c : S 2 3 stubs = one_sort same_function function_sort functions_sorted 2 stubs
-      (apart_map bytes_eq same_function stub (λ x y h. h) names (apart_distinct bytes_eq (turned bytes_eq bytes_same) [] (map name_of (filter (λ (e : InputSymbol). list_any (calls_stub (name_of e)) (refs_of parts)) p.entries)) tt))
+      (apart_map bytes_eq same_function stub (λ x y h. h) names (apart_distinct bytes_eq (turned bytes_eq bytes_same) [] (map name_of (filter (λ (e : InputSymbol). list_any (calls_stub (name_of e)) (refs_of parts)) (callable p))) tt))
       (λ k h. let r = has_map stub names k h in ap function_sort (sym r.2)) in
       let d : S 3 4 owns = one_sort same_function function_sort functions_sorted 3 owns (apart_pick same_part same_function own_function_key (own_pick same_function 0 own (λ i x j y h. h)) parts apart)
       (λ k h. let r = has_pick own_function_key parts k h in ap function_sort (sym (given_some (not (r.0.chunk.input == 0) && (r.0.chunk.kind == 0)) (own r.0.chunk.input r.0.chunk.index) k r.2).1)) in

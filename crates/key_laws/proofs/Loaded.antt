@@ -13,12 +13,13 @@ use Rattle.name_rules.specs.Entries.{InputSymbol, entries_from, symbols_of, made
 use Rattle.name_rules.specs.Meanings.{Resolved, resolved_in, resolve, no_uses}
 use Rattle.round_rules.specs.Rounds.{Candidate}
 use Rattle.link_plan.specs.declared.plan.Plan.{Plan}
-use Rattle.link_rules.specs.Program.{Program, Part, program_of, winners_of, is_winner, parts_of, init_calls}
+use Rattle.link_rules.specs.Program.{Program, Part, program_of, strict_program, winners_of, is_winner, parts_of, init_calls}
 use Rattle.live_mark.specs.Live.{is_among, reached}
 use Rattle.link_rules.specs.Marks.{exported, is_exported_by, live, picked, targets, root_places}
 use Rattle.link_worlds.specs.Sound.{same_part}
 use Rattle.link_facts.proofs.Symbols.{above, positive}
 use Rattle.link_facts.proofs.Parts.{parts_apart}
+use Rattle.link_facts.proofs.Loosened.{loosened_apart}
 use Rattle.key_laws.specs.Differ.{KeysDiffer}
 use Rattle.key_laws.proofs.Lists.{all_differ}
 
@@ -118,8 +119,9 @@ module _ (plan : Plan) (files : List (List ℕ)) (all : List Candidate) (objects
   program_apart : Apart same_part p.parts
   unfolding program_of resolve parts_of
   program_apart =
+      let q = strict_program Plain plan files all objects in
       let res : Object → Resolved = λ o. resolved_in Plain no_uses plan.allow_undefined (entries Plain objects) objects o in
-      parts_apart all objects res (λ o. refl) (init_calls (map res objects)) rise
+      loosened_apart q (parts_apart all objects res (λ o. refl) (init_calls (map res objects)) rise)
 
 pub keys_differ : KeysDiffer
 keys_differ plan files all objects rise =

@@ -11,8 +11,8 @@ use Rattle.live_mark.specs.Live.{ReachedLaw}
 use Rattle.round_rules.specs.Rounds.{Candidate}
 use Rattle.link_plan.specs.declared.plan.Plan.{Plan}
 use Rattle.name_rules.specs.Entries.{InputSymbol, ImportKey, SymbolType, of_function, of_global, untyped, is_kind, entries}
-use Rattle.name_rules.specs.Cases.{clash}
-use Rattle.link_rules.specs.Program.{Program, program_of, Part, Ref, refs, Named, a_symbol, a_type, named_ref, named_type, types_named}
+use Rattle.name_rules.specs.Cases.{clash_by}
+use Rattle.link_rules.specs.Program.{Program, program_of, strict_program, loosened, Part, Ref, refs, Named, a_symbol, a_type, named_ref, named_type, types_named}
 use Rattle.link_rules.specs.Marks.{exported, live, unresolved}
 use Rattle.link_rules.specs.Keys.{FunctionKey, outside, outside_global, GlobalKey, functions, slots, is_function_type, is_global_type, function_type_of, type_of, window_types}
 use Rattle.link_rules.specs.Values.{Layout, Asks, a_function, a_slot, an_address, a_global, a_table, asks}
@@ -21,8 +21,10 @@ use Rattle.link_worlds.specs.Sound.{Sound, SoundExports}
 use Rattle.link_worlds.proofs.Live.{live_part}
 use Rattle.link_worlds.proofs.Functions.{stood}
 use Rattle.link_facts.specs.Loaded.{ProgramsAreSound}
+use Rattle.link_facts.proofs.SoundPrograms.{names_symbol}
+use Rattle.link_facts.proofs.Loosened.{loose_sound, loose_exports}
 use Rattle.key_laws.specs.Standing.{HasFunction, HasType, HasNamed, HasAsked, HasImported, AllStand, KeysStand}
-use Rattle.key_laws.proofs.Asked.{IsAsked, slot_names, address_names, asked, calls}
+use Rattle.key_laws.proofs.Asked.{IsAsked, slot_names, address_names, loose_asked, loose_calls}
 use Rattle.key_laws.proofs.Functions.{known, called, slot_there, address_there, type_there, function_there, function_type, segment_there}
 use Rattle.key_laws.proofs.Globals.{each_global, read, export_there, held}
 
@@ -107,8 +109,11 @@ module _ (plan : Plan) (files : List (List ℕ)) (all : List Candidate) (objects
   entries_are = refl
 
 pub keys_stand : ReachedLaw → ProgramsAreSound → KeysStand
+unfolding program_of exported
 keys_stand law sound plan files all objects loaded clear open' =
-    let s = sound plan files all objects loaded clear in
-    let clear' = ap clash (sym (entries_are plan files all objects)) ∙ clear in
-    all_stand law (program_of Plain plan files all objects) (exported Plain (program_of Plain plan files all objects)) s.0 s.1 open'
-    (asked plan files all objects loaded clear') (calls plan files all objects loaded clear')
+    let p = strict_program Plain plan files all objects in
+    let clear' = ap (clash_by plan.like_lld) (sym (entries_are plan files all objects)) ∙ clear in
+    let s = sound plan files all objects loaded clear' in
+    let symbols = names_symbol plan files all objects loaded clear' in
+    all_stand law (loosened p) (exported Plain p) (loose_sound p refl symbols s.0) (loose_exports p refl symbols (exported Plain p) s.1) open'
+    (loose_asked plan files all objects loaded clear') (loose_calls plan files all objects loaded clear')

@@ -12,7 +12,7 @@ use Rattle.mark_bits.specs.declared.chunk.Chunk.{Chunk}
 use Rattle.mark_bits.specs.declared.kinds.TheConstants as chunks
 use Rattle.name_rules.specs.Entries.{InputSymbol, SymbolType, of_function, of_global, untyped, ImportKey, is_kind}
 use Rattle.name_rules.specs.Meanings.{Meaning, here, imported, null, nothing}
-use Rattle.name_rules.specs.Cases.{clash}
+use Rattle.name_rules.specs.Cases.{clash_by}
 use Rattle.round_rules.specs.Rounds.{Candidate}
 use Rattle.link_plan.specs.declared.plan.Plan.{Plan}
 use Rattle.index_layout.specs.Numbers.{number_by}
@@ -118,7 +118,7 @@ pub record AllStand (p : Program) (parts : List Part) (exports : List InputSymbo
 -- Where no names of loaded objects clash, and nothing stays unresolved.
 abbrev pub KeysStand : Type 0
 KeysStand = (plan : Plan) (files : List (List ℕ)) (all : List Candidate) (objects : List Object) → AreLoaded objects
-    → clash (program_of Plain plan files all objects).entries ≡ None
+    → clash_by plan.like_lld (program_of Plain plan files all objects).entries ≡ None
     → unresolved (program_of Plain plan files all objects) (live (program_of Plain plan files all objects) (exported Plain (program_of Plain plan files all objects))) ≡ None
     → AllStand (program_of Plain plan files all objects) (live (program_of Plain plan files all objects) (exported Plain (program_of Plain plan files all objects)))
     (exported Plain (program_of Plain plan files all objects)) (layout_of (program_of Plain plan files all objects) (exported Plain (program_of Plain plan files all objects)))

@@ -1,14 +1,31 @@
 -- What the program's answer says of the words and of the shelf before and after.
-use Rattle.std.specs.Prelude.{◌≡◌, ◌⊎◌, ℕ, List, [], ◌∷◌, IsTrue, Contains, map, Option, Some, None, IfSome, IsSomeAnd, Result, Ok, Err}
+use Rattle.std.specs.Prelude.{◌≡◌, ◌⊎◌, ℕ, Bool, true, false, List, [], ◌∷◌, IsTrue, Contains, map, Option, Some, None, IfSome, IsSomeAnd, Result, Ok, Err}
 use Rattle.wl_base.specs.declared.fault.Fault.{Fault}
+use Rattle.wl_base.specs.declared.usage.Usage.{Usage as UsageFault}
 use Rattle.wl_outside.specs.Shelf.{Shown, Same, SameBut, Holds, Torn, LoadFailed, SaveFailed}
 use Rattle.link_plan.specs.declared.plan.Plan.{Plan}
-use Rattle.link_words.specs.Words.{word}
+use Rattle.link_words.specs.Words.{plan_of, word}
 use Rattle.link_rules.specs.LinkOf.{link_of}
 use Rattle.link_runs.specs.Links.{Runs}
 use Rattle.case_objects.specs.Objects.{objects}
 use Rattle.link_command.specs.declared.status.Status.{Status}
 use Rattle.link_command.specs.declared.status.Status.TheVariants.{Linked, Refused, Usage, ReadFault, WriteFault, NoMemory}
+
+-- The plan of the words, in a link that is like lld's or not. No own word asks for one.
+abbrev pub as_lld : Result Plan UsageFault → Result Plan UsageFault
+as_lld (Ok plan) = Ok (record plan { like_lld = true })
+as_lld (Err usage) = Err usage
+
+abbrev pub plan_for : Bool → Plan → Plan
+plan_for true plan = record plan { like_lld = true }
+plan_for false plan = plan
+
+abbrev pub said_for : Bool → Result Plan UsageFault → Result Plan UsageFault
+said_for true said = as_lld said
+said_for false said = said
+
+abbrev pub planned : Bool → List (List ℕ) → Result Plan UsageFault
+planned like_lld words = said_for like_lld (plan_of words)
 
 -- the contents of the names, where each holds any
 abbrev pub with_first : Option (List ℕ) → Option (List (List ℕ)) → Option (List (List ℕ))

@@ -1,12 +1,12 @@
 //! The top call: all that the program does.
-ghost use Rattle.std.specs.Prelude.{◌≡◌, ◌⊎◌, ◌<◌, ◌^◌, List, ℕ, IsSomeAnd, IfOk, IfErr, All, Ok, Err, length};
+ghost use Rattle.std.specs.Prelude.{true, ◌≡◌, ◌⊎◌, ◌<◌, ◌^◌, List, ℕ, IsSomeAnd, IfOk, IfErr, All, Ok, Err, length};
 ghost use Rattle.wl_base.specs.declared.fault.Fault.{Fault};
 ghost use Rattle.wl_base.specs.declared.usage.Usage.{Usage as UsageFault};
 ghost use Rattle.wl_outside.specs.Shelf.{Same, Grows, SaveFailed};
 ghost use Rattle.link_plan.specs.declared.plan.Plan.{Plan as ThePlan};
 ghost use Rattle.link_plan.specs.Plan.{IsPlan};
-ghost use Rattle.link_words.specs.Words.{plan_of};
-ghost use Rattle.link_command.specs.Command.{Shows, LinkIs, IsTold, LoadsWork, SaveWorks, IsUnlessMemory, Saved, SavedRuns, Cut};
+ghost use Rattle.link_words.specs.Words.{Reads, plan_of};
+ghost use Rattle.link_command.specs.Command.{planned, plan_for, Shows, LinkIs, IsTold, LoadsWork, SaveWorks, IsUnlessMemory, Saved, SavedRuns, Cut};
 ghost use Rattle.link_command.specs.Ending.{ending_line};
 ghost use Rattle.link_command.specs.Line.{status_line};
 ghost use Rattle.link_command.specs.Said.{Said};
@@ -62,9 +62,38 @@ pub fn link_command<R: Threads + Sync, F: Shelf, E: Sink, G: Gate>(
     // The sink has the line of the answer, or where its count of faults rose a prefix of it.
     ensures said { Said (status_line (plan_of words.now) result) (E.told say.old) (E.told say.new) }
 {
-    let ending = answer(rt, alloc, words, shelf, gate);
+    let ending = answer(rt, alloc, words, false, shelf, gate);
     // A line that can't be written changes no status.
     let _ = ending.say(say);
+    ending.status
+}
+
+/// The same by words that LLVM's linker was given otherwise: functions may be called by other types than their definitions have, and a link
+/// that would lose constructors is refused. It writes no line.
+pub fn link_like_lld<R: Threads + Sync, F: Shelf, G: Gate>(
+    rt: &R,
+    alloc: Global,
+    words: &[Text],
+    shelf: &mut F,
+    gate: &G,
+) -> Status
+    requires { length words.now < 2 ^ 32 }
+    ensures usage { (u : UsageFault) → result ≡ Status.Usage u → (planned true words.now ≡ Err u) × Same (F.shown shelf.old) (F.shown shelf.new) }
+    ensures cause { IfOk (planned true words.now) (λ plan. Shows result (F.shown shelf.old) (F.shown shelf.new) words.now plan) }
+    ensures memory { result ≡ Status.NoMemory → Same (F.shown shelf.old) (F.shown shelf.new) }
+    ensures runs { (plan : ThePlan) → planned true words.now ≡ Ok plan → result ≡ Status.Linked → IsTold plan.make_case (F.shown shelf.old)
+        → SavedRuns (F.shown shelf.old) (F.shown shelf.new) words.now plan }
+    ensures counts { Grows (F.shown shelf.old) (F.shown shelf.new) }
+    ensures is_usage { IfErr (planned true words.now) (λ u. IsUnlessMemory result (Status.Usage u)) }
+    ensures is_refused { (plan : ThePlan) (fault : Fault) → planned true words.now ≡ Ok plan
+        → IsTold plan.make_case (F.shown shelf.old) → LinkIs (F.shown shelf.old) words.now plan (Err fault)
+        → LoadsWork (F.shown shelf.old) (F.shown shelf.new) words.now plan → IsUnlessMemory result (Status.Refused fault) }
+    ensures is_linked { (plan : ThePlan) (bytes : List ℕ) → planned true words.now ≡ Ok plan
+        → IsTold plan.make_case (F.shown shelf.old) → LinkIs (F.shown shelf.old) words.now plan (Ok bytes)
+        → LoadsWork (F.shown shelf.old) (F.shown shelf.new) words.now plan
+        → SaveWorks (F.shown shelf.old) (F.shown shelf.new) plan → IsUnlessMemory result Status.Linked }
+{
+    let ending = answer(rt, alloc, words, true, shelf, gate);
     ending.status
 }
 
@@ -74,30 +103,54 @@ fn answer<R: Threads + Sync, F: Shelf, G: Gate>(
     rt: &R,
     alloc: Global,
     words: &[Text],
+    like_lld: bool,
     shelf: &mut F,
     gate: &G,
 ) -> Ending
     requires { length words.now < 2 ^ 32 }
-    ensures usage { (u : UsageFault) → result.status ≡ Status.Usage u → (plan_of words.now ≡ Err u) × Same (F.shown shelf.old) (F.shown shelf.new) }
-    ensures cause { IfOk (plan_of words.now) (λ plan. Shows result.status (F.shown shelf.old) (F.shown shelf.new) words.now plan) }
+    ensures usage { (u : UsageFault) → result.status ≡ Status.Usage u → (planned like_lld words.now ≡ Err u) × Same (F.shown shelf.old) (F.shown shelf.new) }
+    ensures cause { IfOk (planned like_lld words.now) (λ plan. Shows result.status (F.shown shelf.old) (F.shown shelf.new) words.now plan) }
     ensures memory { result.status ≡ Status.NoMemory → Same (F.shown shelf.old) (F.shown shelf.new) }
-    ensures runs { (plan : ThePlan) → plan_of words.now ≡ Ok plan → result.status ≡ Status.Linked → IsTold plan.make_case (F.shown shelf.old)
+    ensures runs { (plan : ThePlan) → planned like_lld words.now ≡ Ok plan → result.status ≡ Status.Linked → IsTold plan.make_case (F.shown shelf.old)
         → SavedRuns (F.shown shelf.old) (F.shown shelf.new) words.now plan }
     ensures counts { Grows (F.shown shelf.old) (F.shown shelf.new) }
-    ensures is_usage { IfErr (plan_of words.now) (λ u. IsUnlessMemory result.status (Status.Usage u)) }
-    ensures is_refused { (plan : ThePlan) (fault : Fault) → plan_of words.now ≡ Ok plan
+    ensures is_usage { IfErr (planned like_lld words.now) (λ u. IsUnlessMemory result.status (Status.Usage u)) }
+    ensures is_refused { (plan : ThePlan) (fault : Fault) → planned like_lld words.now ≡ Ok plan
         → IsTold plan.make_case (F.shown shelf.old) → LinkIs (F.shown shelf.old) words.now plan (Err fault)
         → LoadsWork (F.shown shelf.old) (F.shown shelf.new) words.now plan → IsUnlessMemory result.status (Status.Refused fault) }
-    ensures is_linked { (plan : ThePlan) (bytes : List ℕ) → plan_of words.now ≡ Ok plan
+    ensures is_linked { (plan : ThePlan) (bytes : List ℕ) → planned like_lld words.now ≡ Ok plan
         → IsTold plan.make_case (F.shown shelf.old) → LinkIs (F.shown shelf.old) words.now plan (Ok bytes)
         → LoadsWork (F.shown shelf.old) (F.shown shelf.new) words.now plan
         → SaveWorks (F.shown shelf.old) (F.shown shelf.new) plan → IsUnlessMemory result.status Status.Linked }
-    ensures line { ending_line result.status result.case ≡ status_line (plan_of words.now) result.status }
+    ensures line { ending_line result.status result.case ≡ status_line (planned like_lld words.now) result.status }
 {
-    match read_words(alloc, words) {
+    match read_plan(alloc, words, like_lld) {
         Ok(plan) => run_plan(rt, alloc, &plan, words, shelf, gate),
         Err(WordError::Usage(usage)) => Ending::plain(Status::Usage(usage)),
         Err(WordError::OutOfMemory) => Ending::plain(Status::NoMemory),
+    }
+}
+
+// The same plan, for a link that is like lld's or not.
+fn plan_for(mut plan: Plan, like_lld: bool) -> Plan
+    ensures { result ≡ plan_for like_lld plan }
+{
+    if like_lld {
+        plan.like_lld = true;
+    }
+    plan
+}
+
+// The plan of the words, in a link that is like lld's or not.
+fn read_plan(alloc: Global, words: &[Text], like_lld: bool) -> Result<Plan, WordError>
+    requires { length words.now < 2 ^ 32 }
+    ensures plan { Reads result (planned like_lld words.now) }
+    ensures numbers { IfOk result IsPlan }
+    ensures places { IfOk result (λ plan. All (λ i. i.place < length words.now) plan.inputs) }
+{
+    match read_words(alloc, words) {
+        Ok(plan) => Ok(plan_for(plan, like_lld)),
+        Err(error) => Err(error),
     }
 }
 

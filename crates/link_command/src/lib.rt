@@ -7,5 +7,5 @@ mod ending;
 mod inputs;
 mod status;
 
-pub use command::link_command;
+pub use command::{link_command, link_like_lld};
 pub use status::Status;

@@ -20,7 +20,7 @@ use Rattle.link_program.specs.link_plan.declared.plan.Plan.{Plan}
 use Rattle.link_program.specs.name_rules.Entries.{InputSymbol}
 use Rattle.link_program.specs.link_rules.Candidates.{candidates_of}
 use Rattle.link_program.specs.link_rules.Program.{Program, Part, program_of}
-use Rattle.link_program.specs.link_rules.Marks.{exported, is_exported_by, repeated_export, live, unresolved}
+use Rattle.link_program.specs.link_rules.Marks.{exported, is_exported_by, repeated_export, live, unresolved, uncalled}
 use Rattle.link_program.specs.link_rules.Keys.{numbers}
 use Rattle.link_program.specs.link_rules.Values.{rules_of, shapes}
 use Rattle.link_program.specs.link_rules.Output.{layout, image, source_windows}
@@ -31,7 +31,7 @@ use Rattle.link_layout.specs.Placed.{AnswersPlaced, IsPlaced}
 use Rattle.link_numbers.specs.Numbered.{TellsOverflow, IsNumbering}
 use Rattle.link_program.specs.image_emit.Measures.{LieIn}
 use Rattle.link_program.specs.image_emit.Pieces.{sources}
-use Rattle.link_program.specs.Live.{Stage, AreLive, AllMeant}
+use Rattle.link_program.specs.Live.{AreLive, AllMeant}
 use Rattle.link_program.specs.Program.{IsProgram}
 use Rattle.link_program.specs.Stand.{PartsStand}
 use Rattle.link_layout.specs.Layout.{IsLayout}
@@ -98,9 +98,18 @@ name_left_open p es e x is once stops = fails_by (exporting Plain p es) e x is (
     by (Refused f) stops = steps.left_open p es f stops
     by OutOfMemory stops = tt
 
-pub all_closed : (p : Program) (es : List InputSymbol) → repeated_export Plain p es ≡ None → unresolved p (live p es) ≡ None
+-- constructors would be lost
+pub ctors_lost : (p : Program) (es : List InputSymbol) (e x : LinkError) → x ≡ e → repeated_export Plain p es ≡ None → unresolved p (live p es) ≡ None → Stops e (uncalled Plain p (live p es))
+    → Fails x (exporting Plain p es)
+ctors_lost p es e x is once closed stops = fails_by (exporting Plain p es) e x is (subst (Fails e) (sym (steps.exports p es once)) (by e stops))
+  where
+    by : (e : LinkError) → Stops e (uncalled Plain p (live p es)) → Fails e (marked Plain p es)
+    by (Refused f) stops = steps.left_uncalled p es f closed stops
+    by OutOfMemory stops = tt
+
+pub all_closed : (p : Program) (es : List InputSymbol) → repeated_export Plain p es ≡ None → unresolved p (live p es) ≡ None → uncalled Plain p (live p es) ≡ None
     → exporting Plain p es ≡ laid_out Plain p es (live p es)
-all_closed p es once closed = steps.exports p es once ∙ steps.closed p es closed
+all_closed p es once closed called = steps.exports p es once ∙ steps.closed p es closed called
 
 pub choose_failed : (p : Program) (e x : LinkError) → x ≡ e → found_of p ≡ Ok p → Fails e (exporting Plain p (exported Plain p)) → Answers (Err x) (link_program Plain p)
 choose_failed p e x is found fails = goes_on_found p (Err x) found (fails_by (exporting Plain p (exported Plain p)) e x is fails)

@@ -18,10 +18,10 @@ use Rattle.link_program.specs.image_emit.Bytes.{bytes_of, tree_of}
 use Rattle.link_program.specs.image_emit.Filled.{tree_filled}
 use Rattle.link_program.specs.link_plan.declared.plan.Plan.{Plan}
 use Rattle.link_program.specs.name_rules.Entries.{InputSymbol}
-use Rattle.link_program.specs.name_rules.Cases.{clash, duplicate}
+use Rattle.link_program.specs.name_rules.Cases.{clash_by, duplicate}
 use Rattle.link_program.specs.link_rules.Candidates.{candidates_of}
 use Rattle.link_program.specs.link_rules.Program.{Program, Part, program_of}
-use Rattle.link_program.specs.link_rules.Marks.{exported, repeated_export, live, pic_fault, unresolved}
+use Rattle.link_program.specs.link_rules.Marks.{exported, repeated_export, live, pic_fault, unresolved, uncalled}
 use Rattle.link_program.specs.link_rules.Values.{Layout, rules_of, shapes}
 use Rattle.link_program.specs.link_rules.Output.{layout, image, source_windows}
 use Rattle.link_program.specs.link_rules.LinkOf.{asked_names, the_readers, too_many_names, exporting, marked, laid_out, written, memory_fault, table_fault, output_fault, reference_fault, length_fault, passed_fault, output_bytes, link_program, link_by, link_of}
@@ -64,7 +64,7 @@ loaded plan files all objects found given =
 abbrev names_of : Program → Result Program Fault
 names_of p = do
   p ← unless (too_many_names p) p
-  p ← unless (clash p.entries) p
+  p ← unless (clash_by p.plan.like_lld p.entries) p
   unless (duplicate p.entries) p
 
 module _ (p : Program) (b c : Program → Option Fault) (next : Program → Result (List ℕ) Fault) (r : Result Program Fault) where
@@ -82,11 +82,11 @@ module _ (p : Program) (b c : Program → Option Fault) (next : Program → Resu
 
 pub not_named : (p : Program) (f : Fault) → names_of p ≡ Err f → link_program Plain p ≡ Err f
 unfolding link_program
-not_named p f e = named_by p (λ p. clash p.entries) (λ p. duplicate p.entries) (λ p. exporting Plain p (exported Plain p)) (Err f) (too_many_names p) e
+not_named p f e = named_by p (λ p. clash_by p.plan.like_lld p.entries) (λ p. duplicate p.entries) (λ p. exporting Plain p (exported Plain p)) (Err f) (too_many_names p) e
 
 pub named : (p : Program) → names_of p ≡ Ok p → link_program Plain p ≡ exporting Plain p (exported Plain p)
 unfolding link_program
-named p e = named_by p (λ p. clash p.entries) (λ p. duplicate p.entries) (λ p. exporting Plain p (exported Plain p)) (Ok p) (too_many_names p) e
+named p e = named_by p (λ p. clash_by p.plan.like_lld p.entries) (λ p. duplicate p.entries) (λ p. exporting Plain p (exported Plain p)) (Ok p) (too_many_names p) e
 
 -- ---- exports and marks
 
@@ -100,17 +100,28 @@ no_pic : (parts : List Part) → pic_fault Plain parts ≡ None
 unfolding pic_fault
 no_pic parts = refl
 
+abbrev after_open : Program → List InputSymbol → List Part → Result (List ℕ) Fault
+after_open p es parts = unless (uncalled Plain p parts) parts >>= λ parts. laid_out Plain p es parts
+
 pub left_open : (p : Program) (es : List InputSymbol) (f : Fault) → unresolved p (live p es) ≡ Some f → marked Plain p es ≡ Err f
 unfolding marked
 left_open p es f e =
-    step (pic_fault Plain (live p es)) (live p es) (λ parts. unless (unresolved p parts) parts >>= λ parts. laid_out Plain p es parts) (no_pic (live p es))
-    ∙ stop (unresolved p (live p es)) (live p es) (λ parts. laid_out Plain p es parts) f e
+    step (pic_fault Plain (live p es)) (live p es) (λ parts. unless (unresolved p parts) parts >>= after_open p es) (no_pic (live p es))
+    ∙ stop (unresolved p (live p es)) (live p es) (after_open p es) f e
 
-pub closed : (p : Program) (es : List InputSymbol) → unresolved p (live p es) ≡ None → marked Plain p es ≡ laid_out Plain p es (live p es)
+pub left_uncalled : (p : Program) (es : List InputSymbol) (f : Fault) → unresolved p (live p es) ≡ None → uncalled Plain p (live p es) ≡ Some f → marked Plain p es ≡ Err f
 unfolding marked
-closed p es e =
-    step (pic_fault Plain (live p es)) (live p es) (λ parts. unless (unresolved p parts) parts >>= λ parts. laid_out Plain p es parts) (no_pic (live p es))
-    ∙ step (unresolved p (live p es)) (live p es) (λ parts. laid_out Plain p es parts) e
+left_uncalled p es f e u =
+    step (pic_fault Plain (live p es)) (live p es) (λ parts. unless (unresolved p parts) parts >>= after_open p es) (no_pic (live p es))
+    ∙ step (unresolved p (live p es)) (live p es) (after_open p es) e
+    ∙ stop (uncalled Plain p (live p es)) (live p es) (λ parts. laid_out Plain p es parts) f u
+
+pub closed : (p : Program) (es : List InputSymbol) → unresolved p (live p es) ≡ None → uncalled Plain p (live p es) ≡ None → marked Plain p es ≡ laid_out Plain p es (live p es)
+unfolding marked
+closed p es e u =
+    step (pic_fault Plain (live p es)) (live p es) (λ parts. unless (unresolved p parts) parts >>= after_open p es) (no_pic (live p es))
+    ∙ step (unresolved p (live p es)) (live p es) (after_open p es) e
+    ∙ step (uncalled Plain p (live p es)) (live p es) (λ parts. laid_out Plain p es parts) u
 
 -- ---- layout
 

@@ -8,6 +8,7 @@ ghost use Rattle.link_program.specs.link_rules.LinkOf.{link_of, link_program, la
 ghost use Rattle.link_layout.specs.Layout.{IsLayout};
 ghost use Rattle.link_program.specs.Loaded.{IsLoaded};
 ghost use Rattle.link_program.specs.Program.{IsProgram};
+ghost use Rattle.link_program.specs.name_entries.Fits.{Fits};
 ghost use Rattle.link_program.specs.Stand.{PartsStand};
 ghost use Rattle.link_program.specs.Live.{Stage};
 ghost use Rattle.link_core.specs.Answers.{Answers, IsShort};
@@ -32,6 +33,7 @@ use link_output::{measured, write};
 use link_plan::Plan;
 use link_program::{Entries, LinkError, Program, Winner};
 use link_runs::links_run;
+use lost_ctors::uncalled;
 use program_build::laws::parts_stand;
 use program_build::{Found, find};
 use std::alloc::Global;
@@ -134,7 +136,7 @@ fn prepare<R: Threads + Sync, G: Gate>(
     parts_stand();
     let program = found.program(plan, objects);
     let entries = found.view(objects);
-    let chosen = choose(rt, alloc, program, workers, gate)?;
+    let chosen = choose(rt, alloc, program, entries, workers, gate)?;
     let exports = chosen.exports.as_slice();
     let live = chosen.live.numbers.as_slice();
     let prepared = lay_out(rt, alloc, program, entries, files, exports, live, workers);
@@ -148,11 +150,14 @@ fn choose<R: Threads + Sync, G: Gate>(
     rt: &R,
     alloc: Global,
     program: Program<'_>,
+    entries: Entries<'_>,
     workers: Workers,
     gate: &G,
 ) -> Result<Chosen, LinkError>
     ghost p: { rules.Program }
     requires program { IsProgram modes.Plain program p }
+    requires fits { Fits modes.Plain entries }
+    requires objects { entries.objects.now ≡ program.objects.now }
     requires stand { PartsStand p }
     ensures { Chooses result program.entry p }
 {
@@ -160,6 +165,7 @@ fn choose<R: Threads + Sync, G: Gate>(
     repeated_export(alloc, program, exports.as_slice())?;
     let live = live_parts(rt, alloc, program, exports.as_slice(), workers, gate)?;
     unresolved(rt, alloc, program, &live, workers)?;
+    uncalled(alloc, program, entries, &live)?;
     all_are_meant();
     Ok(Chosen { exports, live })
 }

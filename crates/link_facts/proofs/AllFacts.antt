@@ -22,21 +22,23 @@ use Rattle.made_symbols.specs.declared.mode.Mode.TheVariants.{Plain}
 use Rattle.mark_bits.specs.declared.chunk.Chunk.{Chunk}
 use Rattle.name_rules.specs.Entries.{InputSymbol, is_kind, entry_in, entries, in_kept_part, index_in}
 use Rattle.name_rules.specs.Meanings.{Resolved, resolved_in, no_uses}
-use Rattle.name_rules.specs.Cases.{clash}
-use Rattle.link_rules.specs.Program.{Program, program_of, Part, Ref, parts_of, made_parts_from, init_calls, segment_part, chunk_at, span_in}
+use Rattle.name_rules.specs.Cases.{clash_by}
+use Rattle.link_rules.specs.Program.{Program, strict_program, program_of, Part, Ref, parts_of, made_parts_from, init_calls, segment_part, chunk_at, span_in}
 use Rattle.link_rules.specs.Marks.{exported}
 use Rattle.link_rules.specs.Keys.{is_function_at}
 use Rattle.link_program.specs.declared.home.Home.{Home}
-use Rattle.program_build.specs.Standing.{LoadedPartsStand}
+use Rattle.link_program.specs.Stand.{PartStandsBy, PartStands, IsSymbolOf}
+use Rattle.program_build.specs.Standing.{StrictPartsStand, LoadedPartsStand}
 use Rattle.link_worlds.specs.Sound.{IsGlobalPart}
 use Rattle.output_module.specs.Outputs.{IsCoded}
 use Rattle.link_facts.specs.Loaded.{AreLoaded, ProgramsAreSound}
 use Rattle.link_facts.proofs.Symbols.{entry_known, OfObject, Known}
 use Rattle.link_facts.proofs.Parts.{Stood, as_function, as_segment, as_global, stood, one_function, made_behind, made_by_input, object_by_input, made_or_object}
-use Rattle.link_facts.proofs.SoundPrograms.{meant_known, export_is, made_calls, parts_are}
+use Rattle.link_facts.proofs.SoundPrograms.{meant_known, names_symbol, export_is, made_calls, parts_are}
 use Rattle.link_facts.specs.Facts.{AreRead, Facts, FactsHold, IsReading, bytes_of}
 use Rattle.link_facts.proofs.Coded.{coded_at}
 use Rattle.link_facts.proofs.Reading.{reading_at}
+use Rattle.link_facts.proofs.Loosened.{loose_facts}
 
 abbrev pub SoundLaw : Type 0
 SoundLaw = (input : ℕ) (bytes : List ℕ) (object : Object) → IsObject input bytes object → ObjectSound (length bytes) object
@@ -47,11 +49,11 @@ BodiesLaw = (input : ℕ) (bytes : List ℕ) (object : Object) → IsObject inpu
 abbrev pub AddressesLaw : Type 0
 AddressesLaw = (input : ℕ) (bytes : List ℕ) (object : Object) → IsObject input bytes object → All (ReadsAddresses bytes object) object.functions
 
-module _ (sound_law : SoundLaw) (bodies_law : BodiesLaw) (addresses_law : AddressesLaw) (stand_law : LoadedPartsStand) (program_law : ProgramsAreSound)
+module _ (sound_law : SoundLaw) (bodies_law : BodiesLaw) (addresses_law : AddressesLaw) (stand_law : StrictPartsStand) (program_law : ProgramsAreSound)
     (plan : Plan) (files : List (List ℕ)) (all : List Candidate) (objects : List Object) (homes : List Home) (read : AreRead files all objects homes)
-    (clear : clash (entries Plain objects) ≡ None) where
+    (clear : clash_by plan.like_lld (entries Plain objects) ≡ None) where
   abbrev p : Program
-  p = program_of Plain plan files all objects
+  p = strict_program Plain plan files all objects
 
   abbrev res : Object → Resolved
   res o = resolved_in Plain no_uses plan.allow_undefined (entries Plain objects) objects o
@@ -88,7 +90,6 @@ module _ (sound_law : SoundLaw) (bodies_law : BodiesLaw) (addresses_law : Addres
   -- ---- functions, calls, constants
 
   coded_in : (o : Object) → Has objects o → (part : Part) → part.chunk.kind ≡ 0 → Stood all objects (res o) part → IsCoded p part
-  unfolding program_of
   coded_in o ho part z (as_function k f at e) =
       let from = read.each o ho in
       subst (IsCoded p) (sym e)
@@ -101,7 +102,6 @@ module _ (sound_law : SoundLaw) (bodies_law : BodiesLaw) (addresses_law : Addres
   coded part h z n = let s = in_object part h n in coded_in s.object s.there part z s.stands
 
   reading_in : (o : Object) → Has objects o → (part : Part) → part.chunk.kind ≡ 0 → Stood all objects (res o) part → IsReading p part
-  unfolding program_of
   reading_in o ho part z (as_function k f at e) =
       let from = read.each o ho in
       subst (IsReading p) (sym e)
@@ -173,14 +173,21 @@ module _ (sound_law : SoundLaw) (bodies_law : BodiesLaw) (addresses_law : Addres
   inside e (inr x, d) t n part h c =
       inside_by e x d t part c (of_object x.object x.there part h (ap (λ (y : Chunk). y.input) c ∙ ap (λ (w : InputSymbol). w.input) x.symbol.is))
 
-  facts : clash p.entries ≡ None → Facts p (exported Plain p)
-  facts clear' =
-      let s = program_law plan files all objects loaded clear' in
+  meant : All (PartStandsBy p (λ ref. IsSymbolOf p.resolved ref.entry ref.meaning)) p.parts
+  meant = stand_law Plain plan files all objects homes read.loaded
+
+  -- the same by the wider word
+  wider : (part : Part) → PartStandsBy p (λ ref. IsSymbolOf p.resolved ref.entry ref.meaning) part → PartStands p part
+  wider part s = record { source = s.source; windows = s.windows; align = s.align; refs = λ k d below. inl (s.refs k d below) }
+
+  facts : Facts p (exported Plain p)
+  facts =
+      let s = program_law plan files all objects loaded clear in
       record {
         sound = s.0;
         exported = s.1;
         measured = record {
-          stand = stand_law Plain plan files all objects homes read.loaded;
+          stand = λ k d below. wider _ (meant k d below);
           inside = λ e m t n part h c. inside e (⊎_elim (λ a. meant_known plan files all objects loaded clear e a) (λ b. let x = export_is plan files all objects loaded clear e b in (entry_known objects e x.0, x.1)) m) t n part h c;
         };
         coded = coded;
@@ -190,6 +197,9 @@ module _ (sound_law : SoundLaw) (bodies_law : BodiesLaw) (addresses_law : Addres
         constants = λ part h z n. let s = in_object part h n in constant_in s.object s.there part z s.stands;
       }
 
-pub all_facts : ProgramsAreSound → SoundLaw → BodiesLaw → AddressesLaw → LoadedPartsStand → FactsHold
-unfolding program_of
-all_facts program_law sound_law bodies_law addresses_law stand_law plan files all objects homes read clear = facts sound_law bodies_law addresses_law stand_law program_law plan files all objects homes read clear clear
+pub all_facts : ProgramsAreSound → SoundLaw → BodiesLaw → AddressesLaw → StrictPartsStand → LoadedPartsStand → FactsHold
+unfolding program_of exported
+all_facts program_law sound_law bodies_law addresses_law strict_law stand_law plan files all objects homes read clear =
+    let p = strict_program Plain plan files all objects in
+    loose_facts p refl (names_symbol plan files all objects (loaded sound_law bodies_law addresses_law strict_law program_law plan files all objects homes read clear) clear) (exported Plain p) (stand_law Plain plan files all objects homes read.loaded)
+    (facts sound_law bodies_law addresses_law strict_law program_law plan files all objects homes read clear)

@@ -10,6 +10,7 @@ pub mod SoundPrograms
 mod Bytes
 mod Coded
 mod Reading
+pub mod Loosened
 mod AllFacts
 pub mod Steps
 pub mod Loads

@@ -1,17 +1,18 @@
 -- What symbols mean.
-use Rattle.std.proofs.Common.{◌≡◌, ℕ, List, [], ◌∷◌, map, Option, Some, None, Bool, true, false, refl, sym, ap, ◌∙◌, subst, inl, inr, arith}
+use Rattle.std.proofs.Common.{◌≡◌, ℕ, List, [], ◌∷◌, ◌++◌, map, Option, Some, None, Bool, true, false, refl, sym, ap, ◌∙◌, subst, inl, inr, arith}
 use Rattle.std.specs.Prelude.{◌⊎◌, ◌&&◌, ◌||◌, not, nat_lt, filter, find, cond, unwrap_or, option_map, option_and_then}
 use Rattle.std.proofs.lemmas.Bool.{and_parts, eqb-true, not-false}
 use Rattle.list_places.specs.Has.{Has}
-use Rattle.list_places.proofs.Lists.{has_filter, find_has}
+use Rattle.list_places.proofs.Lists.{has_filter, has_right, find_has}
 use Rattle.wl_base.specs.Choice.{first_some, given}
+use Rattle.wl_base.specs.declared.fault.Fault.{Fault}
 use Rattle.linking_section.specs.declared.symbol.SymbolKind.{SymbolKind}
 use Rattle.linking_section.specs.declared.symbol.SymbolKind.TheVariants.{Function, Datum, GlobalVar, Section, Table}
 use Rattle.linking_section.specs.Flags.{kind_code, is_explicit}
 use Rattle.made_symbols.specs.declared.mode.Mode.TheVariants.{Plain}
 use Rattle.name_rules.specs.Entries.{InputSymbol, ImportKey, is_kind, is_entry, name_of, named, is_named, same_symbol_type}
 use Rattle.name_rules.specs.Meanings.{Meaning, here, imported, null, nothing, lesser, least, definitions, references, least_import, may_import, may_be_null, where_given, by_rules, own_meaning, meaning, no_uses, winner, entry_rank}
-use Rattle.name_rules.specs.Cases.{clash, clash_of, clashes, clashes_with, first_entry, passes, differ, explicit_import}
+use Rattle.name_rules.specs.Cases.{clash, loose_clash, clash_by, clash_of, clash_beside, clashes_with, other_import, broken, judge, breaks, may_differ, first_entry, passes, differ, explicit_import}
 use Rattle.link_worlds.proofs.Keys.{bytes_equal}
 
 -- ---- the least of a list is in it
@@ -133,17 +134,29 @@ or_false : (a b : Bool) → a || b ≡ false → a ≡ false
 or_false true b h = absurd (grind arith)
 or_false false b h = refl
 
-no_first : (all : List InputSymbol) (x : InputSymbol) (o : Option InputSymbol) → first_entry all (name_of x) ≡ o → passes (λ a. clashes_with a x) o ≡ true → option_map (clash_of x) o ≡ None → ⊥
-no_first all x None e t n = absurd (grind arith)
-no_first all x (Some a) e t n = absurd (grind arith)
+-- where no entry fails a test beside the one that is looked up for its name
+module _ (test : InputSymbol → InputSymbol → Bool) (beside : List ℕ → Option InputSymbol) where
+  no_first : (x : InputSymbol) (o : Option InputSymbol) → beside (name_of x) ≡ o → passes (λ a. test a x) o ≡ true → option_map (clash_of x) o ≡ None → ⊥
+  no_first x None e t n = absurd (grind arith)
+  no_first x (Some a) e t n = absurd (grind arith)
 
-found_clash : (all : List InputSymbol) (e : InputSymbol) (o : Option InputSymbol) → find (clashes all) all ≡ o → option_and_then (λ x. option_map (clash_of x) (first_entry all (name_of x))) o ≡ None → Has all e → clashes all e ≡ false
-found_clash all e None q n h = find_none (clashes all) all e q h
-found_clash all e (Some x) q n h = absurd (no_first all x (first_entry all (name_of x)) refl (find_has (clashes all) all x q).1 n)
+  found_clash : (all : List InputSymbol) (e : InputSymbol) (o : Option InputSymbol) → find (λ e. passes (λ a. test a e) (beside (name_of e))) all ≡ o
+      → option_and_then (λ x. option_map (clash_of x) (beside (name_of x))) o ≡ None → Has all e → passes (λ a. test a e) (beside (name_of e)) ≡ false
+  found_clash all e None q n h = find_none (λ e. passes (λ a. test a e) (beside (name_of e))) all e q h
+  found_clash all e (Some x) q n h = absurd (no_first x (beside (name_of x)) refl (find_has (λ e. passes (λ a. test a e) (beside (name_of e))) all x q).1 n)
 
-no_clash : (all : List InputSymbol) (e : InputSymbol) → clash all ≡ None → Has all e → clashes all e ≡ false
-unfolding clash
-no_clash all e n h = found_clash all e (find (clashes all) all) refl n h
+  module _ (kind : (a e : InputSymbol) → test a e ≡ false → a.symbol.kind ≡ e.symbol.kind) where
+    kinds : (all : List InputSymbol) (d e : InputSymbol) → clash_beside test beside all ≡ None → (beside (name_of e) ≡ None → ⊥) → Has all e → Has (named all (name_of e)) d → d.symbol.kind ≡ e.symbol.kind
+    kinds all d e n some he hd =
+        let f = has_filter (is_named (name_of e)) all d hd in
+        let same : name_of d ≡ name_of e = bytes_equal (name_of d) (name_of e) f.1 in
+        let a = found_clash all e (find (λ e. passes (λ a. test a e) (beside (name_of e))) all) refl n he in
+        let b = subst (λ m. passes (λ a. test a d) (beside m) ≡ false) same (found_clash all d (find (λ e. passes (λ a. test a e) (beside (name_of e))) all) refl n f.0) in
+        by_first (beside (name_of e)) refl a b
+      where
+        by_first : (o : Option InputSymbol) → beside (name_of e) ≡ o → passes (λ a. test a e) o ≡ false → passes (λ a. test a d) o ≡ false → d.symbol.kind ≡ e.symbol.kind
+        by_first None q a b = absurd (some q)
+        by_first (Some x) q a b = sym (kind x d b) ∙ kind x e a
 
 same_kind : (a e : InputSymbol) → clashes_with a e ≡ false → a.symbol.kind ≡ e.symbol.kind
 same_kind a e h =
@@ -151,13 +164,28 @@ same_kind a e h =
     let r = and_parts (is_kind a.symbol.kind e) (same_symbol_type a.type e.type) (not-false (is_kind a.symbol.kind e && same_symbol_type a.type e.type) q) in
     sym (code_kind e.symbol.kind a.symbol.kind (eqb-true (kind_code e.symbol.kind) (kind_code a.symbol.kind) r.0))
 
+unbroken_kind : (a e : InputSymbol) → breaks a e ≡ false → a.symbol.kind ≡ e.symbol.kind
+unbroken_kind a e h =
+    let r = and_parts (is_kind a.symbol.kind e) (may_differ a e || same_symbol_type a.type e.type) (not-false (is_kind a.symbol.kind e && (may_differ a e || same_symbol_type a.type e.type)) h) in
+    sym (code_kind e.symbol.kind a.symbol.kind (eqb-true (kind_code e.symbol.kind) (kind_code a.symbol.kind) r.0))
+
+some_named : (all : List InputSymbol) (d : InputSymbol) (name : List ℕ) → Has (named all name) d → first_entry all name ≡ None → ⊥
+some_named all d name hd none =
+    let f = has_filter (is_named name) all d hd in
+    absurd (let z = find_none (is_named name) all d none f.0 in let t = f.1 in grind arith)
+
+some_judge : (all : List InputSymbol) (d : InputSymbol) (name : List ℕ) → Has (named all name) d → judge all name ≡ None → ⊥
+some_judge all d name hd none =
+    let f = has_filter (is_named name) all d hd in
+    absurd (let z = find_none (is_named name) (filter (λ (e : InputSymbol). e.defines) all ++ all) d none (has_right (filter (λ (e : InputSymbol). e.defines) all) all d f.0) in let t = f.1 in grind arith)
+
+last_none : (a b : Option Fault) → first_some (a ∷ b ∷ []) ≡ None → b ≡ None
+last_none (Some x) b h = absurd (grind arith)
+last_none None (Some y) h = absurd (grind arith)
+last_none None None h = refl
+
 -- entries of a name have one kind
-pub one_kind : (all : List InputSymbol) (d e : InputSymbol) → clash all ≡ None → Has all e → Has (named all (name_of e)) d → d.symbol.kind ≡ e.symbol.kind
-one_kind all d e n he hd =
-    let f = has_filter (is_named (name_of e)) all d hd in
-    let same : name_of d ≡ name_of e = bytes_equal (name_of d) (name_of e) f.1 in
-    by_first (first_entry all (name_of e)) refl (no_clash all e n he) (subst (λ m. passes (λ a. clashes_with a d) (first_entry all m) ≡ false) same (no_clash all d n f.0)) f.0 f.1
-  where
-    by_first : (o : Option InputSymbol) → first_entry all (name_of e) ≡ o → passes (λ a. clashes_with a e) o ≡ false → passes (λ a. clashes_with a d) o ≡ false → Has all d → is_named (name_of e) d ≡ true → d.symbol.kind ≡ e.symbol.kind
-    by_first None q a b hd t = absurd (let z = find_none (is_named (name_of e)) all d q hd in grind arith)
-    by_first (Some x) q a b hd t = sym (same_kind x d b) ∙ same_kind x e a
+pub one_kind : (like_lld : Bool) (all : List InputSymbol) (d e : InputSymbol) → clash_by like_lld all ≡ None → Has all e → Has (named all (name_of e)) d → d.symbol.kind ≡ e.symbol.kind
+unfolding clash loose_clash
+one_kind false all d e n he hd = kinds clashes_with (first_entry all) same_kind all d e n (some_named all d (name_of e) hd) he hd
+one_kind true all d e n he hd = kinds breaks (judge all) unbroken_kind all d e (last_none (other_import all) (broken all) n) (some_judge all d (name_of e) hd) he hd

@@ -1,10 +1,11 @@
 -- The program of loaded objects is sound.
 use Rattle.std.proofs.Common.{◌≡◌, ℕ, List, [], map, Option, Some, None, Bool, true, false, refl, sym, ap, ◌∙◌, subst, inl, inr, ⊎_elim, arith}
-use Rattle.std.specs.Prelude.{◌==◌, ◌&&◌, ◌||◌, filter_map, flat_map, cond, option_map}
+use Rattle.std.specs.Prelude.{◌==◌, ◌&&◌, ◌||◌, filter_map, flat_map, cond, option_map, slice_get}
 use Rattle.std.specs.List.{All}
 use Rattle.std.proofs.lemmas.Bool.{eqb-true}
+use Rattle.std.proofs.lemmas.Option.{slice_get-map}
 use Rattle.list_places.specs.Has.{Has, Apart}
-use Rattle.list_places.proofs.Lists.{has_at, has_filter, has_flat, flat_has, map_has, has_map, has_pick, pick_has, some_is, all_has}
+use Rattle.list_places.proofs.Lists.{has_at, at_has, has_left, has_filter, has_flat, flat_has, map_has, has_map, has_pick, pick_has, some_is, all_has}
 use Rattle.wl_base.specs.Choice.{distinct}
 use Rattle.linking_section.specs.declared.symbol.Symbol.{Symbol}
 use Rattle.linking_section.specs.declared.symbol.SymbolKind.{SymbolKind}
@@ -20,10 +21,11 @@ use Rattle.made_symbols.specs.declared.mode.Mode.TheVariants.{Plain}
 use Rattle.mark_bits.specs.declared.chunk.Chunk.{Chunk}
 use Rattle.name_rules.specs.Entries.{InputSymbol, ImportKey, is_kind, is_entry, name_of, named, symbols_of, entries, type_in, import_in, key_of, is_named, same_import}
 use Rattle.name_rules.specs.Meanings.{Meaning, here, imported, null, nothing, Resolved, resolved_in, resolve, meaning, no_uses, may_be_null, winner}
-use Rattle.name_rules.specs.Cases.{clash}
-use Rattle.link_rules.specs.Program.{Program, program_of, Part, Ref, refs, a_symbol, function_part, segment_part, parts_of, operand_named, window_named, init_calls, init_calls_in, chunk_of, winners_of, is_winner, is_that}
+use Rattle.name_rules.specs.Cases.{clash_by}
+use Rattle.link_rules.specs.Program.{Program, strict_program, Part, Ref, refs, a_symbol, function_part, segment_part, parts_of, operand_named, window_named, init_calls, init_calls_in, chunk_of, winners_of, is_winner, is_that}
 use Rattle.link_rules.specs.Marks.{refs_of, exported, is_exported_by}
 use Rattle.link_rules.specs.Keys.{imports_in_order, import_of, is_function_type, is_global_type}
+use Rattle.link_program.specs.Stand.{IsSymbolOf}
 use Rattle.link_worlds.specs.Sound.{Sound, SoundRef, SoundMeaning, SoundHere, SoundExports, PartOf, same_part, meant_entry, meant_entries}
 use Rattle.link_worlds.proofs.Keys.{import_equal, imports_same}
 use Rattle.link_worlds.proofs.Refs.{distinct_has}
@@ -38,9 +40,9 @@ import_some f None y h = absurd (grind arith)
 import_some f (Some x) y h = (x, some_is (f x) y h)
 
 module _ (plan : Plan) (files : List (List ℕ)) (all : List Candidate) (objects : List Object) (loaded : AreLoaded objects)
-    (clear : clash (entries Plain objects) ≡ None) where
+    (clear : clash_by plan.like_lld (entries Plain objects) ≡ None) where
   abbrev p : Program
-  p = program_of Plain plan files all objects
+  p = strict_program Plain plan files all objects
 
   abbrev es : List InputSymbol
   es = entries Plain objects
@@ -55,15 +57,14 @@ module _ (plan : Plan) (files : List (List ℕ)) (all : List Candidate) (objects
   parts = parts_of Plain all objects rs
 
   resolved_is : p.resolved ≡ rs
-  unfolding program_of resolve
+  unfolding resolve
   resolved_is = refl
 
   pub parts_are : p.parts ≡ parts
-  unfolding program_of resolve
+  unfolding resolve
   parts_are = refl
 
   entries_are : p.entries ≡ es
-  unfolding program_of
   entries_are = refl
 
   -- ---- definitions
@@ -136,7 +137,7 @@ module _ (plan : Plan) (files : List (List ℕ)) (all : List Candidate) (objects
         no code b z h = grind arith
 
     pub meant : (m : Meaning) → meaning Plain no_uses plan.allow_undefined es ref.entry ≡ m → Means es ref.entry m → SoundMeaning p ref m
-    meant (here d) q (inl x) = let h = in_all d x.1.0 in definition d (entry_known objects d h) x.1.1 (one_kind es d ref.entry clear (listed x.0) x.1.0)
+    meant (here d) q (inl x) = let h = in_all d x.1.0 in definition d (entry_known objects d h) x.1.1 (one_kind plan.like_lld es d ref.entry clear (listed x.0) x.1.0)
     meant (here d) q (inr (inl x)) = let z : d ≡ ref.entry = here_is d ref.entry x.0 in definition d (subst (Known objects) (sym z) entry_is_known) (ap (λ (w : InputSymbol). w.defines) z ∙ x.1) (ap (λ (w : InputSymbol). w.symbol.kind) z)
       where
         here_is : (a b : InputSymbol) → here a ≡ here b → a ≡ b
@@ -144,14 +145,14 @@ module _ (plan : Plan) (files : List (List ℕ)) (all : List Candidate) (objects
     meant (here d) q (inr (inr x)) = absurd (grind arith)
     meant (imported k) q (inl x) =
         let r = x.1.0 in
-        let same = one_kind es r ref.entry clear (listed x.0) x.1.1 in
+        let same = one_kind plan.like_lld es r ref.entry clear (listed x.0) x.1.1 in
         let t = import_type r (entry_known objects r (in_all r x.1.1)) k x.1.2 ref.entry.symbol.kind same in
         record { listed = meaning_listed o ho ref.entry k n.is.listed q; function = λ z. t.0 (is_call z); global = λ z g. t.1 (is_global g) }
     meant (imported k) q (inr (inl x)) = absurd (let z = x.0 in grind arith)
     meant (imported k) q (inr (inr x)) = absurd (grind arith)
     meant null q (inl x) = record {
       entry = ref.entry;
-      listed = subst (λ xs. Has xs ref.entry) (sym entries_are) (listed x.0);
+      listed = has_left p.entries p.variants ref.entry (subst (λ xs. Has xs ref.entry) (sym entries_are) (listed x.0));
       name = refl;
       function = λ z. ap (λ k. kind_code k == kind_code Function) (is_call z);
       global = null_no_global x.1;
@@ -162,7 +163,7 @@ module _ (plan : Plan) (files : List (List ℕ)) (all : List Candidate) (objects
 
     pub sound_ref : (part : Part) → (ref.kind ≡ 7 → part.chunk.kind ≡ 0) → SoundRef p part ref
     sound_ref part code = record {
-      known = subst (λ ws. Has (flat_map (λ (r : Resolved). r.symbols) ws) ref.entry) (sym resolved_is) (flat_has (λ (r : Resolved). r.symbols) rs (res o) ref.entry (map_has res objects o ho) n.is.listed);
+      known = λ m. subst (λ ws. Has (flat_map (λ (r : Resolved). r.symbols) ws) ref.entry) (sym resolved_is) (flat_has (λ (r : Resolved). r.symbols) rs (res o) ref.entry (map_has res objects o ho) n.is.listed);
       code = code;
       meant = subst (SoundMeaning p ref) (sym n.is.meant) (meant (meaning Plain no_uses plan.allow_undefined es ref.entry) refl (means plan.allow_undefined es ref.entry));
     }
@@ -230,6 +231,21 @@ module _ (plan : Plan) (files : List (List ℕ)) (all : List Candidate) (objects
       ⊎_elim (λ m. in_made part ref m r) (λ b. in_object b.0 b.1 part ref (stood all objects (res b.0) part b.2) r)
       (made_or_object all objects res (λ o. refl) (init_calls rs) part (subst (λ xs. Has xs part) parts_are h))
 
+  -- a reference names a symbol of an object, with its meaning
+  pub names_symbol : (part : Part) (ref : Ref) → Has p.parts part → Has (refs part) ref → IsSymbolOf p.resolved ref.entry ref.meaning
+  names_symbol part ref h r =
+      let s = stands_ref part ref h r in
+      let mean = meaning Plain no_uses plan.allow_undefined es in
+      let i = at_has rs (res s.object) (map_has res objects s.object s.there) in
+      let k = at_has (symbols_of objects s.object) ref.entry s.names.is.listed in (
+        i.0,
+        k.0,
+        res s.object,
+        ap (λ ws. slice_get ws i.0) resolved_is ∙ i.1,
+        k.1,
+        slice_get-map mean (symbols_of objects s.object) k.0 ∙ ap (option_map mean) k.1 ∙ ap (λ m. Some m) (sym s.names.is.meant),
+      )
+
   pub meant_known : (e : InputSymbol) → Has (meant_entries p) e → Known objects e × (e.defines ≡ true)
   meant_known e h =
       let q = has_pick (λ (ref : Ref). meant_entry ref.meaning) (refs_of p.parts) e h in
@@ -259,7 +275,6 @@ module _ (plan : Plan) (files : List (List ℕ)) (all : List Candidate) (objects
           ap (λ (x : InputSymbol). x.defines) same ∙ z.1
 
   winners_are : p.winners ≡ winners_of es
-  unfolding program_of
   winners_are = refl
 
   pub export_is : (e : InputSymbol) → Has (exported Plain p) e → Has es e × (e.defines ≡ true)
@@ -276,5 +291,4 @@ module _ (plan : Plan) (files : List (List ℕ)) (all : List Candidate) (objects
   both = (sound, sound_exports)
 
 pub all_sound : ProgramsAreSound
-unfolding program_of
 all_sound plan files all objects loaded clear = both plan files all objects loaded clear

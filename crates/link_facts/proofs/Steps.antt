@@ -7,10 +7,10 @@ use Rattle.round_rules.specs.Rounds.{Candidate, load}
 use Rattle.link_plan.specs.declared.plan.Plan.{Plan}
 use Rattle.made_symbols.specs.declared.mode.Mode.TheVariants.{Plain}
 use Rattle.name_rules.specs.Entries.{InputSymbol}
-use Rattle.name_rules.specs.Cases.{clash, duplicate}
+use Rattle.name_rules.specs.Cases.{clash_by, duplicate}
 use Rattle.link_rules.specs.Candidates.{candidates_of}
 use Rattle.link_rules.specs.Program.{Program, program_of}
-use Rattle.link_rules.specs.Marks.{live, exported, repeated_export, pic_fault, unresolved}
+use Rattle.link_rules.specs.Marks.{live, exported, repeated_export, pic_fault, unresolved, uncalled}
 use Rattle.link_rules.specs.Output.{image, source_windows}
 use Rattle.link_rules.specs.LinkOf.{asked_names, the_readers, link_of, link_by, link_program, marked, laid_out, written, output_bytes, too_many_names, memory_fault, table_fault, output_fault, reference_fault}
 use Rattle.link_worlds.specs.Worlds.{layout_of}
@@ -57,14 +57,15 @@ module _ (p : Program) (exports : List InputSymbol) (bytes : List ℕ) where
   is_marked e =
       let a = guard (pic_fault Plain (live p exports)) (live p exports) _ bytes e in
       let b = guard (unresolved p (live p exports)) (live p exports) _ bytes a.1 in
-      let l = is_laid b.1 in
+      let u = guard (uncalled Plain p (live p exports)) (live p exports) _ bytes b.1 in
+      let l = is_laid u.1 in
       (record { resolved = b.0; memory = l.memory; table = l.table; references = l.rest.references }, l.rest.is, l.rest.output)
 
-pub is_linked : (p : Program) (bytes : List ℕ) → link_program Plain p ≡ Ok bytes → (clash p.entries ≡ None) × (marked Plain p (exported Plain p) ≡ Ok bytes)
+pub is_linked : (p : Program) (bytes : List ℕ) → link_program Plain p ≡ Ok bytes → (clash_by p.plan.like_lld p.entries ≡ None) × (marked Plain p (exported Plain p) ≡ Ok bytes)
 unfolding link_program
 is_linked p bytes e =
     let a = guard (too_many_names p) p _ bytes e in
-    let b = guard (clash p.entries) p _ bytes a.1 in
+    let b = guard (clash_by p.plan.like_lld p.entries) p _ bytes a.1 in
     let c = guard (duplicate p.entries) p _ bytes b.1 in
     let d = guard (repeated_export Plain p (exported Plain p)) (exported Plain p) _ bytes c.1 in
     (b.0, d.1)

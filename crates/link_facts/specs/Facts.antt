@@ -11,7 +11,7 @@ use Rattle.made_symbols.specs.declared.mode.Mode.TheVariants.{Plain}
 use Rattle.round_rules.specs.Rounds.{Candidate}
 use Rattle.link_plan.specs.declared.plan.Plan.{Plan}
 use Rattle.name_rules.specs.Entries.{InputSymbol}
-use Rattle.name_rules.specs.Cases.{clash}
+use Rattle.name_rules.specs.Cases.{clash_by}
 use Rattle.link_rules.specs.Program.{Program, program_of, Part, Ref, refs}
 use Rattle.link_rules.specs.Marks.{exported}
 use Rattle.link_rules.specs.Keys.{is_function_at}
@@ -58,5 +58,5 @@ pub record Facts (p : Program) (exports : List InputSymbol) : Type 0 where
 
 abbrev pub FactsHold : Type 0
 FactsHold = (plan : Plan) (files : List (List ℕ)) (all : List Candidate) (objects : List Object) (homes : List Home) → AreRead files all objects homes
-    → clash (program_of Plain plan files all objects).entries ≡ None
+    → clash_by plan.like_lld (program_of Plain plan files all objects).entries ≡ None
     → Facts (program_of Plain plan files all objects) (exported Plain (program_of Plain plan files all objects))

@@ -6,9 +6,10 @@ use Rattle.object_file.specs.Sound.{Sound as ObjectSound}
 use Rattle.made_symbols.specs.declared.mode.Mode.TheVariants.{Plain}
 use Rattle.round_rules.specs.Rounds.{Candidate}
 use Rattle.name_entries.specs.View.{InputsRise}
-use Rattle.name_rules.specs.Cases.{clash}
+use Rattle.name_rules.specs.Entries.{entries}
+use Rattle.name_rules.specs.Cases.{clash_by}
 use Rattle.link_plan.specs.declared.plan.Plan.{Plan}
-use Rattle.link_rules.specs.Program.{program_of}
+use Rattle.link_rules.specs.Program.{strict_program}
 use Rattle.link_rules.specs.Marks.{exported}
 use Rattle.link_worlds.specs.Sound.{Sound, SoundExports}
 
@@ -17,8 +18,8 @@ pub record AreLoaded (objects : List Object) : Type 0 where
   pub rise : InputsRise 0 objects
   pub each : (o : Object) → Has objects o → (size : ℕ) × ObjectSound size o
 
--- Where no names clash, references and exports name what is there.
+-- Where no names clash, references and exports name what is there, before calls are loosened.
 abbrev pub ProgramsAreSound : Type 0
 ProgramsAreSound = (plan : Plan) (files : List (List ℕ)) (all : List Candidate) (objects : List Object) → AreLoaded objects
-    → clash (program_of Plain plan files all objects).entries ≡ None
-    → Sound (program_of Plain plan files all objects) × SoundExports (program_of Plain plan files all objects) (exported Plain (program_of Plain plan files all objects))
+    → clash_by plan.like_lld (entries Plain objects) ≡ None
+    → (let p = strict_program Plain plan files all objects in Sound p × SoundExports p (exported Plain p))

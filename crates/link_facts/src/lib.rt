@@ -30,5 +30,6 @@ pub fn facts_hold()
     object_file::read_objects_are_sound();
     object_file::operands_stand_on_immediates();
     object_file::addresses_are_only_read();
+    program_build::laws::strict_parts_stand();
     program_build::laws::parts_stand();
 }

@@ -1,7 +1,8 @@
 -- What references of live parts name is known: imports, and the names of null functions.
-use Rattle.std.proofs.Common.{◌≡◌, ℕ, ◌<◌, Bool, true, false, ◌&&◌, ◌||◌, ◌+◌, nat_lt, unwrap_or, List, [], ◌∷◌, ◌++◌, map, filter, filter_map, flat_map, length, slice_get, Option, Some, None, option_map, refl, sym, ap, subst, ◌∙◌, arith}
+use Rattle.std.proofs.Common.{◌≡◌, ℕ, Bool, true, false, ◌&&◌, ◌||◌, ◌+◌, nat_lt, unwrap_or, List, [], ◌∷◌, ◌++◌, map, filter, filter_map, flat_map, slice_get, Option, Some, None, option_map, refl, sym, ap, subst, ◌∙◌, inl, inr, arith, get_or}
 use Rattle.std.specs.Prelude.{bytes_eq, if◌then◌else◌}
 use Rattle.std.specs.List.{list_any, All}
+use Rattle.std.proofs.lemmas.List.{map-append}
 use Rattle.std.proofs.lemmas.List.Elements.{All-append}
 use Rattle.std.proofs.lemmas.List.Folds.{list_any-append}
 use Rattle.std.proofs.lemmas.Option.{slice_get-map}
@@ -12,14 +13,15 @@ use Rattle.link_program.specs.made_symbols.Made.{made, MadeSymbol}
 use Rattle.link_program.specs.name_rules.Entries.{InputSymbol, ImportKey, same_import, is_entry, name_of, symbols_of, entries, is_named, made_entry, made_from}
 use Rattle.link_program.specs.name_rules.Meanings.{Meaning, here, imported, null, nothing, Resolved, resolve, resolved_in, no_uses, meaning, own_meaning, by_rules, least, lesser, entry_rank, is_nothing}
 use Rattle.link_program.specs.link_rules.Program as rules
-use Rattle.link_program.specs.link_rules.Program.{Ref, refs}
+use Rattle.link_program.specs.link_rules.Program.{Ref, refs, loose_variants}
 use Rattle.link_program.specs.link_rules.Marks.{refs_of}
-use Rattle.link_program.specs.link_rules.Keys.{import_of, imports_in_order}
-use Rattle.link_program.specs.Stand.{IsSymbolOf, PartStands, PartsStand}
+use Rattle.link_program.specs.link_rules.Keys.{import_of, imports_in_order, callable}
+use Rattle.link_program.specs.Stand.{IsSymbolOf, IsVariantOf, IsRefOf, PartStands, PartsStand}
+use Rattle.link_program.proofs.Loose.{variant_entry}
 use Rattle.link_program.specs.Live.{AllMeant}
-use Rattle.link_keys.proofs.Any.{any_at, any_left, any_right, any_map, any_flat_map, any_filter, any_filter_map, option_any, all_at}
+use Rattle.link_keys.proofs.Any.{or_right, any_at, any_left, any_right, any_map, any_flat_map, any_filter, any_filter_map, option_any, all_at}
 use Rattle.link_keys.proofs.Equals.{holds_distinct}
-use Rattle.link_keys.proofs.Imports.{import_equal, import_itself, name_itself}
+use Rattle.link_keys.proofs.Imports.{import_equal, import_itself, name_equal, name_itself}
 
 -- The name of what is null is that of an entry, and the linker defines none of that name.
 pub record IsNull (all : List InputSymbol) (e : InputSymbol) : Type 0 where
@@ -139,31 +141,71 @@ null_known allow objects i s r e at there means =
     let entry = null_is_entry allow all e is in
     record { entry = entry; named = name_known objects i s row.object e row.at symbol entry; unmade = null_unmade allow objects e entry is }
 
-module _ (p : rules.Program) (from : p.entries ≡ entries Plain p.objects) (means : p.resolved ≡ resolve Plain p.plan.allow_undefined p.entries p.objects) where
-  symbol_known : (e : InputSymbol) (m : Meaning) → IsSymbolOf p.resolved e m → is_nothing m ≡ false → KnownMeaning (imports_in_order p) p.entries e m
+-- the same among more
+null_more : (es more : List InputSymbol) (e : InputSymbol) → IsNull es e → IsNull (es ++ more) e
+null_more es more e k = record {
+  entry = k.entry;
+  named = ap (list_any (bytes_eq (name_of e))) (map-append name_of es more) ∙ any_left (bytes_eq (name_of e)) (map name_of es) (map name_of more) k.named;
+  unmade = k.unmade;
+}
+
+made_named : (name : List ℕ) (place : ℕ) (ms : List MadeSymbol) → list_any (is_named name) (made_from place ms) ≡ true → list_any (bytes_eq name) (map (λ m. m.name) ms) ≡ true
+made_named name place [] is = absurd cc
+made_named name place (m ∷ ms) is = by (bytes_eq m.name name) refl is (made_named name (place + 1) ms)
+  where
+    by : (b : Bool) → bytes_eq m.name name ≡ b → (b || list_any (is_named name) (made_from (place + 1) ms)) ≡ true
+        → (list_any (is_named name) (made_from (place + 1) ms) ≡ true → list_any (bytes_eq name) (map (λ m. m.name) ms) ≡ true) → (bytes_eq name m.name || list_any (bytes_eq name) (map (λ m. m.name) ms)) ≡ true
+    by true same e later = ap (λ b. b || list_any (bytes_eq name) (map (λ m. m.name) ms)) (ap (λ n. bytes_eq name n) (name_equal m.name name same) ∙ name_itself name)
+    by false same e later = or_right (bytes_eq name m.name) (list_any (bytes_eq name) (map (λ m. m.name) ms)) (later e)
+
+module _ (p : rules.Program) (from : p.entries ≡ entries Plain p.objects) (means : p.resolved ≡ resolve Plain p.plan.allow_undefined p.entries p.objects)
+    (first : List (List ℕ)) (made_first : (name : List ℕ) → list_any (bytes_eq name) (map (λ m. m.name) (made Plain)) ≡ true → list_any (bytes_eq name) first ≡ true)
+    (variants : p.variants ≡ loose_variants p.plan.like_lld p.entries p.resolved) (apart : All (λ v. list_any (bytes_eq (name_of v)) first ≡ false) p.variants) where
+  symbol_known : (e : InputSymbol) (m : Meaning) → IsSymbolOf p.resolved e m → is_nothing m ≡ false → KnownMeaning (imports_in_order p) (callable p) e m
   unfolding imports_in_order
   symbol_known e (here d) there meant = tt
   symbol_known e (imported k) there meant = import_known p.resolved there.0 there.1 there.2 k there.3 there.5
   symbol_known e null there meant =
       let resolved : resolve Plain p.plan.allow_undefined (entries Plain p.objects) p.objects ≡ p.resolved = ap (λ all. resolve Plain p.plan.allow_undefined all p.objects) (sym from) ∙ sym means in
-      subst (λ all. IsNull all e) (sym from)
-      (null_known p.plan.allow_undefined p.objects there.0 there.1 there.2 e (ap (λ rs. slice_get rs there.0) resolved ∙ there.3) there.4 there.5)
+      null_more p.entries p.variants e (subst (λ all. IsNull all e) (sym from)
+      (null_known p.plan.allow_undefined p.objects there.0 there.1 there.2 e (ap (λ rs. slice_get rs there.0) resolved ∙ there.3) there.4 there.5))
   symbol_known e nothing there meant = absurd cc
+
+  variant_known : (e : InputSymbol) (m : Meaning) → IsVariantOf p.variants e m → KnownMeaning (imports_in_order p) (callable p) e m
+  variant_known e m there =
+      let v = variant_entry p.entries p.plan.like_lld p.resolved there.1 e (ap (λ vs. slice_get vs there.1) (sym variants) ∙ there.2) in
+      subst (KnownMeaning (imports_in_order p) (callable p) e) (sym there.0) (record {
+        entry = v;
+        named = ap (list_any (bytes_eq (name_of e))) (map-append name_of p.entries p.variants)
+            ∙ any_right (bytes_eq (name_of e)) (map name_of p.entries) (map name_of p.variants)
+            (any_map (bytes_eq (name_of e)) name_of p.variants ∙ any_at (λ x. bytes_eq (name_of e) (name_of x)) p.variants there.1 e there.2 (name_itself (name_of e)));
+        unmade = unmade (list_any (is_named (name_of e)) (made_from 0 (made Plain))) refl;
+      })
+    where
+      unmade : (b : Bool) → list_any (is_named (name_of e)) (made_from 0 (made Plain)) ≡ b → b ≡ false
+      unmade true is = absurd (let a = made_first (name_of e) (made_named (name_of e) 0 (made Plain) is) in let n = all_at (λ v. list_any (bytes_eq (name_of v)) first ≡ false) p.variants there.1 e apart there.2 in let z : true ≡ false = sym a ∙ n in cc)
+      unmade false is = refl
+
+  ref_known : (ref : Ref) → IsRefOf p ref → is_nothing ref.meaning ≡ false → KnownRef (imports_in_order p) (callable p) ref
+  ref_known ref there meant = elim there as (λ _. KnownRef (imports_in_order p) (callable p) ref) [
+    | inl s ↦ symbol_known ref.entry ref.meaning s meant
+    | inr v ↦ variant_known ref.entry ref.meaning v
+  ]
 
   -- ---- live parts
 
   all_symbols : (numbers : List ℕ) (parts : List rules.Part) → map (slice_get p.parts) numbers ≡ map Some parts → PartsStand p
-      → All (λ ref. IsSymbolOf p.resolved ref.entry ref.meaning) (refs_of parts)
+      → All (IsRefOf p) (refs_of parts)
   all_symbols [] [] are stand = λ k d below. absurd (omega arith)
   all_symbols [] (part ∷ parts) are stand = absurd cc
   all_symbols (n ∷ numbers) [] are stand = absurd cc
   all_symbols (n ∷ numbers) (part ∷ parts) are stand =
       let at : slice_get p.parts n ≡ Some part = cc in
       let rest : map (slice_get p.parts) numbers ≡ map Some parts = cc in
-      All-append (λ ref. IsSymbolOf p.resolved ref.entry ref.meaning) (refs part) (refs_of parts)
+      All-append (IsRefOf p) (refs part) (refs_of parts)
       (all_at (PartStands p) p.parts n part stand at).refs (all_symbols numbers parts rest stand)
 
   -- All references of the live parts are known.
   pub all_known : (numbers : List ℕ) (parts : List rules.Part) → map (slice_get p.parts) numbers ≡ map Some parts → PartsStand p → AllMeant parts
-      → All (KnownRef (imports_in_order p) p.entries) (refs_of parts)
-  all_known numbers parts are stand meant = λ k d below. symbol_known _ _ (all_symbols numbers parts are stand k d below) (meant k d below)
+      → All (KnownRef (imports_in_order p) (callable p)) (refs_of parts)
+  all_known numbers parts are stand meant = λ k d below. ref_known (get_or (refs_of parts) k d) (all_symbols numbers parts are stand k d below) (meant k d below)

@@ -1,11 +1,10 @@
 -- The null functions that are called, by the numbers of their names and as the definition has them.
-use Rattle.std.proofs.Common.{◌≡◌, ℕ, zero, suc, ◌+◌, ◌<◌, ◌≤◌, ◌==◌, Bool, true, false, ◌&&◌, ◌||◌, List, [], ◌∷◌, ◌++◌, map, filter, flat_map, fold, replicate, cond, length, slice_get, get_or, position, Option, Some, None, unwrap_or, refl, sym, ap, subst, ◌∙◌, arith, append_assoc}
-use Rattle.std.specs.Prelude.{if◌then◌else◌, bytes_eq}
+use Rattle.std.proofs.Common.{◌≡◌, ℕ, ◌+◌, ◌<◌, ◌==◌, Bool, true, false, ◌&&◌, ◌||◌, List, [], ◌∷◌, ◌++◌, map, filter, flat_map, fold, replicate, cond, length, slice_get, Option, Some, None, unwrap_or, refl, sym, ap, subst, ◌∙◌, arith, append_assoc}
+use Rattle.std.specs.Prelude.{bytes_eq}
 use Rattle.std.specs.List.{list_any, All}
 use Rattle.std.proofs.lemmas.List.{map-append}
 use Rattle.std.proofs.lemmas.List.Elements.{All-head, All-tail, filter-append}
 use Rattle.std.proofs.lemmas.Option.{slice_get_within}
-use Rattle.link_program.specs.wl_base.Names.{number_of}
 use Rattle.link_program.specs.wl_base.Choice.{distinct}
 use Rattle.link_program.specs.linking_section.declared.symbol.Symbol.{Symbol}
 use Rattle.link_program.specs.object_file.declared.object.Object.{Object}
@@ -15,18 +14,18 @@ use Rattle.link_program.specs.index_layout.Numbers.{number_by}
 use Rattle.link_program.specs.name_rules.Entries.{InputSymbol, ImportKey, is_entry, name_of, symbols_of, entries, entries_from, entry_in, is_named, made_from}
 use Rattle.link_program.specs.name_rules.Meanings.{Meaning, here, imported, null, nothing}
 use Rattle.link_program.specs.name_entries.View.{entry_number}
-use Rattle.link_program.specs.link_names.Numbered.{is_entry_symbol, symbol_name, entry_names, group_names, all_names, different_names}
+use Rattle.link_program.specs.link_names.Numbered.{is_entry_symbol, symbol_name, entry_names, group_names, different_names}
 use Rattle.link_program.specs.link_rules.Program as rules
 use Rattle.link_program.specs.link_rules.Program.{Ref}
 use Rattle.link_program.specs.link_rules.Marks.{refs_of}
 use Rattle.link_program.specs.link_rules.Keys.{is_null, calls_stub}
 use Rattle.link_program.specs.Told.{told_lead}
 use Rattle.link_keys.specs.Noted.{is_null_lead, where_so, flagged, is_at}
-use Rattle.link_keys.specs.Lists.{numbers_below, flag_at, stubs_listed}
-use Rattle.link_keys.proofs.Any.{any_map, any_same, any_left, all_each}
-use Rattle.link_keys.proofs.Equals.{OnePlace, Holds, same_number, same_sym, stands, passes, numbers_passing, one_place, holds_distinct, filter_distinct_onto, settled, none_past}
+use Rattle.link_keys.specs.Lists.{flag_at, stubs_listed}
+use Rattle.link_keys.proofs.Any.{any_map, any_same, all_each}
+use Rattle.link_keys.proofs.Equals.{OnePlace, same_number, same_sym, stands, passes, numbers_passing, none_past}
 use Rattle.link_keys.proofs.Flags.{flags_set}
-use Rattle.link_keys.proofs.Heard.{stub_asked, onto_append}
+use Rattle.link_keys.proofs.Heard.{stub_asked}
 use Rattle.link_keys.proofs.Imports.{name_equal, name_itself, both}
 use Rattle.link_keys.proofs.ImportsTold.{below_same}
 use Rattle.link_keys.proofs.Known.{KnownMeaning, KnownRef, IsNull}
@@ -99,15 +98,9 @@ off : (a b : Bool) (o : Option ℕ) (i : ℕ) → is_at i (where_so (a && false)
 off true b o i = refl
 off false b o i = refl
 
-module _ (names : List (List ℕ)) (imports : List ImportKey) (all : List InputSymbol) (later : List (List ℕ)) (order : names ≡ distinct bytes_eq (map name_of all ++ later)) where
-  pub one : OnePlace bytes_eq name_equal name_itself names
-  one = subst (λ ns. OnePlace bytes_eq name_equal name_itself ns) (sym order) (one_place bytes_eq name_equal name_itself (map name_of all ++ later))
-
-  pub held : (name : List ℕ) → list_any (bytes_eq name) (map name_of all) ≡ true → list_any (bytes_eq name) names ≡ true
-  held name is =
-      subst (λ ns. list_any (bytes_eq name) ns ≡ true) (sym order)
-      (holds_distinct bytes_eq name_equal name_itself (map name_of all ++ later) name (any_left (bytes_eq name) (map name_of all) later is))
-
+module _ (names : List (List ℕ)) (imports : List ImportKey) (all : List InputSymbol) (one : OnePlace bytes_eq name_equal name_itself names)
+    (held : (name : List ℕ) → list_any (bytes_eq name) (map name_of all) ≡ true → list_any (bytes_eq name) names ≡ true)
+    (listed : (called : List ℕ → Bool) → ((name : List ℕ) → called name ≡ true → list_any (bytes_eq name) (map name_of all) ≡ true) → distinct bytes_eq (filter called (map name_of all)) ≡ filter called names) where
   module _ (refs : List Ref) (known : All (KnownRef imports all) refs) where
     -- what is known of a name whose null function is called
     abbrev pub Called : List ℕ → Type 0
@@ -127,17 +120,9 @@ module _ (names : List (List ℕ)) (imports : List ImportKey) (all : List InputS
         let null_one = both (ref.kind == 0) (is_null ref.meaning) parts.0 in
         known_called name ref ref.meaning k null_one.1 parts.1)
 
-    called_held : (name : List ℕ) → called refs name ≡ true → list_any (bytes_eq name) (distinct bytes_eq (map name_of all)) ≡ true
-    called_held name is = holds_distinct bytes_eq name_equal name_itself (map name_of all) name (called_known name is).0
-
     -- The names of the stubs are those names that are called.
     pub stub_names_are : distinct bytes_eq (map name_of (filter (λ e. called refs (name_of e)) all)) ≡ filter (called refs) names
-    stub_names_are =
-        ap (distinct bytes_eq) (names_filtered (called refs) all)
-        ∙ filter_distinct_onto bytes_eq name_equal name_itself (called refs) [] (map name_of all)
-        ∙ sym (settled bytes_eq name_equal name_itself (called refs) (distinct bytes_eq (map name_of all)) later called_held)
-        ∙ ap (filter (called refs)) (sym (onto_append bytes_eq [] (map name_of all) later))
-        ∙ ap (filter (called refs)) (sym order)
+    stub_names_are = ap (distinct bytes_eq) (names_filtered (called refs) all) ∙ listed (called refs) (λ name is. (called_known name is).0)
 
     -- ---- by number
 

@@ -1,5 +1,5 @@
 -- The types of functions, in their order, and those that windows name.
-use Rattle.std.specs.Prelude.{ℕ, Bool, true, false, List, [], ◌∷◌, ◌++◌, map, filter_map, fold, slice_get, slice_index_or, Option, Some, None}
+use Rattle.std.specs.Prelude.{ℕ, ◌+◌, ◌-◌, nat_lt, if◌then◌else◌, Bool, true, false, List, [], ◌∷◌, ◌++◌, map, filter_map, fold, length, slice_get, slice_index_or, Option, Some, None}
 use Rattle.link_program.specs.wasm_types.declared.function.FuncType.{FuncType}
 use Rattle.link_program.specs.wasm_types.Same.{same_type}
 use Rattle.link_program.specs.object_file.declared.object.Object.{Object}
@@ -14,6 +14,7 @@ use Rattle.link_program.specs.declared.part.Content.TheVariants as contents
 use Rattle.link_program.specs.declared.part.Part.{Part}
 use Rattle.link_program.specs.declared.program.Tables.{Tables}
 use Rattle.link_keys.specs.declared.firsts.At.{At}
+use Rattle.link_keys.specs.declared.types.StubTypes.{StubTypes as Known}
 use Rattle.link_program.specs.Look.{part_at}
 use Rattle.link_keys.specs.Noted.{Noted, where_so}
 use Rattle.link_keys.specs.Lists.{function_imports, is_own, stubs_listed}
@@ -59,9 +60,30 @@ abbrev pub first_type : List Object → Option At → FuncType
 first_type objects None = no_type
 first_type objects (Some at) = function_type_of (symbol_type (entry_at objects at.object at.place))
 
--- by the column of the least entries of names
-abbrev pub stub_types : List Object → List (Option At) → List Bool → ℕ → List FuncType
-stub_types objects firsts flags names = map (λ n. first_type objects (slice_index_or firsts n None)) (stubs_listed flags names)
+-- What is known of the types of stubs: the objects, the column of the least entries of names, all types, and those of the variants, which
+-- have the last names.
+pub record StubTypes : Type 0 where
+  pub objects : List Object
+  pub firsts : List (Option At)
+  pub types : List FuncType
+  pub variants : List ℕ
+
+abbrev pub variant_number : ℕ → List ℕ → ℕ → Option ℕ
+variant_number names variants n = if nat_lt (n + length variants) names then None else slice_get variants (n + length variants - names)
+
+abbrev pub stub_by : StubTypes → ℕ → Option ℕ → FuncType
+stub_by x n None = first_type x.objects (slice_index_or x.firsts n None)
+stub_by x n (Some k) = type_at x.types k
+
+abbrev pub stubs_seen : List Object → Known → StubTypes
+stubs_seen objects x = record { objects = objects; firsts = x.firsts.now; types = x.types.now; variants = x.variants.now }
+
+-- The type of the stub of a name, of so many names.
+abbrev pub stub_type : StubTypes → ℕ → ℕ → FuncType
+stub_type x names n = stub_by x n (variant_number names x.variants n)
+
+abbrev pub stub_types : StubTypes → List Bool → ℕ → List FuncType
+stub_types x flags names = map (stub_type x names) (stubs_listed flags names)
 
 -- ---- their numbers
 
@@ -94,4 +116,5 @@ no_types = record { table = []; numbers = [] }
 abbrev pub types_listed : List ImportKey → ℕ → Tables → List Object → List (Option At) → List ℕ → Noted → TypeLists
 types_listed imports names t objects firsts live m =
     with_windows t.types (fold with_numbered (fold with_numbered (fold with_numbered (fold with_numbered no_types
-    (import_types imports m.imports)) (own_types true t live)) (stub_types objects firsts m.stubs names)) (own_types false t live)) m.windows
+    (import_types imports m.imports)) (own_types true t live)) (stub_types (record { objects = objects; firsts = firsts; types = t.types; variants = t.variants }) m.stubs names))
+    (own_types false t live)) m.windows

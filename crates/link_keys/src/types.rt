@@ -6,7 +6,7 @@ ghost use Rattle.link_program.specs.object_columns.Seen.{func_type_seen};
 ghost use Rattle.link_program.specs.name_entries.Fits.{FitsObjects};
 ghost use Rattle.link_program.specs.type_merge.Types.{type_number, with_type};
 ghost use Rattle.link_keys.specs.Firsts.{firsts_rows};
-ghost use Rattle.link_keys.specs.Types.{type_at, kept_type, import_types, content_type_at, content_by, type_by, type_in, own_types, first_type, stub_types, type_number_in, with_numbered, with_window, with_windows, types_listed};
+ghost use Rattle.link_keys.specs.Types.{type_at, kept_type, import_types, content_type_at, content_by, type_by, type_in, own_types, first_type, stub_type, stub_types, stubs_seen, variant_number, type_number_in, with_numbered, with_window, with_windows, types_listed};
 
 use crate::firsts::{At, firsts_of};
 use crate::lists::{flag_at, is_function_import, is_own};
@@ -26,6 +26,17 @@ use wl_base::OutOfMemory;
 pub struct TypeNumbers {
     pub(crate) table: TypeTable,
     pub(crate) numbers: Vec<u32>,
+}
+
+/// By what the types of stubs are found.
+#[derive(Clone, Copy)]
+struct StubTypes<'a> {
+    /// The least entry of each name, by the number of the name.
+    firsts: &'a [Option<At>],
+    /// All types by number.
+    types: &'a [FuncType],
+    /// The types of the variants, which have the last names.
+    variants: &'a [u32],
 }
 
 impl Model for TypeNumbers {
@@ -228,6 +239,15 @@ impl TypeNumbers {
         Ok(())
     }
 
+    /// Adds the type of this number.
+    fn push_known(&mut self, types: &[FuncType], number: u32) -> Result<(), OutOfMemory>
+        ensures { OnOk result (self.new ≡ with_numbered self.old (type_at types.now number)) }
+    {
+        let added = add_numbered(&mut self.table, types, number)?;
+        self.numbers.push(added)?;
+        Ok(())
+    }
+
     /// Adds a type that a window names, which is given no number here.
     fn push_window(&mut self, types: &[FuncType], number: u32) -> Result<(), OutOfMemory>
         ensures { OnOk result (self.new ≡ with_window types.now self.old number) }
@@ -259,20 +279,37 @@ impl TypeNumbers {
         Ok(())
     }
 
-    /// Adds the types of the stubs that are called, by the least entries of names.
+    /// Adds the type of the stub of a name, of so many names.
+    fn push_stub(
+        &mut self,
+        entries: Entries<'_>,
+        stubs: StubTypes<'_>,
+        names: u32,
+        number: u32,
+    ) -> Result<(), OutOfMemory>
+        requires { FitsObjects entries }
+        ensures { OnOk result (self.new ≡ with_numbered self.old (stub_type (stubs_seen entries.entry.objects.now stubs.entry) names number)) }
+    {
+        match variant_number(names, stubs.variants, number) {
+            Some(known) => self.push_known(stubs.types, known),
+            None => self.push_first(entries, first_of(stubs.firsts, number)),
+        }
+    }
+
+    /// Adds the types of the stubs that are called.
     fn push_stubs(
         &mut self,
         entries: Entries<'_>,
-        firsts: &[Option<At>],
+        stubs: StubTypes<'_>,
         flags: &[bool],
         names: u32,
     ) -> Result<(), OutOfMemory>
         requires { FitsObjects entries }
-        ensures { OnOk result (self.new ≡ fold with_numbered self.old (stub_types entries.entry.objects.now firsts.now flags.now names)) }
+        ensures { OnOk result (self.new ≡ fold with_numbered self.old (stub_types (stubs_seen entries.entry.objects.now stubs.entry) flags.now names)) }
     {
         for number in 0..names {
             if flag_at(flags, number) {
-                self.push_first(entries, first_of(firsts, number))?;
+                self.push_stub(entries, stubs, names, number)?;
             }
         }
         Ok(())
@@ -287,6 +324,17 @@ impl TypeNumbers {
         }
         Ok(())
     }
+}
+
+/// Which of the variants the name of this number is of, as the number of its type; the variants have the last of so many names.
+fn variant_number(names: u32, variants: &[u32], number: u32) -> Option<u32>
+    ensures { result ≡ variant_number names variants.now number }
+{
+    let place = number as usize + variants.len();
+    if place < names as usize {
+        return None;
+    }
+    variants.get(place - names as usize).copied()
 }
 
 /// The place of the least entry of a name.
@@ -317,9 +365,14 @@ fn types_of(
     let tables = program.tables;
     types.push_imports(program.resolution, marks.imports.as_slice())?;
     types.push_own(true, tables, live)?;
+    let stubs = StubTypes {
+        firsts,
+        types: tables.types.as_slice(),
+        variants: tables.variants.as_slice(),
+    };
     types.push_stubs(
         entries,
-        firsts,
+        stubs,
         marks.stubs.as_slice(),
         program.names.count(),
     )?;

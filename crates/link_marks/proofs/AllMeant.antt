@@ -1,5 +1,5 @@
 -- Parts of which none is unresolved.
-use Rattle.std.proofs.Common.{◌≡◌, ℕ, Bool, true, false, cond, ◌&&◌, List, [], ◌∷◌, map, find, slice_get, Option, Some, None, option_map, refl, sym, ap, ◌∙◌, inl, inr, ◌⊎◌}
+use Rattle.std.proofs.Common.{◌≡◌, ℕ, Bool, true, false, cond, ◌&&◌, List, [], ◌∷◌, map, find, slice_get, Option, Some, None, option_map, refl, sym, ap, ◌∙◌, inl, inr, ⊎_elim, ◌⊎◌}
 use Rattle.std.specs.List.{AllByRecursion}
 use Rattle.std.proofs.lemmas.Bool.{and_from, false_from_ne_true}
 use Rattle.std.proofs.lemmas.List.Elements.{recursion_from_All, All-from_recursion}
@@ -10,7 +10,7 @@ use Rattle.link_program.specs.name_rules.Entries.{same_entry}
 use Rattle.link_program.specs.name_rules.Meanings.{Resolved, is_nothing}
 use Rattle.link_program.specs.link_rules.Program.{Program, Part, Ref, refs}
 use Rattle.link_program.specs.link_rules.Marks.{refs_of, all_symbols, is_open, unresolved}
-use Rattle.link_program.specs.Stand.{PartStands, IsSymbolOf}
+use Rattle.link_program.specs.Stand.{PartStands, IsSymbolOf, IsVariantOf, IsRefOf}
 use Rattle.link_marks.specs.Laws.{AllAreMeant}
 use Rattle.link_marks.proofs.Members.{In, in_at, in_any, in_flat, all_in, all_from, all_flat}
 use Rattle.link_marks.proofs.Leasts.{entry_itself}
@@ -49,14 +49,17 @@ pub all_are_meant : AllAreMeant
 unfolding unresolved
 all_are_meant p numbers parts stand are none =
     let nothing_found : find (is_open (refs_of parts)) (all_symbols p) ≡ None = map_none _ _ (second_none _ _ none) in
-    let known : AllByRecursion (λ (r : Ref). In r.entry (all_symbols p)) (refs_of parts) =
-    all_flat (λ (r : Ref). In r.entry (all_symbols p)) refs parts (all_from _ parts (λ part h.
+    let known : AllByRecursion (IsRefOf p) (refs_of parts) =
+    all_flat (IsRefOf p) refs parts (all_from _ parts (λ part h.
     let stands : PartStands p part = all_in (PartStands p) part parts (parts_in (PartStands p) p.parts numbers parts are.are (recursion_from_All (PartStands p) p.parts stand)) h in
-    all_from _ (refs part) (λ r k. symbol_in p r (all_in (λ (ref : Ref). IsSymbolOf p.resolved ref.entry ref.meaning) r (refs part) (recursion_from_All _ (refs part) stands.refs) k)))) in
+    recursion_from_All (IsRefOf p) (refs part) stands.refs)) in
     All-from_recursion (λ (r : Ref). is_nothing r.meaning ≡ false) (refs_of parts) (all_from _ (refs_of parts) (λ r h.
     false_from_ne_true (is_nothing r.meaning) (λ yes.
-    no (sym (in_any (λ (ref : Ref). is_nothing ref.meaning && same_entry ref.entry r.entry) r (refs_of parts) h (and_from (is_nothing r.meaning) (same_entry r.entry r.entry) yes (entry_itself r.entry)))
-    ∙ find_none (is_open (refs_of parts)) r.entry (all_symbols p) nothing_found (all_in _ r (refs_of parts) known h)))))
+    ⊎_elim
+    (λ is. no (sym (in_any (λ (ref : Ref). is_nothing ref.meaning && same_entry ref.entry r.entry) r (refs_of parts) h (and_from (is_nothing r.meaning) (same_entry r.entry r.entry) yes (entry_itself r.entry)))
+    ∙ find_none (is_open (refs_of parts)) r.entry (all_symbols p) nothing_found (symbol_in p r is)))
+    (λ (v : IsVariantOf p.variants r.entry r.meaning). no (sym yes ∙ ap is_nothing v.0))
+    (all_in (IsRefOf p) r (refs_of parts) known h))))
   where
     no : true ≡ false → ⊥
     no e = cc

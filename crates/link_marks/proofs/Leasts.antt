@@ -228,12 +228,12 @@ abbrev pub open_at : Ref → Option SymbolAt
 open_at r = cond (is_nothing r.meaning) (Some (at r.entry)) None
 
 -- The first symbol that a reference leaves open is the least that one does.
-pub first_open : (es : List InputSymbol) (refs : List Ref) → Rising es → AllByRecursion (λ r. In r.entry es) refs → option_map at (find (is_open refs) es) ≡ least_by open_at refs
+pub first_open : (es : List InputSymbol) (refs : List Ref) → Rising es → AllByRecursion (λ (r : Ref). is_nothing r.meaning ≡ true → In r.entry es) refs → option_map at (find (is_open refs) es) ≡ least_by open_at refs
 first_open es [] rise known = ap (option_map at) (none_found es)
 first_open es (r ∷ refs) rise known =
     either (λ e. is_nothing r.meaning && same_entry r.entry e) (is_open refs) es rise
-    ∙ (λ i. lesser (by (is_nothing r.meaning) i) (first_open es refs rise known.1 i))
+    ∙ (λ i. lesser (by (is_nothing r.meaning) refl i) (first_open es refs rise known.1 i))
   where
-    by : (b : Bool) → option_map at (find (λ e. b && same_entry r.entry e) es) ≡ cond b (Some (at r.entry)) None
-    by true = found_at es r.entry known.0
-    by false = ap (option_map at) (none_found es)
+    by : (b : Bool) → is_nothing r.meaning ≡ b → option_map at (find (λ e. b && same_entry r.entry e) es) ≡ cond b (Some (at r.entry)) None
+    by true is = found_at es r.entry (known.0 is)
+    by false is = ap (option_map at) (none_found es)

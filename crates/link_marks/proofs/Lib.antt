@@ -4,8 +4,8 @@ mod Mapped
 mod Members
 mod Held
 mod Steps
-mod Winning
-mod Targets
+pub mod Winning
+pub mod Targets
 mod Marked
 mod Leasts
 mod Known

@@ -25,9 +25,10 @@ use Rattle.name_unresolved.specs.Refers.{SymbolAt, symbol_named, is_undefined_on
 use Rattle.name_unresolved.specs.Least.{least_by}
 use Rattle.name_unresolved.specs.Unresolved.{is_open, is_nothing as open_answer}
 use Rattle.link_program.specs.name_entries.View.{InputsRise}
-use Rattle.link_program.specs.link_rules.Program.{Part, Ref, Named, a_symbol, named_ref, refs, ref_in, ref_to, operand_named, window_named, init_call, init_calls_in, init_calls, by_priority, is_skipped, InitCall, indexed, function_part, segment_part, global_part, parts_in, is_part_kept, parts_of, made_parts_from, made_kind, option_onto, linker_made, no_source}
+use Rattle.link_program.specs.link_rules.Program.{Part, Ref, Named, a_symbol, named_ref, refs, ref_in, ref_to, operand_named, window_named, init_call, init_calls_in, init_calls, by_priority, is_skipped, InitCall, loose_ref, loose_part, loose_parts, indexed, function_part, segment_part, global_part, parts_in, is_part_kept, parts_of, made_parts_from, made_kind, option_onto, linker_made, no_source}
 use Rattle.link_program.specs.link_rules.Marks as marks
-use Rattle.link_program.specs.link_rules.Marks.{refs_of, all_symbols}
+use Rattle.link_program.specs.link_rules.Marks.{refs_of}
+use Rattle.link_program.proofs.Loose.{loosened_or_not, mismatch_here, refs_loose}
 use Rattle.link_marks.specs.Open.{open_fault}
 use Rattle.link_marks.proofs.Members.{In, in_at, in_flat, all_in, all_from, all_both, all_map, all_flat, all_kept, all_filter_map, OfOption, found_has}
 use Rattle.link_marks.proofs.Leasts.{map_is, flat_map_is, filter_map_is, filter_is, least_agree, least_same, sorted_is, sorted_all, at, open_at, first_open}
@@ -119,10 +120,10 @@ module _ (allow : Bool) (objects : List Object) (rows : List (List Told)) (impor
         ∙ sym ((λ i. open_ref (ref_to place kind addend (y.entry_there i) (y.meant_there i))))
   ]
 
-  ref_known : (o : Object) → Fine o → (place kind s : ℕ) (addend : ℤ) → OfOption (λ (r : Ref). In r.entry symbols) (ref_in (resolved o) place kind s addend)
-  ref_known o fine place kind s addend = elim (symbol_of o fine s) as (λ _. OfOption (λ (r : Ref). In r.entry symbols) (ref_in (resolved o) place kind s addend)) [
-    | inl n ↦ subst (λ x. OfOption (λ (r : Ref). In r.entry symbols) (ref_to place kind addend x (slice_get (map means (symbols_of objects o)) s))) (sym n.1) tt
-    | inr y ↦ subst (λ (p : Option InputSymbol × Option Meaning). OfOption (λ (r : Ref). In r.entry symbols) (ref_to place kind addend p.0 p.1)) (sym (λ i. (y.entry_there i, y.meant_there i))) y.known
+  ref_known : (o : Object) → Fine o → (place kind s : ℕ) (addend : ℤ) → OfOption (λ (r : Ref). is_nothing r.meaning ≡ true → In r.entry symbols) (ref_in (resolved o) place kind s addend)
+  ref_known o fine place kind s addend = elim (symbol_of o fine s) as (λ _. OfOption (λ (r : Ref). is_nothing r.meaning ≡ true → In r.entry symbols) (ref_in (resolved o) place kind s addend)) [
+    | inl n ↦ subst (λ x. OfOption (λ (r : Ref). is_nothing r.meaning ≡ true → In r.entry symbols) (ref_to place kind addend x (slice_get (map means (symbols_of objects o)) s))) (sym n.1) tt
+    | inr y ↦ subst (λ (p : Option InputSymbol × Option Meaning). OfOption (λ (r : Ref). is_nothing r.meaning ≡ true → In r.entry symbols) (ref_to place kind addend p.0 p.1)) (sym (λ i. (y.entry_there i, y.meant_there i))) (λ is. y.known)
   ]
 
   -- ---- parts
@@ -130,10 +131,10 @@ module _ (allow : Bool) (objects : List Object) (rows : List (List Told)) (impor
   -- What the part refers to is open by the data where it is by the definition, and it is known.
   pub record Agrees (part : Part) : Type 0 where
     pub least : least_by (opened rows) (by_object.refers objects part.chunk) ≡ least_by open_at (refs part)
-    pub known : AllByRecursion (λ (r : Ref). In r.entry symbols) (refs part)
+    pub known : AllByRecursion (λ (r : Ref). is_nothing r.meaning ≡ true → In r.entry symbols) (refs part)
 
   abbrev RefKnown : Ref → Type 0
-  RefKnown r = In r.entry symbols
+  RefKnown r = is_nothing r.meaning ≡ true → In r.entry symbols
 
   of_symbol : (n : Option Ref) → OfOption RefKnown n → OfOption (λ (m : Named). OfOption RefKnown (named_ref m)) (option_map a_symbol n)
   of_symbol None h = tt
@@ -339,6 +340,39 @@ module _ (allow : Bool) (objects : List Object) (rows : List (List Told)) (impor
     parts_agree all =
         all_both Agrees (made_parts_from calls 0 (made Plain)) (flat_map (parts_in all objects) (map resolved objects)) (all_made 0 (made Plain))
         (all_flat Agrees (parts_in all objects) (map resolved objects) (all_map (λ r. AllByRecursion Agrees (parts_in all objects r)) resolved objects (all_from _ objects (λ o h. object_agrees o (fine_in o h) all))))
+
+  -- ---- loosened parts
+
+  module _ (all : List InputSymbol) where
+    loose_open : (r : Ref) → open_at (loose_ref all r) ≡ open_at r
+    loose_open r = elim (loosened_or_not all r) as (λ _. open_at (loose_ref all r) ≡ open_at r) [
+      | inl is ↦ let d = mismatch_here all r.entry r.meaning is.differs in ap open_at is.is ∙ sym (ap (λ m. cond (is_nothing m) (Some (at r.entry)) None) d.1)
+      | inr is ↦ ap open_at is
+    ]
+
+    loose_known : (r : Ref) → RefKnown r → RefKnown (loose_ref all r)
+    loose_known r known = elim (loosened_or_not all r) as (λ _. RefKnown (loose_ref all r)) [
+      | inl is ↦ λ m. absurd (no (sym (ap (λ (x : Ref). is_nothing x.meaning) is.is) ∙ m))
+      | inr is ↦ subst RefKnown (sym is) known
+    ]
+      where
+        no : false ≡ true → ⊥
+        no h = cc
+
+    all_loose : (rs : List Ref) → AllByRecursion RefKnown rs → AllByRecursion RefKnown (map (loose_ref all) rs)
+    all_loose [] h = tt
+    all_loose (r ∷ rs) h = (loose_known r h.0, all_loose rs h.1)
+
+    loose_agrees : (part : Part) → Agrees part → Agrees (loose_part all part)
+    loose_agrees part a = record {
+      least = a.least ∙ sym (ap (least_by open_at) (refs_loose all part) ∙ map_is open_at (loose_ref all) (refs part) ∙ least_same (λ r. open_at (loose_ref all r)) open_at loose_open (refs part));
+      known = subst (AllByRecursion RefKnown) (sym (refs_loose all part)) (all_loose (refs part) a.known);
+    }
+
+    pub loose_agree : (loose : Bool) (parts : List Part) → AllByRecursion Agrees parts → AllByRecursion Agrees (loose_parts loose all parts)
+    loose_agree false parts h = h
+    loose_agree true [] h = tt
+    loose_agree true (part ∷ parts) h = (loose_agrees part h.0, loose_agree true parts h.1)
 
   -- ---- some of the parts
 

@@ -45,10 +45,10 @@ module _ (table : List Chunk) where
   abbrev place : Chunk → Option ℕ
   place c = position (same_chunk c) table
 
-  defined : (e : InputSymbol) → number_in table (defined_chunk (told_definition e)) ≡ option_and_then place (chunk_of e)
+  pub defined : (e : InputSymbol) → number_in table (defined_chunk (told_definition e)) ≡ option_and_then place (chunk_of e)
   defined e = ap (λ o. option_and_then place o) (by_kind e e.symbol.kind)
 
-  led : (imports : List ImportKey) (m : Meaning) → led_number table (told_lead imports m) ≡ option_and_then place (meant_chunk m)
+  pub led : (imports : List ImportKey) (m : Meaning) → led_number table (told_lead imports m) ≡ option_and_then place (meant_chunk m)
   led imports (here e) = defined e
   led imports (imported key) = refl
   led imports null = refl

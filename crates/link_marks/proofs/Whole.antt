@@ -18,7 +18,7 @@ use Rattle.link_program.specs.name_entries.View.{WinnersAre}
 use Rattle.name_unresolved.specs.Refers as by_object
 use Rattle.name_unresolved.specs.Least.{least_by}
 use Rattle.name_unresolved.specs.Unresolved.{is_open, live_from, first_unresolved_of}
-use Rattle.link_program.specs.link_rules.Program.{Program, Part, winners_of, is_winner, is_that, parts_of}
+use Rattle.link_program.specs.link_rules.Program.{Program, Part, winners_of, is_winner, is_that, parts_of, loose_parts}
 use Rattle.link_program.specs.link_rules.Marks as marks
 use Rattle.link_program.specs.link_rules.Marks.{refs_of, all_symbols, demanded, missing, unresolved}
 use Rattle.link_program.specs.declared.program.Program.{Program as Data}
@@ -35,7 +35,7 @@ use Rattle.link_marks.proofs.Members.{In, in_filter, from_filter, any_in, in_any
 use Rattle.link_marks.proofs.Held.{HeldOf, numbered, entries_held}
 use Rattle.link_marks.proofs.Leasts.{filter_is, entry_itself}
 use Rattle.link_marks.proofs.Known.{IsObject, are_objects}
-use Rattle.link_marks.proofs.Opened.{Fine, Agrees, parts_agree, open_is}
+use Rattle.link_marks.proofs.Opened.{Fine, Agrees, parts_agree, loose_agree, open_is}
 use Rattle.link_marks.proofs.Marked.{picked_by, numbers_pick}
 
 -- ---- names without a winner
@@ -164,7 +164,8 @@ open_are d p l parts is live =
     fine_from allow objects rows imports objects (λ o h. h) (recursion_from_All (IsObject objects) objects (are_objects objects is.rise))
     (subst (AllByRecursion (λ (x : Resolved). AllZip (Means imports) (row_of rows x.object.input) x.meanings)) resolved (recursion_from_All _ p.resolved is.resolution.meanings)) in
     let agree : AllByRecursion (Agrees allow objects rows imports) p.parts =
-    subst (AllByRecursion (Agrees allow objects rows imports)) (sym (is.parts_are.1 ∙ ap (parts_of Plain is.parts_are.0 objects) resolved)) (parts_agree allow objects rows imports fine is.parts_are.0) in
+    subst (AllByRecursion (Agrees allow objects rows imports)) (sym (is.parts_are.1 ∙ ap (λ rs. loose_parts p.plan.like_lld p.entries (parts_of Plain is.parts_are.0 objects rs)) resolved))
+    (loose_agree allow objects rows imports p.entries p.plan.like_lld _ (parts_agree allow objects rows imports fine is.parts_are.0)) in
     let parts_is = live_are p l parts live in
     let some_agree : AllByRecursion (Agrees allow objects rows imports) parts = subst (AllByRecursion (Agrees allow objects rows imports)) (sym parts_is) (picked_all l.set.words (Agrees allow objects rows imports) p.parts 0 p.parts agree) in
     let chunks : live_from l.set.words 0 d.tables.now.chunks ≡ map (λ (part : Part). part.chunk) parts =

@@ -27,7 +27,7 @@ fn chunk_of(definition: Definition) -> Option<Chunk>
 }
 
 /// The number of the chunk of a definition.
-pub(crate) fn number_defined(chunks: &ChunkTable, definition: Definition) -> Option<u32>
+pub fn number_defined(chunks: &ChunkTable, definition: Definition) -> Option<u32>
     ensures { result ≡ number_in chunks.now (defined_chunk definition) }
 {
     match chunk_of(definition) {
@@ -37,7 +37,7 @@ pub(crate) fn number_defined(chunks: &ChunkTable, definition: Definition) -> Opt
 }
 
 /// The number of the chunk to which a symbol leads.
-fn number_led(chunks: &ChunkTable, lead: Lead) -> Option<u32>
+pub fn number_led(chunks: &ChunkTable, lead: Lead) -> Option<u32>
     ensures { result ≡ led_number chunks.now lead }
 {
     match lead {

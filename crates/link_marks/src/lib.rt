@@ -15,6 +15,7 @@ mod roots;
 #[cfg(test)]
 mod tests;
 
+pub use chunks::{number_defined, number_led};
 pub use exported::{export_name, exports};
 pub use laws::all_are_meant;
 pub use live::{Live, live_parts};

@@ -234,6 +234,7 @@ fn tables(alloc: Global) -> Option<Tables> {
         named: Rows::of(alloc, named(alloc).ok()?),
         types: Seq::new(alloc),
         chunks: chunks(alloc)?,
+        variants: Seq::new(alloc),
     })
 }
 

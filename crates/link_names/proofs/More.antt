@@ -140,3 +140,23 @@ by_answer t new name (Err OutOfMemory) o small at less told room = tt
 -- what a table answers to a name
 pub takes : (t new : Names) (name : List ℕ) (r : Result ℕ NameFault) → Interns r (interned t name) t new → Room t → Takes (IsNumber name) r t new (name ∷ [])
 takes t new name r told room = by_answer t new name r (number_of t.names name) (nat_lt (length t.names) t.limit) refl refl told room
+
+-- the same of a table of which nothing else is known
+pub gains_one : (t new : Names) (name : List ℕ) (n : ℕ) → Interns (Ok n) (interned t name) t new → (new.names ≡ more t.names (name ∷ [])) × (number_of new.names name ≡ Some n)
+gains_one t new name n told = by (number_of t.names name) refl (nat_lt (length t.names) t.limit) told
+  where
+    by : (o : Option ℕ) → number_of t.names name ≡ o → (small : Bool) → held_or o t (if small then Ok (length t.names, record { limit = t.limit; names = t.names ++ name ∷ [] }) else Err TooMany) ≡ Ok (n, new)
+        → (new.names ≡ more t.names (name ∷ [])) × (number_of new.names name ≡ Some n)
+    by (Some k) at small told =
+        let is = ok_is k n t new told in
+        let same : new.names ≡ t.names = ap (λ (t : Names). t.names) (sym is.1) in (
+          same ∙ sym (ap (λ b. if b then t.names else t.names ++ name ∷ []) (held t.names name k at).0),
+          ap (λ ns. number_of ns name) same ∙ at ∙ ap (λ k. Some k) is.0,
+        )
+    by None at true told =
+        let is = ok_is (length t.names) n (record { limit = t.limit; names = t.names ++ name ∷ [] }) new told in
+        let same : new.names ≡ t.names ++ name ∷ [] = ap (λ (t : Names). t.names) (sym is.1) in (
+          same ∙ sym (ap (λ b. if b then t.names else t.names ++ name ∷ []) (not_held t.names name at)),
+          ap (λ ns. number_of ns name) same ∙ new_last t.names name at ∙ ap (λ k. Some k) is.0,
+        )
+    by None at false told = absurd cc

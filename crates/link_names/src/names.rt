@@ -1,6 +1,7 @@
 //! The table of names with the numbers that were given.
-ghost use Rattle.std.specs.Prelude.{◌≡◌, ◌<◌, [], Some, None, length, slice_get, slice_index_or};
+ghost use Rattle.std.specs.Prelude.{◌≡◌, ◌<◌, ◌∷◌, [], Some, None, length, slice_get, slice_index_or, IfOk, OnOk};
 ghost use Rattle.object_file.specs.wl_base.Names.{number_of};
+ghost use Rattle.link_names.specs.Interning.{more};
 ghost use Rattle.link_names.specs.Numbered.{Numbers, numbers_seen};
 
 use crate::build::{add_words, group_lists, made_numbers, symbol_lists};
@@ -82,6 +83,18 @@ impl Names {
             symbols: symbols.shrunk(),
             groups: groups.shrunk(),
         })
+    }
+
+    /// The number of a name, which is the next one where the name is new. All others keep theirs.
+    pub fn add(&mut self, name: &[u8]) -> Result<u32, NameFault>
+        ensures names { OnOk result (self.new.names ≡ more self.old.names (name.now ∷ [])) }
+        ensures made { OnOk result (self.new.made ≡ self.old.made) }
+        ensures symbols { OnOk result (self.new.symbols ≡ self.old.symbols) }
+        ensures groups { OnOk result (self.new.groups ≡ self.old.groups) }
+        ensures number { IfOk result (λ number. number_of self.new.names name.now ≡ Some number) }
+    {
+        let number = self.table.intern(name)?;
+        Ok(number)
     }
 
     /// How many names there are.

@@ -36,6 +36,8 @@ module _ (d : Program) (p : rules.Program) (live : List ℕ) (parts : List rules
     from = is.entries;
     means = is.resolved;
     order = is.order;
+    apart = is.apart;
+    variants = is.variants_are;
     all_imports = is.imports;
     numbers = is.numbers.symbols;
     are = are.are;

@@ -1,4 +1,5 @@
 pub mod Knows
+pub mod Ordered
 pub mod KeysTold
 pub mod Coded
 pub mod TypesTold

@@ -1,12 +1,14 @@
 -- The types of functions, as the definition has them.
-use Rattle.std.proofs.Common.{◌≡◌, ℕ, zero, suc, ◌<◌, ◌==◌, Bool, true, false, not, ◌&&◌, cond, List, [], ◌∷◌, ◌++◌, map, filter, filter_map, flat_map, length, slice_get, get_or, Option, Some, None, option_map, refl, sym, ap, subst, ◌∙◌, arith}
+use Rattle.std.proofs.Common.{◌≡◌, ℕ, zero, suc, ◌+◌, ◌-◌, ◌<◌, ◌==◌, nat_lt, Bool, true, false, not, ◌&&◌, ◌||◌, cond, List, [], ◌∷◌, ◌++◌, map, filter, filter_map, flat_map, length, slice_get, get_or, Option, Some, None, option_map, refl, sym, ap, ◌∙◌, arith}
 use Rattle.std.specs.Prelude.{bytes_eq, find}
 use Rattle.std.specs.Option.{option_or}
 use Rattle.std.specs.List.{list_any, All, cons_option}
 use Rattle.std.proofs.lemmas.Bool.Decides.{nat_tests}
+use Rattle.std.proofs.lemmas.List.{length-map, length-append}
 use Rattle.std.proofs.lemmas.List.Elements.{All-head, All-tail}
 use Rattle.std.proofs.lemmas.List.Folds.{find-append}
-use Rattle.std.proofs.lemmas.Option.{slice_get-map, slice_get-get_or, slice_get_within}
+use Rattle.std.proofs.lemmas.Option.{slice_get-map, slice_get-get_or, get_or_from_slice_get}
+use Rattle.link_program.specs.wl_base.Choice.{distinct}
 use Rattle.link_program.specs.wasm_types.declared.function.FuncType.{FuncType}
 use Rattle.link_program.specs.object_file.declared.object.Object.{Object}
 use Rattle.link_program.specs.object_file.Spaces.{no_type}
@@ -21,13 +23,14 @@ use Rattle.link_program.specs.link_rules.Program as rules
 use Rattle.link_program.specs.link_rules.Keys as keys
 use Rattle.link_program.specs.link_rules.Keys.{outside, linker_function, stub, own, function_type_of, content_type, entry_type, part_type, is_function_at, type_of, made_function_key, own_function_key}
 use Rattle.link_program.specs.declared.program.Tables.{Tables}
-use Rattle.link_program.specs.Program.{AreTables, ChunksDiffer}
+use Rattle.link_program.specs.Program.{AreTables, ChunksDiffer, variant_names, variant_type}
 use Rattle.link_keys.specs.declared.firsts.At.{At}
 use Rattle.link_program.specs.Look.{part_at}
 use Rattle.link_keys.specs.Noted.{where_so}
-use Rattle.link_keys.specs.Lists.{is_own, chunk_at}
-use Rattle.link_keys.specs.Types.{kept_type, content_type_at, type_by, type_in, own_types, symbol_type, first_type}
-use Rattle.link_keys.proofs.Equals.{Holds, stands, number_is}
+use Rattle.link_keys.specs.Lists.{is_own}
+use Rattle.link_keys.specs.Types.{StubTypes, type_at, stub_by, stub_type, kept_type, content_type_at, type_in, own_types, symbol_type, first_type}
+use Rattle.link_keys.proofs.Equals.{stands, number_is, holds_at, holds_distinct}
+use Rattle.link_numbers.proofs.Ordered.{Is, IsNot, is_or_not, not_is, before_is_not, last_is_not}
 use Rattle.link_keys.proofs.FirstsTold.{AreFirsts, least_of}
 use Rattle.link_keys.proofs.Imports.{import_equal, import_itself, name_equal, name_itself, both}
 use Rattle.link_numbers.proofs.KeysTold.{given_told, and_swap}
@@ -178,23 +181,122 @@ first_entry_is objects name unmade =
     find-append (is_named name) (made_from 0 (made Plain)) (filter is_entry (flat_map (symbols_of objects) objects))
     ∙ ap (λ o. option_or o (least_of (flat_map (symbols_of objects) objects) name)) (find_none (is_named name) (made_from 0 (made Plain)) unmade)
 
-module _ (names : List (List ℕ)) (p : rules.Program) (parts : List rules.Part) (from : p.entries ≡ entries Plain p.objects) (column : List (Option At)) (firsts : AreFirsts names p.objects (flat_map (symbols_of p.objects) p.objects) column) where
-  stub_type : (name : List ℕ) → list_any (bytes_eq name) names ≡ true → list_any (is_named name) (made_from 0 (made Plain)) ≡ false
-      → first_type p.objects (get_or column (number_by bytes_eq names name) None) ≡ type_of p parts (stub name)
-  stub_type name held unmade =
+-- what stands in a list that is joined of two
+joined_left : {A : Type 0} (xs ys : List A) (i : ℕ) → i < length xs → slice_get (xs ++ ys) i ≡ slice_get xs i
+joined_left [] ys i below = absurd (omega arith)
+joined_left (x ∷ xs) ys zero below = refl
+joined_left (x ∷ xs) ys (suc i) below = joined_left xs ys i (omega (arith, below))
+
+joined_right : {A : Type 0} (xs ys : List A) (i : ℕ) → slice_get (xs ++ ys) (length xs + i) ≡ slice_get ys i
+joined_right [] ys i = let e : 0 + i ≡ i = omega arith in ap (slice_get ys) e
+joined_right (x ∷ xs) ys i = let e : length (x ∷ xs) + i ≡ suc (length xs + i) = omega arith in ap (slice_get (x ∷ (xs ++ ys))) e ∙ joined_right xs ys i
+
+no_entry_named : (es : List InputSymbol) (name : List ℕ) → list_any (bytes_eq name) (map name_of es) ≡ false → first_entry es name ≡ None
+no_entry_named [] name none = refl
+no_entry_named (e ∷ es) name none = by (bytes_eq (name_of e) name) refl (no_entry_named es name)
+  where
+    either_none : (a b : Bool) → (a || b) ≡ false → (a ≡ false) × (b ≡ false)
+    either_none true b h = absurd cc
+    either_none false b h = (refl, h)
+
+    parts : (bytes_eq name (name_of e) ≡ false) × (list_any (bytes_eq name) (map name_of es) ≡ false)
+    parts = either_none (bytes_eq name (name_of e)) (list_any (bytes_eq name) (map name_of es)) none
+
+    by : (b : Bool) → bytes_eq (name_of e) name ≡ b → (list_any (bytes_eq name) (map name_of es) ≡ false → first_entry es name ≡ None) → cond b (Some e) (first_entry es name) ≡ None
+    by true same later = absurd (let t : bytes_eq name (name_of e) ≡ true = ap (λ n. bytes_eq n (name_of e)) (sym (name_equal (name_of e) name same)) ∙ name_itself (name_of e) in let z : true ≡ false = sym t ∙ parts.0 in cc)
+    by false other later = later parts.1
+
+or_none : {A : Type 0} (o : Option A) → option_or o None ≡ o
+or_none None = refl
+or_none (Some x) = refl
+
+none_or : {A : Type 0} (o p : Option A) → o ≡ None → option_or o p ≡ p
+none_or o p none = ap (λ o. option_or o p) none
+
+module _ (names : List (List ℕ)) (p : rules.Program) (parts : List rules.Part) (from : p.entries ≡ entries Plain p.objects) (column : List (Option At)) (firsts : AreFirsts names p.objects (flat_map (symbols_of p.objects) p.objects) column)
+    (others : List (List ℕ)) (in_order : names ≡ distinct bytes_eq others ++ distinct bytes_eq (map name_of p.variants)) (apart : All (IsNot (distinct bytes_eq others)) (map name_of p.variants))
+    (entries_among : (name : List ℕ) → list_any (bytes_eq name) (map name_of p.entries) ≡ true → Is others name)
+    (types : List FuncType) (variants : List ℕ) (typed : map (slice_get types) variants ≡ map (λ name. Some (variant_type p.variants name)) (variant_names p.variants)) where
+  abbrev before : List (List ℕ)
+  before = distinct bytes_eq others
+
+  abbrev last : List (List ℕ)
+  last = variant_names p.variants
+
+  abbrev lists : StubTypes
+  lists = record { objects = p.objects; firsts = column; types = types; variants = variants }
+
+  as_many : length variants ≡ length last
+  as_many = sym (length-map variants (slice_get types)) ∙ ap length typed ∙ length-map last (λ name. Some (variant_type p.variants name))
+
+  all_as_many : length names ≡ length before + length last
+  all_as_many = ap length in_order ∙ length-append before last
+
+  -- the name of an entry
+  first_type_is : (name : List ℕ) (i : ℕ) → slice_get names i ≡ Some name → Is before name → list_any (is_named name) (made_from 0 (made Plain)) ≡ false
+      → first_type p.objects (get_or column i None) ≡ type_of p parts (stub name)
+  first_type_is name i there among unmade =
+      let none : first_entry p.variants name ≡ None = no_entry_named p.variants name (not_last name among) in
+      first_is p.objects (get_or column i None) (least_of (flat_map (symbols_of p.objects) p.objects) name) (firsts.each i name there)
+      ∙ ap (λ e. function_type_of (entry_type e)) (sym (ap (λ es. first_entry es name) from ∙ first_entry_is p.objects name unmade)
+      ∙ sym (find-append (is_named name) p.entries p.variants ∙ ap (option_or (first_entry p.entries name)) none ∙ or_none (first_entry p.entries name)))
+    where
+      not_last : (name : List ℕ) → Is before name → list_any (bytes_eq name) (map name_of p.variants) ≡ false
+      not_last name is = before_is_not before (map name_of p.variants) apart name is
+
+  -- the name of a variant
+  variant_type_is : (name : List ℕ) (j : ℕ) → slice_get last j ≡ Some name → IsNot before name
+      → (k : ℕ) × (slice_get variants j ≡ Some k) × (type_at types k ≡ type_of p parts (stub name))
+  variant_type_is name j there apart_name = by (slice_get variants j) refl
+    where
+      none : first_entry p.entries name ≡ None
+      none = no_entry_named p.entries name (not_is (list_any (bytes_eq name) (map name_of p.entries)) (λ is. is_or_not before name (holds_distinct bytes_eq name_equal name_itself others name (entries_among name is)) apart_name))
+
+      typed_here : option_map (slice_get types) (slice_get variants j) ≡ Some (Some (variant_type p.variants name))
+      typed_here =
+          sym (slice_get-map (slice_get types) variants j) ∙ ap (λ xs. slice_get xs j) typed
+          ∙ slice_get-map (λ name. Some (variant_type p.variants name)) last j ∙ ap (option_map (λ name. Some (variant_type p.variants name))) there
+
+      same_type_of : variant_type p.variants name ≡ type_of p parts (stub name)
+      same_type_of = ap (λ e. function_type_of (entry_type e)) (sym (find-append (is_named name) p.entries p.variants ∙ none_or (first_entry p.entries name) (first_entry p.variants name) none))
+
+      by : (o : Option ℕ) → slice_get variants j ≡ o → (k : ℕ) × (slice_get variants j ≡ Some k) × (type_at types k ≡ type_of p parts (stub name))
+      by None at = absurd (let z : None ≡ Some (Some (variant_type p.variants name)) = sym (ap (option_map (slice_get types)) at) ∙ typed_here in cc)
+      by (Some k) at =
+          let here : slice_get types k ≡ Some (variant_type p.variants name) = let z : Some (slice_get types k) ≡ Some (Some (variant_type p.variants name)) = sym (ap (option_map (slice_get types)) at) ∙ typed_here in cc in
+          (k, at, get_or_from_slice_get types k (variant_type p.variants name) no_type here ∙ same_type_of)
+
+  stub_type_is : (name : List ℕ) → list_any (bytes_eq name) names ≡ true → list_any (is_named name) (made_from 0 (made Plain)) ≡ false
+      → stub_type lists (length names) (number_by bytes_eq names name) ≡ type_of p parts (stub name)
+  stub_type_is name held unmade =
       let s = stands bytes_eq name_equal name_itself names name held in
       let number = number_is bytes_eq name_equal name_itself names name s.at s.found in
-      ap (λ n. first_type p.objects (get_or column n None)) number
-      ∙ first_is p.objects (get_or column s.at None) (least_of (flat_map (symbols_of p.objects) p.objects) name) (firsts.each s.at name s.there)
-      ∙ ap (λ e. function_type_of (entry_type e)) (sym (ap (λ es. first_entry es name) from ∙ first_entry_is p.objects name unmade))
+      ap (stub_type lists (length names)) number ∙ by_place s.at s.there (nat_lt s.at (length before)) refl
+    where
+      by_place : (i : ℕ) → slice_get names i ≡ Some name → (b : Bool) → nat_lt i (length before) ≡ b → stub_type lists (length names) i ≡ type_of p parts (stub name)
+      by_place i there true is =
+          let below : i < length before = grind (arith, nat_tests) in
+          let less : nat_lt (i + length variants) (length names) ≡ true = grind (arith, nat_tests, as_many, all_as_many) in
+          let here : slice_get before i ≡ Some name = sym (ap (λ ns. slice_get ns i) in_order ∙ joined_left before last i below) ∙ there in
+          ap (λ b. stub_by lists i (cond b None (slice_get variants (i + length variants - length names)))) less
+          ∙ first_type_is name i there (holds_at bytes_eq name_equal name_itself before i name here) unmade
+      by_place i there false is =
+          let j = i - length before in
+          let place : i ≡ length before + j = grind (arith, nat_tests) in
+          let less : nat_lt (i + length variants) (length names) ≡ false = grind (arith, nat_tests, as_many, all_as_many) in
+          let rest : i + length variants - length names ≡ j = omega (arith, as_many, all_as_many, place) in
+          let here : slice_get last j ≡ Some name = sym (ap (λ ns. slice_get ns i) in_order ∙ ap (slice_get (before ++ last)) place ∙ joined_right before last j) ∙ there in
+          let v = variant_type_is name j here (last_is_not before (map name_of p.variants) apart name (holds_at bytes_eq name_equal name_itself last j name here)) in
+          ap (λ b. stub_by lists i (cond b None (slice_get variants (i + length variants - length names)))) less
+          ∙ ap (λ k. stub_by lists i (slice_get variants k)) rest ∙ ap (stub_by lists i) v.1 ∙ v.2
 
   abbrev pub StubKnown : List ℕ → Type 0
   StubKnown name = (list_any (bytes_eq name) names ≡ true) × (list_any (is_named name) (made_from 0 (made Plain)) ≡ false)
 
   pub stub_types_told : (xs : List (List ℕ)) → All StubKnown xs
-      → map (λ n. first_type p.objects (get_or column n None)) (map (number_by bytes_eq names) xs) ≡ map (type_of p parts) (map stub xs)
+      → map (stub_type lists (length names)) (map (number_by bytes_eq names) xs) ≡ map (type_of p parts) (map stub xs)
   stub_types_told [] known = refl
   stub_types_told (name ∷ xs) known =
       let k = All-head StubKnown name xs known in
-      ap (λ t. t ∷ map (λ n. first_type p.objects (get_or column n None)) (map (number_by bytes_eq names) xs)) (stub_type name k.0 k.1)
+      ap (λ t. t ∷ map (stub_type lists (length names)) (map (number_by bytes_eq names) xs)) (stub_type_is name k.0 k.1)
       ∙ ap (λ ts. type_of p parts (stub name) ∷ ts) (stub_types_told xs (All-tail StubKnown name xs known))

@@ -1,10 +1,10 @@
 -- The numbers that the data give are those of the definition, ws they are told.
-use Rattle.std.proofs.Common.{◌≡◌, ℕ, ◌==◌, Bool, true, false, ◌&&◌, List, [], ◌∷◌, ◌++◌, map, filter, filter_map, flat_map, fold, replicate, length, slice_get, get_or, not, cond, Option, Some, None, refl, sym, ap, subst, ◌∙◌, arith, append_assoc}
+use Rattle.std.proofs.Common.{◌≡◌, ℕ, ◌==◌, Bool, true, false, ◌&&◌, List, [], ◌∷◌, ◌++◌, map, filter, filter_map, flat_map, fold, replicate, length, slice_get, get_or, not, cond, Option, Some, None, refl, sym, ap, subst, ◌∙◌, append_assoc}
 use Rattle.std.specs.Prelude.{bytes_eq, if◌then◌else◌}
 use Rattle.std.specs.List.{list_any, All, cons_option}
 use Rattle.std.proofs.lemmas.List.{map-append}
 use Rattle.std.proofs.lemmas.List.Sums.{fold-append}
-use Rattle.std.proofs.lemmas.List.Elements.{All-append, All-head, All-tail, All-cons}
+use Rattle.std.proofs.lemmas.List.Elements.{All-append, All-head, All-tail, All-cons, All-map}
 use Rattle.std.proofs.lemmas.Option.{slice_get-get_or}
 use Rattle.link_program.specs.wl_base.Choice.{distinct, distinct_onto, given}
 use Rattle.link_program.specs.wasm_types.declared.function.FuncType.{FuncType}
@@ -12,16 +12,15 @@ use Rattle.link_program.specs.object_file.declared.object.Object.{Object}
 use Rattle.link_program.specs.made_symbols.declared.mode.Mode.TheVariants.{Plain}
 use Rattle.link_program.specs.made_symbols.Made.{made}
 use Rattle.link_program.specs.index_layout.Numbers.{number_by}
-use Rattle.link_program.specs.type_merge.Types.{merged}
 use Rattle.link_program.specs.name_rules.Entries.{InputSymbol, ImportKey, same_import, name_of, is_named, is_entry, is_kind, made_from, entries, symbols_of}
 use Rattle.link_program.specs.linking_section.declared.symbol.SymbolKind.TheVariants.{Datum, GlobalVar}
 use Rattle.link_program.specs.name_rules.Meanings.{Meaning, here, imported, null, nothing, resolve}
-use Rattle.link_program.specs.link_names.Numbered.{symbol_number, different_names}
+use Rattle.link_program.specs.link_names.Numbered.{symbol_number, entry_names, group_names, all_names, different_names}
 use Rattle.link_program.specs.link_rules.Program as rules
-use Rattle.link_program.specs.link_rules.Program.{Ref, refs}
+use Rattle.link_program.specs.link_rules.Program.{Ref, refs, loose_variants}
 use Rattle.link_program.specs.link_rules.Marks.{refs_of}
 use Rattle.link_program.specs.link_rules.Keys as keys
-use Rattle.link_program.specs.link_rules.Keys.{outside, linker_function, stub, own, got, outside_global, linker_global, own_global, exported_datum, same_function, same_got, same_global, is_taken, is_null, meant_global, ref_global, imports_in_order, import_of, has_import, used_imports, imports_by, is_function_type, is_global_type, function_imports_of, stub_names, made_function_key, own_function_key, functions, slots, takes_slot, ref_function, global_imports_in, used_globals, made_globals, made_global_key, own_global_key, got_entries, parts_of_kind, needs_got, ref_got, datum_key, globals, window_types, type_of, types, numbers}
+use Rattle.link_program.specs.link_rules.Keys.{outside, linker_function, stub, own, got, outside_global, linker_global, own_global, exported_datum, same_function, same_got, same_global, is_taken, is_null, meant_global, imports_in_order, import_of, has_import, used_imports, imports_by, is_function_type, is_global_type, function_imports_of, stub_names, made_function_key, own_function_key, functions, callable, slots, global_imports_in, made_globals, made_global_key, own_global_key, got_entries, parts_of_kind, ref_got, datum_key, globals, window_types, type_of, types, numbers}
 use Rattle.link_program.specs.declared.keys.FunctionKey.TheVariants as function_keys
 use Rattle.link_program.specs.declared.keys.GlobalKey.TheVariants as global_keys
 use Rattle.link_program.specs.declared.symbol.Winner.{Winner}
@@ -29,23 +28,23 @@ use Rattle.link_program.specs.declared.program.Tables.{Tables}
 use Rattle.link_program.specs.Told.{told_winner}
 use Rattle.link_program.specs.Keys.{told_function, told_got, told_global, same_function_key, same_got_key, same_global_key}
 use Rattle.link_program.specs.Stand.{PartsStand}
-use Rattle.link_program.specs.Program.{AreTables}
+use Rattle.link_program.specs.Program.{AreTables, variant_names}
 use Rattle.link_program.specs.Live.{AllMeant}
 use Rattle.link_keys.specs.declared.firsts.At.{At}
 use Rattle.link_keys.specs.Codes.{same_code, function_code}
-use Rattle.link_program.specs.Look.{part_at}
 use Rattle.link_keys.specs.LiveRefs.{live_refs, window_numbers}
-use Rattle.link_keys.specs.Noted.{Noted, flagged, noted_parts, nothing_noted}
+use Rattle.link_keys.specs.Noted.{Noted, noted_parts, nothing_noted}
 use Rattle.link_keys.specs.Lists.{chunk_at, function_imports, global_imports, stubs_listed, own_functions, own_globals, own_function_in, own_global_in, functions_listed, slots_listed, globals_listed, datum_listed}
 use Rattle.link_keys.specs.Firsts.{firsts_rows}
-use Rattle.link_keys.specs.Types.{TypeLists, type_at, kept_type, first_type, own_types, stub_types, import_types, type_number_in, with_numbered, with_windows, no_types, types_listed}
+use Rattle.link_keys.specs.Types.{StubTypes, kept_type, own_types, stub_type, stub_types, import_types, type_number_in, with_numbered, with_windows, no_types, types_listed}
 use Rattle.link_numbers.specs.Knows.{KnowsFunction, KnowsGot, KnowsGlobal}
 use Rattle.link_numbers.specs.Laws.{TellsNumbers, KnowsRef}
-use Rattle.link_numbers.specs.Numbered.{Numbered, numbered, IsNumbering}
-use Rattle.link_keys.proofs.Any.{all_map, all_filter, all_filtered, all_each, all_none}
-use Rattle.link_keys.proofs.Equals.{OnePlace, one_place, holds_at}
+use Rattle.link_numbers.specs.Numbered.{numbered, IsNumbering}
+use Rattle.link_keys.proofs.Any.{any_left, all_map, all_filter, all_filtered, all_each, all_none}
+use Rattle.link_keys.proofs.Equals.{OnePlace, one_place, holds_at, holds_distinct}
+use Rattle.link_numbers.proofs.Ordered.{IsNot, one, held, listed}
 use Rattle.link_keys.proofs.FirstsTold.{AreFirsts, all_noted as firsts_noted}
-use Rattle.link_keys.proofs.Heard.{NotedAre, all_noted, import_asked, stub_asked, slot_asked, cell_asked}
+use Rattle.link_keys.proofs.Heard.{NotedAre, all_noted}
 use Rattle.link_keys.proofs.Imports.{import_equal, import_itself, name_equal, name_itself, both}
 use Rattle.link_keys.proofs.ImportsTold.{kept_imports, function_imports_told, global_imports_told}
 use Rattle.link_numbers.proofs.KeysTold.{taken_functions, taken_told, read_cells, cells_told, cells_once, made_functions_told, own_functions_told, made_globals_told, own_globals_told, data_told, slots_told, all_taken_known, all_cells_known, ref_function_known, ref_got_known}
@@ -53,7 +52,7 @@ use Rattle.link_keys.proofs.Known.{KnownMeaning, KnownRef, all_known}
 use Rattle.link_numbers.proofs.Knows.{tells_function, tells_global}
 use Rattle.link_keys.proofs.ToldLists.{number_told}
 use Rattle.link_keys.proofs.LiveTold.{told_refs, live_refs_told, windows_told_all, given_told, chunk_is}
-use Rattle.link_keys.proofs.StubsTold.{later_names, names_in_order, called, held, one as names_one, stub_names_are, stubs_told, called_known}
+use Rattle.link_keys.proofs.StubsTold.{later_names, names_in_order, called, stub_names_are, stubs_told, called_known}
 use Rattle.link_keys.proofs.TypesFolded.{folded}
 use Rattle.link_numbers.proofs.TypesTold.{import_types_told, made_types, own_types_are, stub_types_told}
 
@@ -107,7 +106,9 @@ pub record Given (names words : List (List ℕ)) (imports : List ImportKey) (t :
   pub tables : AreTables names imports t p
   pub from : p.entries ≡ entries Plain p.objects
   pub means : p.resolved ≡ resolve Plain p.plan.allow_undefined p.entries p.objects
-  pub order : names ≡ different_names Plain words p.objects
+  pub order : names ≡ different_names Plain words p.objects ++ variant_names p.variants
+  pub apart : All (λ v. list_any (bytes_eq (name_of v)) (different_names Plain words p.objects) ≡ false) p.variants
+  pub variants : p.variants ≡ loose_variants p.plan.like_lld p.entries p.resolved
   pub all_imports : imports ≡ imports_in_order p
   pub numbers : symbols ≡ map (λ (o : Object). map (symbol_number names) o.symbols) p.objects
   pub are : map (slice_get p.parts) live ≡ map Some parts
@@ -118,15 +119,47 @@ module _ {names words : List (List ℕ)} {imports : List ImportKey} {t : Tables}
   pub noted : Noted
   noted = noted_parts t (nothing_noted (length imports) (length names)) live
 
-  known : All (KnownRef imports p.entries) (refs_of parts)
-  known = subst (λ is. All (KnownRef is p.entries) (refs_of parts)) (sym g.all_imports) (all_known p g.from g.means live parts g.are g.stand g.meant)
+  -- the names of the linker's symbols are among the first
+  made_first : (name : List ℕ) → list_any (bytes_eq name) (map (λ m. m.name) (made Plain)) ≡ true → list_any (bytes_eq name) (different_names Plain words p.objects) ≡ true
+  made_first name is = holds_distinct bytes_eq name_equal name_itself (all_names Plain words p.objects) name
+      (any_left (bytes_eq name) (map (λ m. m.name) (made Plain) ++ flat_map entry_names p.objects ++ flat_map group_names p.objects) words
+      (any_left (bytes_eq name) (map (λ m. m.name) (made Plain) ++ flat_map entry_names p.objects) (flat_map group_names p.objects)
+      (any_left (bytes_eq name) (map (λ m. m.name) (made Plain)) (flat_map entry_names p.objects) is)))
+
+  known : All (KnownRef imports (callable p)) (refs_of parts)
+  known = subst (λ is. All (KnownRef is (callable p)) (refs_of parts)) (sym g.all_imports) (all_known p g.from g.means (different_names Plain words p.objects) made_first g.variants g.apart live parts g.are g.stand g.meant)
 
   one_import : OnePlace same_import import_equal import_itself imports
   unfolding imports_in_order
   one_import = subst (λ is. OnePlace same_import import_equal import_itself is) (sym g.all_imports) (one_place same_import import_equal import_itself (filter_map import_of (flat_map (λ r. r.meanings) p.resolved)))
 
-  in_order : names ≡ distinct bytes_eq (map name_of p.entries ++ later_names words p.objects)
-  in_order = g.order ∙ names_in_order words p.objects ∙ ap (λ es. distinct bytes_eq (map name_of es ++ later_names words p.objects)) (sym g.from)
+  abbrev first : List (List ℕ)
+  first = map name_of p.entries
+
+  abbrev last : List (List ℕ)
+  last = map name_of p.variants
+
+  first_in_order : different_names Plain words p.objects ≡ distinct bytes_eq (first ++ later_names words p.objects)
+  first_in_order = names_in_order words p.objects ∙ ap (λ es. distinct bytes_eq (map name_of es ++ later_names words p.objects)) (sym g.from)
+
+  in_order : names ≡ distinct bytes_eq (first ++ later_names words p.objects) ++ distinct bytes_eq last
+  in_order = g.order ∙ ap (λ ns. ns ++ distinct bytes_eq last) first_in_order
+
+  variants_apart : All (IsNot (distinct bytes_eq (first ++ later_names words p.objects))) last
+  variants_apart =
+      subst (λ ns. All (IsNot ns) last) first_in_order (All-map (IsNot (different_names Plain words p.objects)) name_of p.variants g.apart)
+
+  all_named : map name_of (callable p) ≡ first ++ last
+  all_named = map-append name_of p.entries p.variants
+
+  one_name : OnePlace bytes_eq name_equal name_itself names
+  one_name = one names first (later_names words p.objects) last in_order variants_apart
+
+  listed_names : (test : List ℕ → Bool) → ((name : List ℕ) → test name ≡ true → list_any (bytes_eq name) (map name_of (callable p)) ≡ true)
+      → distinct bytes_eq (filter test (map name_of (callable p))) ≡ filter test names
+  listed_names test known =
+      ap (λ ns. distinct bytes_eq (filter test ns)) all_named
+      ∙ listed names first (later_names words p.objects) last in_order variants_apart test (λ name is. subst (λ ns. list_any (bytes_eq name) ns ≡ true) all_named (known name is))
 
   refs_told : live_refs t live ≡ told_refs names imports parts
   refs_told = live_refs_told names imports t p g.tables live parts g.are
@@ -135,16 +168,16 @@ module _ {names words : List (List ℕ)} {imports : List ImportKey} {t : Tables}
   unfolding noted
   are_noted = subst (λ rs. NotedAre (length imports) (length names) rs (window_numbers t live) (noted_parts t (nothing_noted (length imports) (length names)) live)) refs_told (all_noted (length imports) (length names) t live)
 
-  names_held : (name : List ℕ) → list_any (bytes_eq name) (map name_of p.entries) ≡ true → list_any (bytes_eq name) names ≡ true
-  names_held = held names imports p.entries (later_names words p.objects) in_order
+  names_held : (name : List ℕ) → list_any (bytes_eq name) (map name_of (callable p)) ≡ true → list_any (bytes_eq name) names ≡ true
+  names_held name is = held names first (later_names words p.objects) last in_order variants_apart name (subst (λ ns. list_any (bytes_eq name) ns ≡ true) all_named is)
 
   -- ---- functions
 
   function_keys_of : List ImportKey
-  function_keys_of = kept_imports names imports one_import p.entries (λ k. is_function_type k.type) parts
+  function_keys_of = kept_imports names imports one_import (callable p) (λ k. is_function_type k.type) parts
 
   global_keys_of : List ImportKey
-  global_keys_of = kept_imports names imports one_import p.entries (λ k. is_global_type k.type) parts
+  global_keys_of = kept_imports names imports one_import (callable p) (λ k. is_global_type k.type) parts
 
   imports_are : map outside function_keys_of ≡ map outside (function_imports_of Plain p (refs_of parts))
   unfolding function_keys_of
@@ -156,22 +189,22 @@ module _ {names words : List (List ℕ)} {imports : List ImportKey} {t : Tables}
 
   function_numbers : function_imports imports noted.imports ≡ map (number_by same_import imports) function_keys_of
   unfolding function_keys_of
-  function_numbers = function_imports_told names imports one_import p.entries parts known noted.imports are_noted.imports
+  function_numbers = function_imports_told names imports one_import (callable p) parts known noted.imports are_noted.imports
 
   global_numbers : global_imports imports noted.imports ≡ map (number_by same_import imports) global_keys_of
   unfolding global_keys_of
-  global_numbers = global_imports_told names imports one_import p.entries parts known noted.imports are_noted.imports
+  global_numbers = global_imports_told names imports one_import (callable p) parts known noted.imports are_noted.imports
 
   stub_keys : List (List ℕ)
   stub_keys = filter (called (refs_of parts)) names
 
   stubs_are : stub_names p (refs_of parts) ≡ stub_keys
   unfolding stub_keys
-  stubs_are = stub_names_are names imports p.entries (later_names words p.objects) in_order (refs_of parts) known
+  stubs_are = stub_names_are names imports (callable p) one_name names_held listed_names (refs_of parts) known
 
   stub_numbers : stubs_listed noted.stubs (length names) ≡ map (number_by bytes_eq names) stub_keys
   unfolding stub_keys
-  stub_numbers = stubs_told names imports p.entries (later_names words p.objects) in_order parts known noted.stubs are_noted.stubs
+  stub_numbers = stubs_told names imports (callable p) one_name names_held listed_names parts known noted.stubs are_noted.stubs
 
   made_are : own_functions true t live ≡ map (told_function names imports) (filter_map made_function_key parts)
   made_are =
@@ -229,7 +262,7 @@ module _ {names words : List (List ℕ)} {imports : List ImportKey} {t : Tables}
   unfolding stub_keys
   stubs_known =
       all_filter Stub (called (refs_of parts))
-      (λ name is. let k = called_known names imports p.entries (later_names words p.objects) in_order (refs_of parts) known name is in (names_held name k.0, k.1)) names
+      (λ name is. let k = called_known names imports (callable p) one_name names_held listed_names (refs_of parts) known name is in (names_held name k.0, k.1)) names
 
   abbrev K : keys.FunctionKey → Type 0
   K f = KnowsFunction names imports f
@@ -261,8 +294,8 @@ module _ {names words : List (List ℕ)} {imports : List ImportKey} {t : Tables}
   slots_are =
       ap (slots_listed noted.taken) functions_are
       ∙ slots_told names imports noted.taken (taken_functions names imports (refs_of parts)) (functions Plain p parts)
-      (are_noted.taken ∙ ap (λ ks. distinct same_code (map function_code ks)) (taken_told names imports p.entries parts known))
-      (all_taken_known names imports p.entries names_held (refs_of parts) known) functions_known
+      (are_noted.taken ∙ ap (λ ks. distinct same_code (map function_code ks)) (taken_told names imports (callable p) parts known))
+      (all_taken_known names imports (callable p) names_held (refs_of parts) known) functions_known
 
   -- ---- globals
 
@@ -283,14 +316,14 @@ module _ {names words : List (List ℕ)} {imports : List ImportKey} {t : Tables}
       given_told names imports t p g.tables (λ n. own_global_in false (chunk_at t n)) (λ part. own_global_in false part.chunk) (λ n part at. ap (own_global_in false) (chunk_is names imports t p g.tables n part at)) live parts g.are
       ∙ own_globals_told names imports parts
 
-  code_known : All (KnownRef imports p.entries) (refs_of (parts_of_kind 0 parts))
-  code_known = refs_filtered (KnownRef imports p.entries) (λ part. part.chunk.kind == 0) parts known
+  code_known : All (KnownRef imports (callable p)) (refs_of (parts_of_kind 0 parts))
+  code_known = refs_filtered (KnownRef imports (callable p)) (λ part. part.chunk.kind == 0) parts known
 
   cells_are : map global_keys.Got noted.cells ≡ map (told_global imports) (map got (got_entries Plain parts))
   cells_are =
       ap (map global_keys.Got)
       (are_noted.cells ∙ ap (distinct same_got_key) (cells_told names imports parts)
-      ∙ cells_once names imports (read_cells names imports (refs_of (parts_of_kind 0 parts))) (all_cells_known names imports p.entries names_held (refs_of (parts_of_kind 0 parts)) code_known))
+      ∙ cells_once names imports (read_cells names imports (refs_of (parts_of_kind 0 parts))) (all_cells_known names imports (callable p) names_held (refs_of (parts_of_kind 0 parts)) code_known))
       ∙ twice global_keys.Got (told_got imports) (λ c. global_keys.Got (told_got imports c)) (λ c. refl) (got_entries Plain parts)
       ∙ sym (twice (told_global imports) got (λ c. global_keys.Got (told_got imports c)) (λ c. refl) (got_entries Plain parts))
 
@@ -322,7 +355,7 @@ module _ {names words : List (List ℕ)} {imports : List ImportKey} {t : Tables}
   column_is : AreFirsts names p.objects (flat_map (symbols_of p.objects) p.objects) column
   unfolding column
   column_is = subst (λ rows. AreFirsts names p.objects (flat_map (symbols_of p.objects) p.objects) (firsts_rows 0 (replicate (length names) None) rows)) (sym g.numbers)
-      (firsts_noted names (names_one names imports p.entries (later_names words p.objects) in_order) p.objects)
+      (firsts_noted names one_name p.objects)
 
   abbrev T : keys.FunctionKey → FuncType
   T f = type_of p parts f
@@ -333,14 +366,17 @@ module _ {names words : List (List ℕ)} {imports : List ImportKey} {t : Tables}
       ∙ import_types_told p parts imports function_keys_of kept_held
       ∙ ap (map T) imports_are
 
-  stub_types_are : stub_types p.objects column noted.stubs (length names) ≡ map T (map stub (stub_names p (refs_of parts)))
+  abbrev stub_lists : StubTypes
+  stub_lists = record { objects = p.objects; firsts = column; types = t.types; variants = t.variants }
+
+  stub_types_are : stub_types stub_lists noted.stubs (length names) ≡ map T (map stub (stub_names p (refs_of parts)))
   stub_types_are =
-      ap (map (λ n. first_type p.objects (get_or column n None))) stub_numbers
-      ∙ stub_types_told names p parts g.from column column_is stub_keys stubs_known
+      ap (map (stub_type stub_lists (length names))) stub_numbers
+      ∙ stub_types_told names p parts g.from column column_is (first ++ later_names words p.objects) in_order variants_apart (λ name is. any_left (bytes_eq name) first (later_names words p.objects) is) t.types t.variants g.tables.variants stub_keys stubs_known
       ∙ ap (λ ns. map T (map stub ns)) (sym stubs_are)
 
   all_types : List FuncType
-  all_types = import_types imports noted.imports ++ own_types true t live ++ stub_types p.objects column noted.stubs (length names) ++ own_types false t live
+  all_types = import_types imports noted.imports ++ own_types true t live ++ stub_types stub_lists noted.stubs (length names) ++ own_types false t live
 
   all_types_are : all_types ≡ map T (functions Plain p parts)
   unfolding all_types functions
@@ -349,8 +385,8 @@ module _ {names words : List (List ℕ)} {imports : List ImportKey} {t : Tables}
       let bs = filter_map made_function_key parts in
       let cs = map stub (stub_names p (refs_of parts)) in
       let ds = filter_map own_function_key parts in
-      ap (λ xs. xs ++ own_types true t live ++ stub_types p.objects column noted.stubs (length names) ++ own_types false t live) import_types_are
-      ∙ ap (λ xs. map T ws ++ xs ++ stub_types p.objects column noted.stubs (length names) ++ own_types false t live) (made_types p g.tables.differ live parts g.are names imports t g.tables)
+      ap (λ xs. xs ++ own_types true t live ++ stub_types stub_lists noted.stubs (length names) ++ own_types false t live) import_types_are
+      ∙ ap (λ xs. map T ws ++ xs ++ stub_types stub_lists noted.stubs (length names) ++ own_types false t live) (made_types p g.tables.differ live parts g.are names imports t g.tables)
       ∙ ap (λ xs. map T ws ++ map T bs ++ xs ++ own_types false t live) stub_types_are
       ∙ ap (λ xs. map T ws ++ map T bs ++ map T cs ++ xs) (own_types_are p g.tables.differ live parts g.are names imports t g.tables)
       ∙ four T ws bs cs ds
@@ -368,7 +404,7 @@ module _ {names words : List (List ℕ)} {imports : List ImportKey} {t : Tables}
       ≡ record { table = all_of; numbers = map (λ f. type_number_in all_of (type_of p parts f)) (functions Plain p parts) }
   unfolding types column all_types
   types_are =
-      ap (λ x. with_windows t.types x noted.windows) (sym (folds with_numbered no_types (import_types imports noted.imports) (own_types true t live) (stub_types p.objects column noted.stubs (length names)) (own_types false t live)))
+      ap (λ x. with_windows t.types x noted.windows) (sym (folds with_numbered no_types (import_types imports noted.imports) (own_types true t live) (stub_types stub_lists noted.stubs (length names)) (own_types false t live)))
       ∙ ap (λ x. with_windows t.types (fold with_numbered no_types x) noted.windows) all_types_are
       ∙ ap (with_windows t.types (fold with_numbered no_types (map T (functions Plain p parts)))) are_noted.windows
       ∙ folded (map T (functions Plain p parts)) t.types (window_numbers t live) (window_types parts) (windows_told_all names imports t p g.tables live parts g.are)
@@ -426,7 +462,7 @@ module _ {names words : List (List ℕ)} {imports : List ImportKey} {t : Tables}
       (All-append G (made_globals Plain parts) (filter_map own_global_key parts)
       (all_chosen G made_global_key made_global_known parts)
       (all_chosen G own_global_key own_global_known parts))
-      (all_map G got (got_entries Plain parts) (all_once (KnowsGot imports) same_got [] (read_cells names imports (refs_of (parts_of_kind 0 parts))) (all_none (KnowsGot imports)) (all_cells_known names imports p.entries names_held (refs_of (parts_of_kind 0 parts)) code_known))))
+      (all_map G got (got_entries Plain parts) (all_once (KnowsGot imports) same_got [] (read_cells names imports (refs_of (parts_of_kind 0 parts))) (all_none (KnowsGot imports)) (all_cells_known names imports (callable p) names_held (refs_of (parts_of_kind 0 parts)) code_known))))
       (all_chosen G datum_key datum_known es))
 
   slots_known : All K (slots Plain parts (functions Plain p parts))
@@ -444,28 +480,28 @@ module _ {names words : List (List ℕ)} {imports : List ImportKey} {t : Tables}
   global_of_known e true is = tt
   global_of_known e false is = is
 
-  meant_global_known : (ref : Ref) (m : Meaning) → KnownMeaning imports p.entries ref.entry m → KnowsGot imports (ref_got ref) → G (meant_global Plain ref m)
+  meant_global_known : (ref : Ref) (m : Meaning) → KnownMeaning imports (callable p) ref.entry m → KnowsGot imports (ref_got ref) → G (meant_global Plain ref m)
   meant_global_known ref (here e) k cell = global_of_known e (e.input == 0) refl
   meant_global_known ref (imported i) k cell = k
   meant_global_known ref null k cell = cell
   meant_global_known ref nothing k cell = cell
 
-  ref_global_known : (ref : Ref) (r : Bool) → KnownRef imports p.entries ref → KnowsGot imports (ref_got ref) → G (if r then meant_global Plain ref ref.meaning else got (ref_got ref))
+  ref_global_known : (ref : Ref) (r : Bool) → KnownRef imports (callable p) ref → KnowsGot imports (ref_got ref) → G (if r then meant_global Plain ref ref.meaning else got (ref_got ref))
   ref_global_known ref true k cell = meant_global_known ref ref.meaning k cell
   ref_global_known ref false k cell = cell
 
-  null_entry : (ref : Ref) (m : Meaning) → KnownMeaning imports p.entries ref.entry m → is_null m ≡ true → is_entry ref.entry ≡ true
+  null_entry : (ref : Ref) (m : Meaning) → KnownMeaning imports (callable p) ref.entry m → is_null m ≡ true → is_entry ref.entry ≡ true
   null_entry ref (here e) k is = absurd cc
   null_entry ref (imported i) k is = absurd cc
   null_entry ref null k is = k.entry
   null_entry ref nothing k is = absurd cc
 
-  knows_ref : (ref : Ref) → KnownRef imports p.entries ref → KnowsRef names imports ref
+  knows_ref : (ref : Ref) → KnownRef imports (callable p) ref → KnowsRef names imports ref
   knows_ref ref k = record {
-    function = ref_function_known names imports p.entries names_held ref k;
-    global = ref_global_known ref (is_kind GlobalVar ref.entry) k (ref_got_known names imports p.entries names_held ref k);
+    function = ref_function_known names imports (callable p) names_held ref k;
+    global = ref_global_known ref (is_kind GlobalVar ref.entry) k (ref_got_known names imports (callable p) names_held ref k);
     named = null_entry ref ref.meaning k;
   }
 
   pub knows_refs : All (KnowsRef names imports) (refs_of parts)
-  knows_refs = all_each (KnownRef imports p.entries) (KnowsRef names imports) knows_ref (refs_of parts) known
+  knows_refs = all_each (KnownRef imports (callable p)) (KnowsRef names imports) knows_ref (refs_of parts) known

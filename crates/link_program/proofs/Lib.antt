@@ -1,3 +1,4 @@
+pub mod Loose
 pub mod ReadAt
 pub mod Chunks
 pub use Rattle.image_emit.proofs as image_emit_lemmas

@@ -1,10 +1,10 @@
 -- Where the parts of a program and their windows stand.
-use Rattle.std.specs.Prelude.{◌≡◌, ℕ, ◌+◌, ◌≤◌, ◌<◌, ◌^◌, ◌⊎◌, ◌==◌, List, [], ◌∷◌, length, slice_get, slice_index_or, Some, All}
+use Rattle.std.specs.Prelude.{◌≡◌, ℕ, ◌+◌, ◌≤◌, ◌⊎◌, List, [], ◌∷◌, length, slice_get, slice_index_or, Some, All}
 use Rattle.name_entries.specs.wl_base.declared.span.FileSpan.{FileSpan}
 use Rattle.reloc_apply.specs.declared.window.Form.TheVariants.{Unsigned5}
 use Rattle.reloc_apply.specs.Apart.{size_of}
 use Rattle.name_entries.specs.name_rules.Entries.{InputSymbol}
-use Rattle.name_entries.specs.name_rules.Meanings.{Meaning, Resolved}
+use Rattle.name_entries.specs.name_rules.Meanings.{Meaning, null, Resolved}
 use Rattle.link_rules.specs.Program.{Program, Part, Ref, Named, a_symbol, a_type, refs, segment, Content, function, global, linker_made}
 use Rattle.link_rules.specs.Values.{form_of}
 
@@ -40,13 +40,23 @@ abbrev pub IsSymbolOf : List Resolved → InputSymbol → Meaning → Type 0
 IsSymbolOf resolved e m =
     (i : ℕ) × (s : ℕ) × (r : Resolved) × (slice_get resolved i ≡ Some r) × (slice_get r.symbols s ≡ Some e) × (slice_get r.meanings s ≡ Some m)
 
+-- A variant, which is null.
+abbrev pub IsVariantOf : List InputSymbol → InputSymbol → Meaning → Type 0
+IsVariantOf variants e m = (m ≡ null) × (k : ℕ) × (slice_get variants k ≡ Some e)
+
+abbrev pub IsRefOf : Program → Ref → Type 0
+IsRefOf p ref = IsSymbolOf p.resolved ref.entry ref.meaning ⊎ IsVariantOf p.variants ref.entry ref.meaning
+
 -- A part of an object lies in its file, and its windows in it. The linker's parts have no bytes and no windows, but its functions
 -- name what they call, and have their own bytes.
-pub record PartStands (p : Program) (part : Part) : Type 0 where
+pub record PartStandsBy (p : Program) (IsRef : Ref → Type 0) (part : Part) : Type 0 where
   pub source : SourceLies p.files part.source
   pub windows : ((part.chunk.input ≡ 0) × (part.chunk.kind ≡ 0)) ⊎ NamedStand 0 part.source.span.len part.named
   pub align : IsAligned part.content
-  pub refs : All (λ ref. IsSymbolOf p.resolved ref.entry ref.meaning) (refs part)
+  pub refs : All IsRef (refs part)
+
+abbrev pub PartStands : Program → Part → Type 0
+PartStands p part = PartStandsBy p (IsRefOf p) part
 
 abbrev pub PartsStand : Program → Type 0
 PartsStand p = All (PartStands p) p.parts

@@ -1,5 +1,5 @@
 -- What the data of a program tell of the entries and meanings of the definition.
-use Rattle.std.specs.Prelude.{ℕ, List, [], ◌∷◌, flat_map, Option, Some, None, unwrap_or}
+use Rattle.std.specs.Prelude.{ℕ, List, [], ◌∷◌, flat_map, unwrap_or}
 use Rattle.name_entries.specs.wl_base.Names.{number_of}
 use Rattle.index_layout.specs.Numbers.{number_by}
 use Rattle.name_entries.specs.name_rules.Entries.{InputSymbol, ImportKey, name_of, same_import}
@@ -33,6 +33,10 @@ told_all names imports (e ∷ es) (m ∷ ms) = told_symbol names imports e m ∷
 -- The symbols of all objects, one object behind another.
 abbrev pub told_symbols : List (List ℕ) → List ImportKey → List Resolved → List Symbol
 told_symbols names imports resolved = flat_map (λ r. told_all names imports r.symbols r.meanings) resolved
+
+-- The symbol of a variant, which is null.
+abbrev pub told_variant : List (List ℕ) → List ImportKey → InputSymbol → Symbol
+told_variant names imports v = told_symbol names imports v null
 
 -- The number of a name that is held.
 abbrev pub name_number : List (List ℕ) → InputSymbol → ℕ

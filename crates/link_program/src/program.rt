@@ -25,6 +25,8 @@ pub struct Tables {
     pub types: Seq<FuncType>,
     /// The chunk of each part; its number is the place of the part.
     pub chunks: ChunkTable,
+    /// The types of the variants, by number. Their names are the last ones, in the same order.
+    pub variants: Seq<u32>,
 }
 
 /// The loaded objects and what was found of them, by reference.

@@ -13,7 +13,7 @@ use Rattle.image_emit.specs.Bytes.{bytes_of}
 use Rattle.dylink_out.specs.Shared.{apply_body, dylink_payload}
 use Rattle.link_rules.specs.Candidates.{candidates_of}
 use Rattle.link_rules.specs.Program.{init_calls, parts_of, winners_of, program_of}
-use Rattle.link_rules.specs.Marks.{exported, repeated_export, live, pic_fault, unresolved}
+use Rattle.link_rules.specs.Marks.{exported, repeated_export, live, pic_fault, unresolved, uncalled}
 use Rattle.link_rules.specs.Keys.{imports_in_order, functions, slots, globals, types}
 use Rattle.link_rules.specs.Values.{shapes, windows}
 use Rattle.link_rules.specs.Output.{layout, image, source_windows}
@@ -22,7 +22,7 @@ use Rattle.link_rules.specs.Examples.{links, answers}
 use Rattle.link_rows.specs.Links.{rows, counted}
 
 pub all_worked : links rows ≡ answers rows
-unfolding link_by candidates_of load entries resolve program_of winners_of parts_of init_calls asked_names too_many_names clash duplicate exported repeated_export link_program marked live reached pic_fault unresolved memory_fault memory_overflow shapes laid_out layout places functions slots globals types imports_in_order table_fault written image source_windows windows output_fault reference_fault value_overflow output_bytes bytes_of u32 u32_padded s32 s32_padded s64 ctor_body apply_body dylink_payload
+unfolding link_by candidates_of load entries resolve program_of winners_of parts_of init_calls asked_names too_many_names clash duplicate exported repeated_export link_program marked live reached pic_fault unresolved uncalled memory_fault memory_overflow shapes laid_out layout places functions slots globals types imports_in_order table_fault written image source_windows windows output_fault reference_fault value_overflow output_bytes bytes_of u32 u32_padded s32 s32_padded s64 ctor_body apply_body dylink_payload
 all_worked = refl
 
 pub sixteen_names : counted ≡ 16

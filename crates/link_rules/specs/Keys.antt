@@ -161,9 +161,13 @@ function_imports_of mode p refs = filter (λ k. is_function_type k.type && has_i
 abbrev pub calls_stub : List ℕ → Ref → Bool
 calls_stub name ref = (ref.kind == relocs.FUNCTION_INDEX_LEB) && is_null ref.meaning && bytes_eq (name_of ref.entry) name
 
--- The names of null functions that live parts call, by their least entries.
+-- The symbols by which functions are called: the entries of names, and behind them the variants of functions.
+abbrev pub callable : Program → List InputSymbol
+callable p = p.entries ++ p.variants
+
+-- The names of null functions that live parts call, by their least entries; those of variants are null too.
 abbrev pub stub_names : Program → List Ref → List (List ℕ)
-stub_names p refs = distinct bytes_eq (map name_of (filter (λ e. list_any (calls_stub (name_of e)) refs) p.entries))
+stub_names p refs = distinct bytes_eq (map name_of (filter (λ e. list_any (calls_stub (name_of e)) refs) (callable p)))
 
 abbrev pub made_function_key : Part → Option FunctionKey
 made_function_key part = given ((part.chunk.input == 0) && (part.chunk.kind == chunks.FUNCTION)) (linker_function part.chunk.index)
@@ -290,7 +294,7 @@ is_function_at input index part = (part.chunk.kind == chunks.FUNCTION) && (part.
 abbrev pub type_of : Program → List Part → FunctionKey → FuncType
 type_of p parts (outside k) = function_type_of k.type
 type_of p parts (linker_function k) = no_type
-type_of p parts (stub name) = function_type_of (entry_type (first_entry p.entries name))
+type_of p parts (stub name) = function_type_of (entry_type (first_entry (callable p) name))
 type_of p parts (own input index) = part_type (find (is_function_at input index) parts)
 
 abbrev pub window_types : List Part → List FuncType

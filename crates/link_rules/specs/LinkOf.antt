@@ -11,7 +11,7 @@ use Rattle.made_symbols.specs.declared.mode.Mode.{Mode}
 use Rattle.made_symbols.specs.declared.mode.Mode.TheVariants.{Plain}
 use Rattle.round_rules.specs.Rounds.{load}
 use Rattle.name_rules.specs.Entries.{InputSymbol, name_of}
-use Rattle.name_rules.specs.Cases.{clash, duplicate}
+use Rattle.name_rules.specs.Cases.{clash_by, duplicate}
 use Rattle.memory_layout.specs.Memory.{Passed, memory_overflow}
 use Rattle.table_layout.specs.Slots.{table_overflow}
 use Rattle.reloc_apply.specs.declared.window.Window.{Window}
@@ -22,7 +22,7 @@ use Rattle.image_emit.specs.Filled.{tree_filled}
 use Rattle.link_plan.specs.declared.plan.Plan.{Plan}
 use Rattle.link_rules.specs.Candidates.{Readers, candidates_of}
 use Rattle.link_rules.specs.Program.{Program, Part, program_of}
-use Rattle.link_rules.specs.Marks.{demanded, exported, repeated_export, live, pic_fault, unresolved}
+use Rattle.link_rules.specs.Marks.{demanded, exported, repeated_export, live, pic_fault, unresolved, uncalled}
 use Rattle.link_rules.specs.Values.{Layout, rules_of, shapes}
 use Rattle.link_rules.specs.Output.{layout, image, source_windows, held}
 
@@ -93,6 +93,7 @@ abbrev pub resolved : Mode → Program → List InputSymbol → List Part → Re
 resolved mode p exports parts = do
   parts ← unless (pic_fault mode parts) parts
   parts ← unless (unresolved p parts) parts
+  parts ← unless (uncalled mode p parts) parts
   laid_out mode p exports parts
 
 unfoldable pub marked : Mode → Program → List InputSymbol → Result (List ℕ) Fault
@@ -104,11 +105,11 @@ exporting mode p exports = do
   marked mode p exports
 
 -- The link of the loaded objects: too many names, a clash, a duplicate, a repeated export, code that isn't position-independent, an
--- unresolved name, an overflow; else the output.
+-- unresolved name, constructors that nothing calls, an overflow; else the output.
 unfoldable pub link_program : Mode → Program → Result (List ℕ) Fault
 link_program mode p = do
   p ← unless (too_many_names p) p
-  p ← unless (clash p.entries) p
+  p ← unless (clash_by p.plan.like_lld p.entries) p
   p ← unless (duplicate p.entries) p
   exporting mode p (exported mode p)
 

@@ -4,7 +4,7 @@ use Rattle.object_file.specs.declared.object.Object.{Object}
 use Rattle.made_symbols.specs.declared.mode.Mode.TheVariants.{Plain}
 use Rattle.link_rules.specs.LinkOf.{link_by}
 use Rattle.object_file.specs.wl_base.declared.fault.Fault.{Fault}
-use Rattle.object_file.specs.wl_base.declared.fault.Fault.TheVariants.{Unresolved, IndexLies}
+use Rattle.object_file.specs.wl_base.declared.fault.Fault.TheVariants.{Unresolved, IndexLies, Uncalled}
 use Rattle.lib_index.specs.Library.{Contents}
 use Rattle.link_rules.specs.Examples.{hex, Row, plan_of, exporting, read_as, read_with, empty_object, span, function_symbol, datum_symbol, body_at, names, group_of, segment_at, function_import, plain_type}
 use Rattle.link_rules.specs.NameRows.{header, storage}
@@ -101,6 +101,37 @@ skipped_init = record {
   answer = Ok (header ++ hex (codes "01 04 01 60 00 00 03 03 02 00 00") ++ storage ++ exported_constructors ++ hex (codes "0A 0D 02 08 00 10 81 80 80 80 00 0B 02 00 0B"));
 }
 
+-- An object has an init function, and a function f beside it; nothing calls the linker's function. In a link that is like lld's this is
+-- refused where f is live, but not where f is dead, nor where the words export the linker's function; and elsewhere it is let through.
+abbrev pub beside_init : Object
+beside_init = record (empty_object 1) {
+  types = plain_type ∷ [];
+  functions = body_at 0 (span 0 2) [] ∷ body_at 0 (span 0 2) [] ∷ [];
+  symbols = function_symbol 2 (codes "i") 0 ∷ function_symbol 0 (codes "f") 1 ∷ [];
+  inits = record { priority = 100; symbol = 0 } ∷ [];
+}
+
+abbrev pub with_init : Bool → List (List ℕ) → Result (List ℕ) Fault
+with_init like_lld exports = link_by Plain (read_as (beside_init ∷ [])) (record (exporting 1 exports) { like_lld = like_lld }) (hex (codes "00 0B") ∷ [])
+
+abbrev pub only_f : List ℕ
+only_f = header ++ hex (codes "01 04 01 60 00 00 03 02 01 00") ++ storage ++ hex (codes "07 0E 02 06 6D 65 6D 6F 72 79 02 00 01 66 00 00 0A 04 01 02 00 0B")
+
+abbrev pub init_lost : Row
+init_lost = record { link = with_init true (codes "f" ∷ []); answer = Err Uncalled }
+
+abbrev pub init_left_out : Row
+init_left_out = record { link = with_init false (codes "f" ∷ []); answer = Ok only_f }
+
+abbrev pub init_dead : Row
+init_dead = record { link = with_init true []; answer = Ok (header ++ storage ++ hex (codes "07 0A 01 06 6D 65 6D 6F 72 79 02 00")) }
+
+abbrev pub init_exported : Row
+init_exported = record {
+  link = with_init true constructors;
+  answer = Ok (header ++ hex (codes "01 04 01 60 00 00 03 03 02 00 00") ++ storage ++ exported_constructors ++ hex (codes "0A 0D 02 08 00 10 81 80 80 80 00 0B 02 00 0B"));
+}
+
 -- ---- live chunks
 
 -- f calls g, which calls h; d calls h, and nothing refers to d
@@ -185,4 +216,4 @@ lying_index = record {
 }
 
 abbrev pub rows : List Row
-rows = one_copy ∷ no_copy_kept ∷ local_member ∷ by_priorities ∷ no_inits ∷ skipped_init ∷ dead_dropped ∷ dead_kept ∷ two_rounds ∷ weak_reference ∷ lying_index ∷ []
+rows = one_copy ∷ no_copy_kept ∷ local_member ∷ by_priorities ∷ no_inits ∷ skipped_init ∷ init_lost ∷ init_left_out ∷ init_dead ∷ init_exported ∷ dead_dropped ∷ dead_kept ∷ two_rounds ∷ weak_reference ∷ lying_index ∷ []

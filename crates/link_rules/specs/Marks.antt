@@ -1,11 +1,11 @@
 -- What is exported, what is live, and which names stay unresolved.
-use Rattle.std.specs.Prelude.{ℕ, ◌+◌, ◌==◌, Bool, true, false, not, ◌&&◌, ◌||◌, List, [], ◌∷◌, ◌++◌, map, filter, filter_map, flat_map, find, length, position, slice_get, if◌then◌else◌, Option, None, unwrap_or, option_map, option_and_then, option_to_list, bytes_eq}
+use Rattle.std.specs.Prelude.{ℕ, ◌+◌, ◌==◌, Bool, true, false, not, ◌&&◌, ◌||◌, List, [], ◌∷◌, ◌++◌, map, filter, filter_map, flat_map, find, length, position, slice_get, if◌then◌else◌, Option, Some, None, unwrap_or, option_map, option_and_then, option_to_list, bytes_eq, codes}
 use Rattle.std.specs.List.{list_any}
 use Rattle.object_file.specs.wl_base.Choice.{first_some, given, has_name}
 use Rattle.object_file.specs.wl_base.declared.fault.Fault.{Fault}
-use Rattle.object_file.specs.wl_base.declared.fault.Fault.TheVariants.{Duplicate, NotPic, Unresolved}
+use Rattle.object_file.specs.wl_base.declared.fault.Fault.TheVariants.{Duplicate, NotPic, Unresolved, Uncalled}
 use Rattle.object_file.specs.linking_section.declared.symbol.SymbolKind.TheVariants.{Function, Datum, GlobalVar}
-use Rattle.object_file.specs.linking_section.Flags.{is_exported, is_hidden, is_no_strip, is_local_definition, has_bit}
+use Rattle.object_file.specs.linking_section.Flags.{is_exported, is_hidden, is_no_strip, is_local_definition, is_weak, has_bit}
 use Rattle.object_file.specs.object_columns.declared.functions.FunctionDef.{FunctionDef}
 use Rattle.object_file.specs.reloc_section.declared.kinds.TheConstants as relocs
 use Rattle.made_symbols.specs.declared.mode.Mode.{Mode}
@@ -17,7 +17,7 @@ use Rattle.mark_bits.specs.declared.chunk.Chunk.{Chunk}
 use Rattle.mark_bits.specs.declared.kinds.TheConstants as chunks
 use Rattle.live_mark.specs.Live.{reached, is_among}
 use Rattle.link_plan.specs.declared.plan.Plan.{Plan}
-use Rattle.link_rules.specs.Program.{Program, Part, Content, segment, function, global, linker_made, Ref, refs, chunk_of, meant_chunk, same_chunk, init_calls}
+use Rattle.link_rules.specs.Program.{Program, Part, Content, segment, function, global, linker_made, Ref, refs, chunk_of, meant_chunk, same_chunk, init_calls, init_calls_in}
 
 abbrev pub by_mode : {A : Type 0} → Mode → A → A → A
 by_mode Plain a b = a
@@ -224,3 +224,46 @@ unresolved p parts = first_some
     (first_some (map (missing p) (demanded p.plan))
     ∷ option_map (λ e. Unresolved (name_of e) e.input) (find (is_open (refs_of parts)) (all_symbols p))
     ∷ [])
+
+-- ---- constructors that nothing calls, in a plain output that is like lld's: where no object names `__wasm_call_ctors`, lld wraps each exported
+-- function in one that calls constructors and destructors. Where something would be lost without that, the link is refused.
+
+abbrev pub ctors_name : List ℕ
+ctors_name = codes "__wasm_call_ctors"
+
+-- whether an object has an entry of the name, or the words name it as the entry or by `--export`
+abbrev pub names_ctors : Program → Bool
+names_ctors p = has_name (demanded p.plan) ctors_name || list_any (λ e. not (e.input == 0) && is_named ctors_name e) p.entries
+
+abbrev pub is_in : ℕ → Part → Bool
+is_in input part = part.chunk.input == input
+
+abbrev pub is_at_chunk : Option Chunk → Part → Bool
+is_at_chunk None part = false
+is_at_chunk (Some c) part = same_chunk c part.chunk
+
+-- whether an init function of an object isn't skipped, and a part of the object is live beside it
+abbrev pub loses_inits : List Part → Resolved → Bool
+loses_inits parts r =
+    list_any (λ c. list_any (λ part. is_in r.object.input part && not (is_at_chunk (meant_chunk c.ref.meaning) part)) parts) (init_calls_in r)
+
+-- The winner of a name, if it is strong.
+abbrev pub strong_winner : Program → List ℕ → Option InputSymbol
+strong_winner p name = find (λ e. is_named name e && not (is_weak e.symbol)) p.winners
+
+-- whether there is such a winner, and a part of its input, or its own one, is live
+abbrev pub lives_with : List Part → Option InputSymbol → Bool
+lives_with parts None = false
+lives_with parts (Some e) = list_any (is_in e.input) parts
+
+abbrev pub lives_itself : List Part → Option InputSymbol → Bool
+lives_itself parts None = false
+lives_itself parts (Some e) = list_any (is_at_chunk (chunk_of e)) parts
+
+-- What `__wasm_call_dtors` of wasi-libc does at exit: it calls what `atexit` was told, and writes what stdio holds back.
+abbrev pub loses_exits : Program → List Part → Bool
+loses_exits p parts = lives_with parts (strong_winner p (codes "__funcs_on_exit")) || lives_itself parts (strong_winner p (codes "__stdio_exit"))
+
+unfoldable pub uncalled : Mode → Program → List Part → Option Fault
+uncalled Plain p parts = given (p.plan.like_lld && not (names_ctors p) && (list_any (loses_inits parts) p.resolved || loses_exits p parts)) Uncalled
+uncalled Shared p parts = None

@@ -2,10 +2,11 @@
 use Rattle.std.specs.Prelude.{ℕ, true, List, [], ◌∷◌, ◌++◌, Some, Ok, Err, codes}
 use Rattle.object_file.specs.declared.object.Object.{Object}
 use Rattle.made_symbols.specs.declared.mode.Mode.TheVariants.{Plain}
+use Rattle.link_plan.specs.declared.plan.Plan.{Plan}
 use Rattle.link_rules.specs.LinkOf.{link_by}
 use Rattle.object_file.specs.wl_base.declared.fault.Fault.TheVariants.{Duplicate, Unresolved, Clash}
 use Rattle.object_file.specs.wasm_types.declared.value.ValType.TheVariants.{I32, I64}
-use Rattle.link_rules.specs.Examples.{hex, Row, plan_of, exporting, read_as, empty_object, span, function_symbol, body_at, names, function_import, plain_type, int_type}
+use Rattle.link_rules.specs.Examples.{hex, Row, plan_of, exporting, read_as, empty_object, span, function_symbol, datum_symbol, segment_at, body_at, names, function_import, plain_type, int_type}
 
 -- what every module here begins with, and its table and memory: one slot, two pages
 abbrev pub header : List ℕ
@@ -110,6 +111,59 @@ differing = record {
   answer = Err (Clash (codes "g") 1 2);
 }
 
+-- In a link that is like lld's f calls g as (i32) to (), which is a call of a function of this type that traps; h takes its address, which
+-- is that of the definition of input 2.
+abbrev pub otherwise : Object
+otherwise = record (empty_object 1) {
+  types = record { params = I32 ∷ []; results = [] } ∷ plain_type ∷ [];
+  imports = function_import (codes "env") (codes "g") 0 ∷ [];
+  functions = body_at 1 (span 0 10) (names 0 4 2 ∷ []) ∷ body_at 1 (span 10 9) (names 1 2 2 ∷ []) ∷ [];
+  symbols = function_symbol 0 (codes "f") 1 ∷ function_symbol 0 (codes "h") 2 ∷ function_symbol 0x10 (codes "g") 0 ∷ [];
+}
+
+abbrev pub otherwise_file : List ℕ
+otherwise_file = hex (codes "00 41 00 10 80 80 80 80 00 0B 00 41 80 80 80 80 00 1A 0B")
+
+abbrev pub defining_g : Object
+defining_g = record (empty_object 2) { types = plain_type ∷ []; functions = body_at 0 (span 0 2) [] ∷ []; symbols = function_symbol 0 (codes "g") 0 ∷ [] }
+
+abbrev pub like_lld : List (List ℕ) → Plan
+like_lld exports = record (exporting 2 exports) { like_lld = true }
+
+abbrev pub called_otherwise : Row
+called_otherwise = record {
+  link = link_by Plain (read_as (otherwise ∷ defining_g ∷ [])) (like_lld (codes "f" ∷ codes "h" ∷ [])) (otherwise_file ∷ hex (codes "00 0B") ∷ []);
+  answer = Ok (header ++ hex (codes "01 08 02 60 01 7F 00 60 00 00 03 05 04 00 01 01 01 04 05 01 70 01 02 02 05 03 01 00 02")
+      ++ hex (codes "07 12 03 06 6D 65 6D 6F 72 79 02 00 01 66 00 01 01 68 00 02 09 07 01 00 41 01 0B 01 03")
+      ++ hex (codes "0A 1D 04 03 00 00 0B 0A 00 41 00 10 80 80 80 80 00 0B 09 00 41 81 80 80 80 00 1A 0B 02 00 0B"));
+}
+
+-- Where f alone is exported, g is dead, although it is called by its name.
+abbrev pub called_alone : Row
+called_alone = record {
+  link = link_by Plain (read_as (otherwise ∷ defining_g ∷ [])) (like_lld (codes "f" ∷ [])) (otherwise_file ∷ hex (codes "00 0B") ∷ []);
+  answer = Ok (header ++ hex (codes "01 08 02 60 01 7F 00 60 00 00 03 03 02 00 01") ++ storage
+      ++ hex (codes "07 0E 02 06 6D 65 6D 6F 72 79 02 00 01 66 00 01 0A 10 02 03 00 00 0B 0A 00 41 00 10 80 80 80 80 00 0B"));
+}
+
+-- A datum g, and two references of different types without a definition, clash there too.
+abbrev pub other_kind : Row
+other_kind = record {
+  link = link_by Plain (read_as (otherwise ∷ record (empty_object 2) { segments = segment_at (span 0 2) 0 [] ∷ []; symbols = datum_symbol 0 (codes "g") 0 0 2 ∷ [] } ∷ []))
+      (like_lld (codes "f" ∷ [])) (otherwise_file ∷ hex (codes "00 0B") ∷ []);
+  answer = Err (Clash (codes "g") 2 1);
+}
+
+abbrev pub both_undefined : Row
+both_undefined = record {
+  link = link_by Plain (read_as (otherwise ∷ record (empty_object 2) {
+    types = plain_type ∷ [];
+    imports = function_import (codes "env") (codes "g") 0 ∷ [];
+    symbols = function_symbol 0x10 (codes "g") 0 ∷ [];
+  } ∷ [])) (like_lld (codes "f" ∷ [])) (otherwise_file ∷ [] ∷ []);
+  answer = Err (Clash (codes "g") 1 2);
+}
+
 -- ---- no definition
 
 -- f calls an undefined x, which has these flags
@@ -183,4 +237,5 @@ memory_twice = record {
 
 abbrev pub rows : List Row
 rows = call ∷ named_by_object ∷ nothing ∷ adding ∷ weak_first ∷ strong_first ∷ both_weak ∷ both_strong ∷ differing
+    ∷ called_otherwise ∷ called_alone ∷ other_kind ∷ both_undefined
     ∷ dead_call ∷ live_call ∷ allowed_call ∷ no_export ∷ null_call ∷ one_import ∷ memory_twice ∷ []

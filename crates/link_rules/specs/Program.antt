@@ -3,6 +3,7 @@ use Rattle.std.specs.Prelude.{ℕ, ◌+◌, ◌==◌, nat_le, Bool, true, false,
 use Rattle.object_file.specs.wl_base.declared.span.Span.{Span}
 use Rattle.object_file.specs.wl_base.declared.span.FileSpan.{FileSpan}
 use Rattle.object_file.specs.wasm_types.declared.function.FuncType.{FuncType}
+use Rattle.object_file.specs.wasm_types.Types.{val_byte}
 use Rattle.object_file.specs.linking_section.declared.symbol.SymbolKind.{SymbolKind}
 use Rattle.object_file.specs.linking_section.declared.symbol.SymbolKind.TheVariants.{Function, Datum, GlobalVar, Section, Table}
 use Rattle.object_file.specs.linking_section.declared.segment.SegmentInfo.{SegmentInfo}
@@ -21,7 +22,8 @@ use Rattle.object_file.specs.Spaces.{defined_type, written_type, function_import
 use Rattle.made_symbols.specs.declared.mode.Mode.{Mode}
 use Rattle.made_symbols.specs.Made.{made, MadeSymbol, call_ctors}
 use Rattle.round_rules.specs.Rounds.{Candidate}
-use Rattle.name_rules.specs.Entries.{InputSymbol, entries, is_kept, same_entry, name_of, made_entry}
+use Rattle.name_rules.specs.Entries.{InputSymbol, SymbolType, of_function, of_global, untyped, entries, is_kept, same_entry, name_of, made_entry}
+use Rattle.name_rules.specs.Cases.{has_other_type}
 use Rattle.name_rules.specs.Meanings.{Meaning, here, imported, null, nothing, Resolved, resolve, winner}
 use Rattle.mark_bits.specs.declared.chunk.Chunk.{Chunk}
 use Rattle.mark_bits.specs.declared.kinds.TheConstants as chunks
@@ -62,7 +64,8 @@ pub record Part : Type 0 where
   pub named : List Named
 
 -- What all later steps look at: the loaded objects, the entries of names, the winners of all names by input and place, what each
--- symbol means, and the kept parts in the order of the chunk table.
+-- symbol means, and the kept parts in the order of the chunk table. The variants are functions that are called by another type than their
+-- definition has; there are none but in a link that is like lld's.
 pub record Program : Type 0 where
   pub plan : Plan
   pub files : List (List ℕ)
@@ -71,6 +74,7 @@ pub record Program : Type 0 where
   pub winners : List InputSymbol
   pub resolved : List Resolved
   pub parts : List Part
+  pub variants : List InputSymbol
 
 -- ---- references
 
@@ -254,14 +258,76 @@ with_resolved mode plan files all objects es resolved = record {
   winners = winners_of es;
   resolved = resolved;
   parts = parts_of mode all objects resolved;
+  variants = [];
 }
 
 abbrev pub with_entries : Mode → Plan → List (List ℕ) → List Candidate → List Object → List InputSymbol → Program
 with_entries mode plan files all objects es = with_resolved mode plan files all objects es (resolve mode plan.allow_undefined es objects)
 
--- The program of the loaded objects. It is built in steps, each over what the step before gave.
+-- The program of the loaded objects, with each call as the objects have it. It is built in steps, each over what the step before gave.
+abbrev pub strict_program : Mode → Plan → List (List ℕ) → List Candidate → List Object → Program
+strict_program mode plan files all objects = with_entries mode plan files all objects (entries mode objects)
+
+-- ---- functions that are called by another type than their definition has, in a link that is like lld's
+
+-- Declarations without a prototype make such calls, and lld lets them through: each is a call of a function that traps, one for each name
+-- and type (`signature_mismatch:NAME` in lld). An address is that of the definition.
+abbrev pub is_mismatch : List InputSymbol → InputSymbol → Meaning → Bool
+is_mismatch es e (here d) = has_other_type es e
+is_mismatch es e (imported k) = false
+is_mismatch es e null = false
+is_mismatch es e nothing = false
+
+-- The name of the function that traps, by the types that it takes and gives. No object has such a name, since 0xFF stands in no UTF-8.
+abbrev pub variant_name : FuncType → List ℕ → List ℕ
+variant_name t name = 0xFF ∷ map val_byte t.params ++ 0xFF ∷ map val_byte t.results ++ 0xFF ∷ name
+
+abbrev pub renamed : SymbolType → List ℕ → List ℕ
+renamed (of_function t) name = variant_name t name
+renamed (of_global g) name = name
+renamed untyped name = name
+
+-- The symbol of that name, which nothing defines.
+abbrev pub variant : InputSymbol → InputSymbol
+variant e = record e { symbol = record e.symbol { name = Some (renamed e.type (name_of e)) } }
+
+abbrev pub variants_among : List InputSymbol → List InputSymbol → List Meaning → List InputSymbol
+variants_among all [] ms = []
+variants_among all (e ∷ es) [] = []
+variants_among all (e ∷ es) (m ∷ ms) = if is_mismatch all e m then variant e ∷ variants_among all es ms else variants_among all es ms
+
+-- The variants of all symbols, by input and place.
+abbrev pub variants_of : List InputSymbol → List Resolved → List InputSymbol
+variants_of all resolved = flat_map (λ r. variants_among all r.symbols r.meanings) resolved
+
+-- A call of such a function names its variant, which is null.
+abbrev pub loose_ref : List InputSymbol → Ref → Ref
+loose_ref all ref =
+    if (ref.kind == relocs.FUNCTION_INDEX_LEB) && is_mismatch all ref.entry ref.meaning then record ref { entry = variant ref.entry; meaning = null }
+    else ref
+
+abbrev pub loose_named : List InputSymbol → Named → Named
+loose_named all (a_symbol ref) = a_symbol (loose_ref all ref)
+loose_named all (a_type w) = a_type w
+
+abbrev pub loose_part : List InputSymbol → Part → Part
+loose_part all part = record part { named = map (loose_named all) part.named }
+
+-- The flag is whether the link is like lld's.
+abbrev pub loose_parts : Bool → List InputSymbol → List Part → List Part
+loose_parts true all parts = map (loose_part all) parts
+loose_parts false all parts = parts
+
+abbrev pub loose_variants : Bool → List InputSymbol → List Resolved → List InputSymbol
+loose_variants true all resolved = variants_of all resolved
+loose_variants false all resolved = []
+
+abbrev pub loosened : Program → Program
+loosened p = record p { parts = loose_parts p.plan.like_lld p.entries p.parts; variants = loose_variants p.plan.like_lld p.entries p.resolved }
+
+-- The program of the loaded objects.
 unfoldable pub program_of : Mode → Plan → List (List ℕ) → List Candidate → List Object → Program
-program_of mode plan files all objects = with_entries mode plan files all objects (entries mode objects)
+program_of mode plan files all objects = loosened (strict_program mode plan files all objects)
 
 -- ---- chunks
 

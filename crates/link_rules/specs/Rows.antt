@@ -4,7 +4,7 @@ use Rattle.object_file.specs.leb_codec.Shortest.{u32, u32_padded, s32, s32_padde
 use Rattle.round_rules.specs.Rounds.{load}
 use Rattle.name_rules.specs.Entries.{entries}
 use Rattle.name_rules.specs.Meanings.{resolve}
-use Rattle.name_rules.specs.Cases.{clash, duplicate}
+use Rattle.name_rules.specs.Cases.{clash, loose_clash, duplicate}
 use Rattle.live_mark.specs.Live.{reached}
 use Rattle.memory_layout.specs.Memory.{places, memory_overflow}
 use Rattle.ctor_call.specs.Body.{ctor_body}
@@ -12,7 +12,7 @@ use Rattle.reloc_apply.specs.Windows.{value_overflow}
 use Rattle.image_emit.specs.Bytes.{bytes_of}
 use Rattle.link_rules.specs.Candidates.{candidates_of}
 use Rattle.link_rules.specs.Program.{init_calls, parts_of, winners_of, program_of}
-use Rattle.link_rules.specs.Marks.{exported, repeated_export, live, pic_fault, unresolved}
+use Rattle.link_rules.specs.Marks.{exported, repeated_export, live, pic_fault, unresolved, uncalled}
 use Rattle.link_rules.specs.Keys.{imports_in_order, functions, slots, globals, types}
 use Rattle.link_rules.specs.Values.{shapes, windows}
 use Rattle.link_rules.specs.Output.{layout, image, source_windows}
@@ -29,5 +29,5 @@ abbrev pub all_rows : List Row
 all_rows = names_of.rows ++ data_of.rows ++ loading_of.rows ++ more_of.rows ++ further_of.rows
 
 pub all_worked : links all_rows ≡ answers all_rows
-unfolding link_by candidates_of load entries resolve program_of winners_of parts_of init_calls asked_names too_many_names clash duplicate exported repeated_export link_program marked live reached pic_fault unresolved memory_fault memory_overflow shapes laid_out layout places functions slots globals types imports_in_order table_fault written image source_windows windows output_fault reference_fault value_overflow output_bytes bytes_of u32 u32_padded s32 s32_padded s64 ctor_body apply_body dylink_payload
+unfolding link_by candidates_of load entries resolve program_of winners_of parts_of init_calls asked_names too_many_names clash loose_clash duplicate exported repeated_export link_program marked live reached pic_fault unresolved uncalled memory_fault memory_overflow shapes laid_out layout places functions slots globals types imports_in_order table_fault written image source_windows windows output_fault reference_fault value_overflow output_bytes bytes_of u32 u32_padded s32 s32_padded s64 ctor_body apply_body dylink_payload
 all_worked = refl

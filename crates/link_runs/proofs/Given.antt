@@ -19,8 +19,8 @@ use Rattle.made_symbols.specs.Made.{MadeSymbol, made}
 use Rattle.made_symbols.specs.declared.mode.Mode.TheVariants.{Plain}
 use Rattle.name_rules.specs.Entries.{InputSymbol, ImportKey, SymbolType, is_kind, name_of, is_named, entries, symbols_of, import_in, type_in, key_of, same_import}
 use Rattle.name_rules.specs.Meanings.{Meaning, here, imported, null, nothing, Resolved, resolved_in, resolve, meaning, no_uses}
-use Rattle.name_rules.specs.Cases.{clash}
-use Rattle.link_rules.specs.Program.{Program, program_of, Part, Content, function, segment, global, linker_made, parts_of, init_calls}
+use Rattle.name_rules.specs.Cases.{clash_by}
+use Rattle.link_rules.specs.Program.{Program, strict_program, program_of, loose_part, loose_parts, Part, Content, function, segment, global, linker_made, parts_of, init_calls}
 use Rattle.link_rules.specs.Marks.{exported, memory_name, export_name, written_name, resolved_at}
 use Rattle.link_rules.specs.Keys.{imports_in_order, import_of}
 use Rattle.image_emit.specs.Spelled.{IsConstant}
@@ -94,10 +94,10 @@ import_named o n s Section i e = absurd (grind arith)
 import_named o n s Table i e = n.imports i (has_filter _ o.imports i (has_at _ s.index i e)).0
 
 module _ (plan : Plan) (files : List (List ℕ)) (all : List Candidate) (objects : List Object) (loaded : AreLoaded objects)
-    (clear : clash (entries Plain objects) ≡ None) (are : (o : Object) → Has objects o → ObjectNamed o)
+    (clear : clash_by plan.like_lld (entries Plain objects) ≡ None) (are : (o : Object) → Has objects o → ObjectNamed o)
     (fit : (o : Object) → Has objects o → (g : GlobalDef) → Has o.globals g → IsConstant g.value) where
   abbrev p : Program
-  p = program_of Plain plan files all objects
+  p = strict_program Plain plan files all objects
 
   abbrev es : List InputSymbol
   es = entries Plain objects
@@ -106,7 +106,7 @@ module _ (plan : Plan) (files : List (List ℕ)) (all : List Candidate) (objects
   res o = resolved_in Plain no_uses plan.allow_undefined es objects o
 
   resolved_is : p.resolved ≡ map res objects
-  unfolding program_of resolve
+  unfolding resolve
   resolved_is = refl
 
   entry_named : (e : InputSymbol) → Known objects e → IsUtf8 (name_of e)
@@ -172,3 +172,20 @@ module _ (plan : Plan) (files : List (List ℕ)) (all : List Candidate) (objects
   contents part h =
       ⊎_elim (λ m. subst (λ (x : Part). ContentFits x.content) (sym m.is) tt) (λ b. in_object b.0 b.1 part (stood all objects (res b.0) part b.2))
       (made_or_object all objects res (λ o. refl) (init_calls (map res objects)) part (subst (λ xs. Has xs part) (parts_are plan files all objects loaded clear) h))
+
+  -- the same of the program with its calls loosened
+  pub loose_contents : (part : Part) → Has (program_of Plain plan files all objects).parts part → ContentFits part.content
+  unfolding program_of
+  loose_contents part h = by plan.like_lld h
+    where
+      by : (b : Bool) → Has (loose_parts b p.entries p.parts) part → ContentFits part.content
+      by false h = contents part h
+      by true h = let r = has_map (loose_part p.entries) p.parts part h in subst (λ (x : Part). ContentFits x.content) r.2 (contents r.0 r.1)
+
+  pub loose_key_named : (k : ImportKey) → Has (imports_in_order (program_of Plain plan files all objects)) k → KeyNamed k
+  unfolding program_of imports_in_order
+  loose_key_named = key_named
+
+  pub loose_export_named : (e : InputSymbol) → Has (exported Plain (program_of Plain plan files all objects)) e → IsUtf8 (export_name (program_of Plain plan files all objects) e)
+  unfolding program_of exported
+  loose_export_named = export_named

@@ -1,3 +1,4 @@
+mod Fitting
 mod OutputsRun
 mod Candidates
 mod Ranges

@@ -12,7 +12,7 @@ use Rattle.round_rules.specs.Rounds.{Candidate, load}
 use Rattle.link_plan.specs.declared.plan.Plan.{Plan}
 use Rattle.made_symbols.specs.declared.mode.Mode.TheVariants.{Plain}
 use Rattle.name_rules.specs.Entries.{InputSymbol}
-use Rattle.name_rules.specs.Cases.{clash}
+use Rattle.name_rules.specs.Cases.{clash_by}
 use Rattle.link_rules.specs.Candidates.{candidates_of}
 use Rattle.link_rules.specs.Program.{Program, program_of, Part}
 use Rattle.link_rules.specs.Marks.{live, exported}
@@ -34,7 +34,7 @@ use Rattle.image_emit.specs.Spelled.{entries, IsConstant as IsInRange}
 use Rattle.link_runs.proofs.Constants.{constants_of}
 use Rattle.link_runs.proofs.Few.{few_functions, few_types, spells}
 use Rattle.link_runs.proofs.Names.{ObjectNamed, names_of}
-use Rattle.link_runs.proofs.Given.{key_named, export_named, contents}
+use Rattle.link_runs.proofs.Given.{loose_key_named, loose_export_named, loose_contents}
 use Rattle.link_runs.proofs.Length.{short}
 use Rattle.link_runs.proofs.Limits.{memory_fits, table_fits}
 use Rattle.link_runs.proofs.Ranged.{ranged, few_global_keys}
@@ -86,27 +86,28 @@ module _ (plan : Plan) (files : List (List ℕ)) (all : List Candidate) (objects
   entries_are = refl
 
   in_ranges : ((t : Tree) → entries t ≤ length (bytes_of_tree t)) → IsPlan plan → (loaded : IsLoaded files all objects (map home_of all)) → ((o : Object) → Has objects o → IsFrom files all o)
-      → clash (program_of Plain plan files all objects).entries ≡ None
+      → clash_by plan.like_lld (program_of Plain plan files all objects).entries ≡ None
       → (let p = program_of Plain plan files all objects in let x = exported Plain p in Facts p x → NoFault p x (layout_of p x)
       → output_fault p (image Plain p (live p x) x (layout_of p x)) ≡ None → IsRanged (linked_tree p (live p x) x (layout_of p x)))
   in_ranges law fit loaded from clear f n o =
       let p = program_of Plain plan files all objects in
       let x = exported Plain p in
       let are = are_loaded files all objects (map home_of all) loaded in
-      let clear' = ap clash (sym entries_are) ∙ clear in
+      let clear' = ap (clash_by plan.like_lld) (sym entries_are) ∙ clear in
       let named : (o : Object) → Has objects o → ObjectNamed o = λ o h. names_of o.input (bytes_of files (from o h).candidate) o (from o h).is in
       let fits : (o : Object) → Has objects o → (g : GlobalDef) → Has o.globals g → IsInRange g.value = λ o h g m. (constants_of o.input (bytes_of files (from o h).candidate) o (from o h).is g m).1 in
       let s = short p x f.measured.stand o in
       ranged p (live p x) x (few_functions p (live p x) x (layout_of p x) law s) (few_types p (live p x) x (layout_of p x) law s)
       (few_global_keys p (live p x) x (λ part h. f.constants part (live_part p x part h)) law s)
-      (key_named plan files all objects are clear' named fits) (export_named plan files all objects are clear' named fits)
-      (λ part h. contents plan files all objects are clear' named fits part (live_part p x part h))
+      (loose_key_named plan files all objects are clear' named fits) (loose_export_named plan files all objects are clear' named fits)
+      (λ part h. loose_contents plan files all objects are clear' named fits part (live_part p x part h))
       (memory_fits p x (subst IsPlan (sym plan_is) fit) n.memory) s (table_fits p x n.table)
 
 gives_bytes : ((t : Tree) → entries t ≤ length (bytes_of_tree t)) → OutputRuns → FactsHold → LoadedAreSound → (plan : Plan) (files : List (List ℕ)) (bytes : List ℕ) (all : List Candidate) (objects : List Object)
     → IsPlan plan → length files ≡ unwrap_or plan.make_case (length plan.inputs)
     → candidates_of the_readers plan files ≡ Ok all → load Plain (asked_names plan) all ≡ Ok objects → link_of plan files ≡ Ok bytes
     → Gives (program_of Plain plan files all objects) (exported Plain (program_of Plain plan files all objects)) bytes
+unfolding program_of
 gives_bytes law runs facts loads plan files bytes all objects fit long c l e =
     let p = program_of Plain plan files all objects in
     let loaded = (loads Plain plan files (asked_names plan) all objects long c l).1 in

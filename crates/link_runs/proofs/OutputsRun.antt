@@ -5,13 +5,14 @@ use Rattle.wasm_instr.specs.BodyLaws.{body_again}
 use Rattle.name_rules.specs.Entries.{InputSymbol}
 use Rattle.link_rules.specs.Program.{Program, Part}
 use Rattle.link_rules.specs.Values.{part_bytes}
-use Rattle.link_worlds.specs.Worlds.{layout_of}
+use Rattle.link_worlds.specs.Worlds.{layout_of, linked_module}
 use Rattle.link_worlds.specs.Sound.{IsShaped, Shaped, Takes}
 use Rattle.link_worlds.specs.Statements.{LinkedBy, RunsAgree}
 use Rattle.output_module.specs.Filled.{TakenBody}
 use Rattle.output_module.specs.Outputs.{OutputIsRead}
 use Rattle.link_facts.specs.Faults.{ValuesFit, MemoryHolds}
 use Rattle.link_runs.specs.Runs.{IsRun, IsAccepted, OutputRuns}
+use Rattle.link_runs.proofs.Fitting.{linked_fits, fits_but_places}
 
 shaped : TakenBody → (p : Program) (exports : List InputSymbol) (part : Part) → IsRun p part → IsShaped p part
 shaped taken p exports part r =
@@ -43,4 +44,5 @@ output_law agree read taken fit hold p exports a =
       only = r.only;
       linked = r.linked;
       runs = λ s n e. agree s p exports n (linked taken fit p exports a) (hold s p exports a.sound a.measured a.no_fault e) ∙ sym (r.runs s n);
+      fits = λ s e. fits_but_places s (linked_module p exports) r.is r.linked (linked_fits s p exports (hold s p exports a.sound a.measured a.no_fault e));
     }

@@ -9,7 +9,7 @@ use Rattle.made_symbols.specs.declared.mode.Mode.TheVariants.{Plain}
 use Rattle.name_rules.specs.Entries.{InputSymbol}
 use Rattle.image_emit.specs.Spelled.{IsSpellable}
 use Rattle.run_rules.specs.declared.session.Session.{Session}
-use Rattle.run_rules.specs.Modules.{module_trace}
+use Rattle.run_rules.specs.Modules.{module_trace, fits_session}
 use Rattle.link_rules.specs.Program.{Program, Part, Ref, refs}
 use Rattle.link_rules.specs.Marks.{live}
 use Rattle.link_rules.specs.Keys.{is_function_at}
@@ -44,7 +44,7 @@ pub record IsAccepted (p : Program) (exports : List InputSymbol) : Type 0 where
   pub spellable : IsSpellable (linked_tree p (live p exports) exports (layout_of p exports))
 
 -- The bytes spell one module by the grammar of modules (Core 5.5): the live functions of the program with numbers for their references, and
--- nothing dead (`linked_module`), but for places. It gives the traces of the plan and the files.
+-- nothing dead (`linked_module`), but for places. It gives the traces of the plan and the files, and its segments fit its table and its memory.
 pub record Gives (p : Program) (exports : List InputSymbol) (bytes : List ℕ) : Type 0 where
   pub is : Module
   pub read : module_of bytes ≡ Ok is
@@ -52,6 +52,7 @@ pub record Gives (p : Program) (exports : List InputSymbol) (bytes : List ℕ) :
   pub only : (other : Module) → IsModule other bytes → other ≡ is
   pub linked : SameButPlaces (linked_module p exports) is
   pub runs : (s : Session) (n : ℕ) → Enough s (layout_of p exports) → plan_trace s p exports n ≡ module_trace s is n
+  pub fits : (s : Session) → Enough s (layout_of p exports) → fits_session s is ≡ true
 
 abbrev pub OutputRuns : Type 0
 OutputRuns = (p : Program) (exports : List InputSymbol) → IsAccepted p exports

@@ -5,8 +5,8 @@ ghost use Rattle.link_runs.specs.Links.{LinksRun};
 ghost use Rattle.link_runs.specs.Runs.{OutputRuns};
 
 /// Where a link makes sure of what `IsAccepted` lists, the output's bytes are read as a module, and
-/// for each session that gives an imported memory enough pages, and each number of steps, its trace
-/// is the one that the plan and the files give.
+/// for each session that gives an imported memory enough pages its segments fit, and for each number
+/// of steps its trace is the one that the plan and the files give.
 pub fn outputs_run()
     ensures { OutputRuns }
 {

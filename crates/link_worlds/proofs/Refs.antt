@@ -8,13 +8,13 @@ use Rattle.list_places.proofs.Lists.{by_test, has_left, has_right, first_of, sec
 use Rattle.wl_base.specs.Choice.{given, distinct, distinct_onto}
 use Rattle.linking_section.specs.declared.symbol.SymbolKind.TheVariants.{Function, GlobalVar}
 use Rattle.name_rules.specs.Entries.{InputSymbol, ImportKey, is_kind, name_of, same_import}
-use Rattle.name_rules.specs.Meanings.{Meaning, here, imported, null, nothing}
+use Rattle.name_rules.specs.Meanings.{Meaning, here, imported, null, nothing, is_nothing}
 use Rattle.mark_bits.specs.declared.chunk.Chunk.{Chunk}
 use Rattle.live_mark.specs.Live.{ReachedLaw}
 use Rattle.made_symbols.specs.declared.mode.Mode.TheVariants.{Plain}
 use Rattle.link_rules.specs.Program.{Program, Part, Ref, refs, chunk_of, chunk_by, chunk_at, meant_chunk}
 use Rattle.link_rules.specs.Marks.{live, unresolved, refs_of}
-use Rattle.link_rules.specs.Keys.{FunctionKey, GlobalKey, outside, linker_function, stub, own, outside_global, linker_global, own_global, got, same_function, same_global, functions, globals, function_imports_of, used_globals, stub_names, calls_stub, made_function_key, own_function_key, made_global_key, own_global_key, ref_function, ref_global, ref_got, meant_function, meant_global, function_of, global_of, imports_in_order, is_function_type, is_global_type, has_import, used_imports, imports_by, import_of, is_null, got_entries, datum_key, function_number, global_number}
+use Rattle.link_rules.specs.Keys.{FunctionKey, GlobalKey, outside, linker_function, stub, own, outside_global, linker_global, own_global, got, same_function, same_global, functions, globals, function_imports_of, used_globals, stub_names, calls_stub, made_function_key, own_function_key, made_global_key, own_global_key, ref_function, ref_global, ref_got, meant_function, meant_global, function_of, global_of, imports_in_order, is_function_type, is_global_type, has_import, used_imports, imports_by, import_of, is_null, got_entries, datum_key, function_number, global_number, callable}
 use Rattle.link_worlds.specs.Names.{all_functions, all_cells, null_name, renaming, FunctionGets, CellGets}
 use Rattle.link_rules.specs.Output.{layout}
 use Rattle.link_worlds.specs.Sound.{Sound, SoundRef, SoundHere, SoundImport, SoundNull, SoundMeaning, PartOf}
@@ -122,7 +122,7 @@ module _ (law : ReachedLaw) (p : Program) (exports : List InputSymbol) (sound : 
     said = sound.refs part ref (live_part p exports part h) r
 
     not_nothing : ref.meaning ≡ nothing → ⊥
-    not_nothing m = resolved p (live p exports) ref open' in_refs said.known m
+    not_nothing m = resolved p (live p exports) ref open' in_refs (said.known (ap is_nothing m)) m
 
     used : (k : ImportKey) → ref.meaning ≡ imported k → has_import (used_imports (filter (imports_by Plain) (refs_of (live p exports)))) k ≡ true
     used k m = any_has (same_import k) (used_imports (filter (imports_by Plain) (refs_of (live p exports)))) k
@@ -165,8 +165,8 @@ module _ (law : ReachedLaw) (p : Program) (exports : List InputSymbol) (sound : 
           let t1 : is_null ref.meaning ≡ true = ap is_null m in
           let t2 : bytes_eq n (name_of s.entry) ≡ true = ap (bytes_eq n) s.name ∙ bytes_same.itself n in
           let calls = and_from ((ref.kind == 0) && is_null ref.meaning) (bytes_eq n (name_of s.entry)) (and_from (ref.kind == 0) (is_null ref.meaning) t0 t1) t2 in
-          let a = filter_has test p.entries s.entry s.listed (any_has (calls_stub (name_of s.entry)) (refs_of parts) ref in_refs calls) in
-          let d = distinct_has bytes_eq bytes_same (map name_of (filter test p.entries)) n (subst (λ x. Has (map name_of (filter test p.entries)) x) s.name (map_has name_of (filter test p.entries) s.entry a)) in
+          let a = filter_has test (callable p) s.entry s.listed (any_has (calls_stub (name_of s.entry)) (refs_of parts) ref in_refs calls) in
+          let d = distinct_has bytes_eq bytes_same (map name_of (filter test (callable p))) n (subst (λ x. Has (map name_of (filter test (callable p))) x) s.name (map_has name_of (filter test (callable p)) s.entry a)) in
           let f = and_from (is_null ref.meaning) (is_kind Function ref.entry) t1 (s.function zero') in
           let b = pick_has null_name (refs_of p.parts) ref n in_all (ap (λ t. given t n) f) in
           let e = distinct_has bytes_eq bytes_same (filter_map null_name (refs_of p.parts)) n b in

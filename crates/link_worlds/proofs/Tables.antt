@@ -17,7 +17,7 @@ use Rattle.name_rules.specs.Entries.{InputSymbol, ImportKey, is_kind, name_of}
 use Rattle.name_rules.specs.Meanings.{Meaning, here, imported, null, nothing}
 use Rattle.link_rules.specs.Program.{Program, Part, Ref, refs}
 use Rattle.link_rules.specs.Marks.{live, refs_of}
-use Rattle.link_rules.specs.Keys.{FunctionKey, outside, stub, same_function, functions, function_imports_of, made_function_key, own_function_key, stub_names, calls_stub, imports_in_order, is_function_type, has_import, used_imports, imports_by, is_null, function_number, slots, is_taken, takes_slot, ref_function}
+use Rattle.link_rules.specs.Keys.{FunctionKey, outside, stub, same_function, functions, function_imports_of, made_function_key, own_function_key, stub_names, calls_stub, imports_in_order, is_function_type, has_import, used_imports, imports_by, is_null, function_number, slots, is_taken, takes_slot, ref_function, callable}
 use Rattle.link_rules.specs.Values.{Layout}
 use Rattle.link_rules.specs.Output.{layout, imports, table, elements}
 use Rattle.link_worlds.specs.Names.{all_functions, null_name, renaming, function_place}
@@ -51,9 +51,9 @@ module _ (p : Program) (exports : List InputSymbol) (sound : Sound p) where
   stub_there : (name : List ℕ) → Has (stub_names p (refs_of parts)) name → There (stub name)
   stub_there name h =
       let test = λ (e : InputSymbol). list_any (calls_stub (name_of e)) (refs_of parts) in
-      let a : Has (map name_of (filter test p.entries)) name = ⊎_elim (λ n. absurd n) (λ m. m) (distinct_only bytes_eq [] (map name_of (filter test p.entries)) name h) in
-      let r = has_map name_of (filter test p.entries) name a in
-      let f = has_filter test p.entries r.0 r.1 in
+      let a : Has (map name_of (filter test (callable p))) name = ⊎_elim (λ n. absurd n) (λ m. m) (distinct_only bytes_eq [] (map name_of (filter test (callable p))) name h) in
+      let r = has_map name_of (filter test (callable p)) name a in
+      let f = has_filter test (callable p) r.0 r.1 in
       let c = has_any (calls_stub (name_of r.0)) (refs_of parts) f.1 in
       let ref = c.0 in
       let t = and_parts ((ref.kind == 0) && is_null ref.meaning) (bytes_eq (name_of ref.entry) (name_of r.0)) c.2 in

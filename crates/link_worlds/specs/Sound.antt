@@ -16,13 +16,13 @@ use Rattle.wasm_instr.specs.Bodies.{body_at}
 use Rattle.linking_section.specs.declared.symbol.SymbolKind.TheVariants.{Function, GlobalVar}
 use Rattle.made_symbols.specs.declared.mode.Mode.TheVariants.{Plain}
 use Rattle.name_rules.specs.Entries.{InputSymbol, ImportKey, is_kind, name_of, same_entry}
-use Rattle.name_rules.specs.Meanings.{Meaning, here, imported, null, nothing}
+use Rattle.name_rules.specs.Meanings.{Meaning, here, imported, null, nothing, is_nothing}
 use Rattle.mark_bits.specs.declared.chunk.Chunk.{Chunk}
 use Rattle.reloc_apply.specs.Windows.{fits}
 use Rattle.image_emit.specs.Bytes.{Block}
 use Rattle.link_rules.specs.Program.{Program, Part, Content, function, segment, global, linker_made, Ref, Named, a_symbol, a_type, refs, chunk_of, same_chunk}
 use Rattle.link_rules.specs.Marks.{all_symbols, refs_of}
-use Rattle.link_rules.specs.Keys.{GlobalKey, outside_global, linker_global, own_global, got, exported_datum, imports_in_order, is_function_type, is_global_type}
+use Rattle.link_rules.specs.Keys.{GlobalKey, outside_global, linker_global, own_global, got, exported_datum, imports_in_order, is_function_type, is_global_type, callable}
 use Rattle.link_rules.specs.Values.{Layout, part_bytes, named_window, made_global_value, got_value, address_of}
 use Rattle.link_worlds.specs.Bodies.{named_at, first_place}
 
@@ -48,7 +48,7 @@ pub record SoundImport (p : Program) (ref : Ref) (k : ImportKey) : Type 0 where
 
 pub record SoundNull (p : Program) (ref : Ref) : Type 0 where
   pub entry : InputSymbol
-  pub listed : Has p.entries entry
+  pub listed : Has (callable p) entry
   pub name : name_of entry ≡ name_of ref.entry
   pub function : ref.kind ≡ 0 → is_kind Function ref.entry ≡ true
   pub global : is_kind GlobalVar ref.entry ≡ true → ⊥
@@ -60,7 +60,7 @@ SoundMeaning p ref null = SoundNull p ref
 SoundMeaning p ref nothing = Unit {0}
 
 pub record SoundRef (p : Program) (part : Part) (ref : Ref) : Type 0 where
-  pub known : Has (all_symbols p) ref.entry
+  pub known : is_nothing ref.meaning ≡ true → Has (all_symbols p) ref.entry
   pub code : ref.kind ≡ 7 → part.chunk.kind ≡ 0
   pub meant : SoundMeaning p ref ref.meaning
 

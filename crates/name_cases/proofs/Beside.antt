@@ -40,7 +40,7 @@ counted_is true n k h = h
 counted_is false n k h = cc
 
 module _ (q : Question) (names : List (List ℕ)) (rows : List (List InputSymbol)) (all : List InputSymbol) (column : List (Option Spot)) where
-  spot_case_is : AreFirsts q names rows all column → (s : Spot) → spot_case q names rows column s ≡ option_and_then (case_at q names all) (symbol_in rows s)
+  pub spot_case_is : AreFirsts q names rows all column → (s : Spot) → spot_case q names rows column s ≡ option_and_then (case_at q names all) (symbol_in rows s)
   spot_case_is firsts s = by (symbol_in rows s) refl
     where
       -- the least one of the name stands at f

@@ -1,6 +1,6 @@
 -- The column of the least entries gains a symbol.
 use Rattle.std.proofs.Common.{◌≡◌, ◌≢◌, ℕ, ◌+◌, ◌<◌, Bool, true, false, cond, ◌&&◌, List, [], ◌∷◌, ◌++◌, length, get_or, set, replicate, take, filter, slice_get, Option, Some, None, refl, sym, ap, ◌∙◌, subst, arith, append_assoc, nat_lt, inl, inr, ◌⊎◌}
-use Rattle.std.specs.List.{flat_map, IsDistinct}
+use Rattle.std.specs.List.{find, flat_map, IsDistinct}
 use Rattle.std.specs.Option.{option_map, option_or, option_and_then, option_to_list}
 use Rattle.std.specs.Str.{bytes_eq}
 use Rattle.std.proofs.lemmas.Bool.{cases_eq}
@@ -19,6 +19,7 @@ use Rattle.name_entries.specs.wl_base.Names.{number_of}
 use Rattle.name_entries.specs.name_rules.Entries.{InputSymbol, name_of, is_named, is_entry}
 use Rattle.name_entries.specs.View.{entry_number}
 use Rattle.name_cases.specs.declared.question.Question.{Question}
+use Rattle.name_cases.specs.declared.question.Question.TheVariants.{Judged, Mismatches, Definitions}
 use Rattle.name_cases.specs.declared.rows.Spot.{Spot}
 use Rattle.name_cases.specs.Beside.{number_at}
 use Rattle.name_cases.specs.Rows.{symbol_in, entries_in}
@@ -237,3 +238,25 @@ module _ (q : Question) (names : List (List ℕ)) (rows : List (List InputSymbol
     len = ap length is ∙ length-replicate (length names) None;
     at = λ i name here. ap (option_map (symbol_in rows)) (ap (λ c. get_or c i None) is ∙ get_or-replicate (length names) i None None (slice_get_within names i name here));
   }
+
+-- ---- definitions before the others
+
+find_kept : {A : Type 0} (keep test : A → Bool) (xs : List A) → find test (filter keep xs) ≡ find (λ x. keep x && test x) xs
+find_kept keep test [] = refl
+find_kept {A} keep test (x ∷ xs) = by (keep x) (find_kept keep test xs)
+  where
+    by : (b : Bool) → find test (filter keep xs) ≡ find (λ x. keep x && test x) xs → find test (cond b (x ∷ filter keep xs) (filter keep xs)) ≡ cond (b && test x) (Some x) (find (λ x. keep x && test x) xs)
+    by true rest = ap (λ o. cond (test x) (Some x) o) rest
+    by false rest = rest
+
+module _ (names : List (List ℕ)) (rows : List (List InputSymbol)) where
+  pub definitions_first : (es : List InputSymbol) (column : List (Option Spot)) → AreFirsts Definitions names rows es column → AreFirsts Judged names rows (filter (λ e. e.defines) es) column
+  definitions_first es column are =
+      record { len = are.len; at = λ i name here. are.at i name here ∙ ap (option_map (λ x. Some x)) (sym (find_kept (λ (e : InputSymbol). e.defines) (is_named name) es)) }
+
+  pub no_definitions : (q : Question) (column : List (Option Spot)) → AreFirsts q names rows [] column → AreFirsts Definitions names rows [] column
+  no_definitions q column are = record { len = are.len; at = are.at }
+
+  -- two questions that count the same
+  pub judged_as : (es : List InputSymbol) (column : List (Option Spot)) → AreFirsts Judged names rows es column → AreFirsts Mismatches names rows es column
+  judged_as es column are = record { len = are.len; at = are.at }

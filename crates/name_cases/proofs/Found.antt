@@ -19,7 +19,7 @@ abbrev pub IsNumbered : List (List ℕ) → InputSymbol → Type 0
 IsNumbered names e = (n : ℕ) × (entry_number names e ≡ Some n) × (slice_get names n ≡ Some (name_of e))
 
 -- the case of a symbol that is no entry
-no_entry : (q : Question) (names : List (List ℕ)) (all : List InputSymbol) (e : InputSymbol) → is_entry e ≡ false → case_at q names all e ≡ None
+pub no_entry : (q : Question) (names : List (List ℕ)) (all : List InputSymbol) (e : InputSymbol) → is_entry e ≡ false → case_at q names all e ≡ None
 no_entry q names all e gone = ap (option_and_then (case_numbered q all e)) (neither (counts q e) (entry_number names e) (ap (λ b. cond b (number_of names (name_of e)) None) gone))
   where
     neither : (b : Bool) (n : Option ℕ) → n ≡ None → cond b n None ≡ None

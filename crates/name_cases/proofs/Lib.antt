@@ -6,4 +6,5 @@ mod Found
 mod Held
 mod Made
 mod Named
+mod Other
 mod Search

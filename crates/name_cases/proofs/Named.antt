@@ -1,6 +1,5 @@
 -- The number of a case is that of a name.
-use Rattle.std.proofs.Common.{◌≡◌, ℕ, ◌<◌, Bool, true, false, cond, List, [], ◌∷◌, length, map, Option, Some, None, sym, subst, ◌∙◌}
-use Rattle.std.specs.Prelude.{IfSome}
+use Rattle.std.proofs.Common.{ℕ, Bool, true, false, cond, List, [], ◌∷◌, map, Option, Some, None, sym, subst}
 use Rattle.std.specs.List.{AllByRecursion}
 use Rattle.std.specs.Option.{option_and_then}
 use Rattle.std.proofs.lemmas.Option.{slice_get_within}
@@ -13,7 +12,7 @@ use Rattle.name_entries.specs.name_rules.Entries.{InputSymbol, name_of}
 use Rattle.name_entries.specs.View.{entry_number}
 use Rattle.name_cases.specs.declared.question.Question.{Question}
 use Rattle.name_cases.specs.Rows.{all_rows, entries_in}
-use Rattle.name_cases.specs.Search.{counts, contradicts, least_of, case_beside, case_numbered, case_at, case_in}
+use Rattle.name_cases.specs.Search.{counts, contradicts, least_of, case_beside, case_numbered, case_at, case_in, compared}
 use Rattle.name_cases.specs.Told.{IsNamed}
 use Rattle.name_cases.proofs.Found.{IsNumbered, by_rows}
 use Rattle.name_cases.proofs.Held.{entries_held}
@@ -43,7 +42,7 @@ module _ (q : Question) (names : List (List ℕ)) (all : List InputSymbol) where
       by (Some c) is rest = is
 
 pub least_named : (q : Question) (mode : Mode) (objects : List Object) (n : Numbered) → AreNumbers mode objects n
-    → IsNamed n.names (first_some (map (case_in q n.names (entries_in (all_rows mode objects))) (all_rows mode objects)))
+    → IsNamed n.names (first_some (map (case_in q n.names (compared q (entries_in (all_rows mode objects)))) (all_rows mode objects)))
 least_named q mode objects n numbers =
-    subst (IsNamed n.names) (sym (by_rows q n.names (entries_in (all_rows mode objects)) (all_rows mode objects)))
-    (first_named q n.names (entries_in (all_rows mode objects)) (entries_in (all_rows mode objects)) (entries_held mode objects n numbers))
+    subst (IsNamed n.names) (sym (by_rows q n.names (compared q (entries_in (all_rows mode objects))) (all_rows mode objects)))
+    (first_named q n.names (compared q (entries_in (all_rows mode objects))) (entries_in (all_rows mode objects)) (entries_held mode objects n numbers))

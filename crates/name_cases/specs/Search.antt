@@ -1,21 +1,41 @@
--- Both questions in one form: an entry that counts is a case where the least one of its name that counts can't stand beside it.
-use Rattle.std.specs.Prelude.{ℕ, Bool, true, not, ◌&&◌, List, map, find, if◌then◌else◌, Option, None, option_and_then}
+-- All questions in one form: an entry that counts is a case where the least one of its name that counts can't stand beside it.
+use Rattle.std.specs.Prelude.{ℕ, Bool, true, not, ◌&&◌, List, [], ◌++◌, map, filter, find, if◌then◌else◌, Option, None, option_and_then}
 use Rattle.name_entries.specs.wl_base.Choice.{first_some, given}
 use Rattle.name_entries.specs.name_rules.declared.case.PairCase.{PairCase}
 use Rattle.name_entries.specs.name_rules.Entries.{InputSymbol, name_of, is_named, same_entry}
-use Rattle.name_entries.specs.name_rules.Cases.{clashes_with, is_strong}
+use Rattle.name_entries.specs.name_rules.Cases.{clashes_with, is_strong, differs, breaks, mismatches}
 use Rattle.name_entries.specs.View.{entry_number}
 use Rattle.name_cases.specs.declared.question.Question.{Question}
-use Rattle.name_cases.specs.declared.question.Question.TheVariants.{Clashes, Duplicates}
+use Rattle.name_cases.specs.declared.question.Question.TheVariants.{Clashes, Duplicates, Imports, Judged, Mismatches, Definitions}
 
 abbrev pub counts : Question → InputSymbol → Bool
 counts Clashes e = true
 counts Duplicates e = is_strong e
+counts Imports e = true
+counts Judged e = true
+counts Mismatches e = true
+counts Definitions e = e.defines
 
 -- whether the entry can't stand beside the first one
 abbrev pub contradicts : Question → InputSymbol → InputSymbol → Bool
 contradicts Clashes a e = clashes_with a e
 contradicts Duplicates a e = not (same_entry a e)
+contradicts Imports a e = differs a e
+contradicts Judged a e = breaks a e
+contradicts Mismatches a e = mismatches a e
+contradicts Definitions a e = breaks a e
+
+-- The entries among which the least of a name is looked up: definitions come before the others where these are judged by them.
+abbrev pub before : Question → List InputSymbol → List InputSymbol
+before Clashes es = []
+before Duplicates es = []
+before Imports es = []
+before Judged es = filter (λ e. e.defines) es
+before Mismatches es = filter (λ e. e.defines) es
+before Definitions es = []
+
+abbrev pub compared : Question → List InputSymbol → List InputSymbol
+compared q es = before q es ++ es
 
 -- The least entry of a name that counts.
 abbrev pub least_of : Question → List InputSymbol → List ℕ → Option InputSymbol

@@ -3,7 +3,7 @@ ghost use Rattle.std.specs.Prelude.{◌≡◌, ◌<◌, length, IfSome};
 ghost use Rattle.name_cases.specs.Beside.{both_contradict, input_of, number_at};
 ghost use Rattle.name_cases.specs.Rows.{RowsFit, names_shown, rows_shown, symbol_in};
 
-use crate::look::clash;
+use crate::look::{breaks, clash, imports_differ, mismatches};
 use crate::question::Question;
 use crate::rows::{Rows, Spot};
 use wl_base::InputId;
@@ -17,8 +17,9 @@ impl Rows<'_> {
     {
         let entry = self.entry(spot)?;
         let counts = match question {
-            Question::Clashes => true,
+            Question::Clashes | Question::Imports | Question::Judged | Question::Mismatches => true,
             Question::Duplicates => entry.defines && entry.class == 0,
+            Question::Definitions => entry.defines,
         };
         if counts { entry.number } else { None }
     }
@@ -44,6 +45,20 @@ impl Rows<'_> {
                 (Some(a), Some(b)) => clash(a, b),
                 _ => false,
             },
+            Question::Imports => match (self.look(first), self.look(other)) {
+                (Some(a), Some(b)) => imports_differ(a.explicit, b.explicit),
+                _ => false,
+            },
+            Question::Mismatches => match (self.look(first), self.look(other)) {
+                (Some(a), Some(b)) => mismatches(a, b),
+                _ => false,
+            },
+            Question::Judged | Question::Definitions => {
+                match (self.look(first), self.look(other)) {
+                    (Some(a), Some(b)) => breaks(a, b),
+                    _ => false,
+                }
+            }
             Question::Duplicates => match (self.entry(first), self.entry(other)) {
                 (Some(a), Some(b)) => !(a.input == b.input && a.place == b.place),
                 _ => false,

@@ -1,10 +1,11 @@
 //! The least case.
-ghost use Rattle.std.specs.Prelude.{◌≡◌, is_some, option_map, IfOk};
-ghost use Rattle.name_entries.specs.name_rules.Entries.{entries};
-ghost use Rattle.name_entries.specs.name_rules.Cases.{clash, duplicate};
+ghost use Rattle.std.specs.Prelude.{◌≡◌, ◌<◌, length, Some, is_some, option_map, IfOk};
+ghost use Rattle.name_entries.specs.name_rules.Entries.{InputSymbol, entries};
+ghost use Rattle.name_entries.specs.name_rules.Cases.{clash, other_import, broken, loose_clash, has_other_type, duplicate};
 ghost use Rattle.name_entries.specs.Fits.{Fits};
+ghost use Rattle.name_entries.specs.View.{entry_at};
 ghost use Rattle.name_cases.specs.Beside.{spot_case};
-ghost use Rattle.name_cases.specs.Least.{IsReady, least_case, row_case};
+ghost use Rattle.name_cases.specs.Least.{AreJudges, IsReady, least_case, row_case};
 ghost use Rattle.name_cases.specs.Rows.{RowsFit, names_shown, rows_shown};
 ghost use Rattle.name_cases.specs.Told.{clash_told, duplicate_told, IsNamed};
 
@@ -15,7 +16,7 @@ use name_entries::{Entries, PairCase};
 use rayon::prelude::*;
 use std::alloc::Global;
 use std::thread::Threads;
-use wl_base::OutOfMemory;
+use wl_base::{OutOfMemory, Seq};
 use wl_fan::Workers;
 
 /// How many symbols are worth threads.
@@ -151,6 +152,97 @@ pub fn first_clash<R: Threads + Sync>(
 {
     let rows = Rows { view, mode };
     first_case(rt, alloc, rows, Question::Clashes, workers)
+}
+
+/// The least entry that names another import than the least one of its name.
+fn first_other_import<R: Threads + Sync>(
+    rt: &R,
+    alloc: Global,
+    view: Entries<'_>,
+    mode: Mode,
+    workers: Workers,
+) -> Result<Option<PairCase>, OutOfMemory>
+    requires { Fits mode view }
+    ensures is { IfOk result (λ c. option_map (clash_told view.entry.names.now.names) c ≡ other_import (entries mode view.entry.objects.now)) }
+    ensures named { IfOk result (λ c. IsNamed view.entry.names.now.names c) }
+{
+    let rows = Rows { view, mode };
+    first_case(rt, alloc, rows, Question::Imports, workers)
+}
+
+/// The least entry that differs in kind or type from the one by which it is judged.
+fn first_broken<R: Threads + Sync>(
+    rt: &R,
+    alloc: Global,
+    view: Entries<'_>,
+    mode: Mode,
+    workers: Workers,
+) -> Result<Option<PairCase>, OutOfMemory>
+    requires { Fits mode view }
+    ensures is { IfOk result (λ c. option_map (clash_told view.entry.names.now.names) c ≡ broken (entries mode view.entry.objects.now)) }
+    ensures named { IfOk result (λ c. IsNamed view.entry.names.now.names c) }
+{
+    let rows = Rows { view, mode };
+    first_case(rt, alloc, rows, Question::Judged, workers)
+}
+
+/// The same for a link that is like lld's: the least entry that names another import than the least one of its name, then the least one
+/// that differs in kind or type from the definition, or where there is none from the least one. A function that is no definition may have
+/// another type than the definition.
+pub fn first_loose_clash<R: Threads + Sync>(
+    rt: &R,
+    alloc: Global,
+    view: Entries<'_>,
+    mode: Mode,
+    workers: Workers,
+) -> Result<Option<PairCase>, OutOfMemory>
+    requires { Fits mode view }
+    ensures is { IfOk result (λ c. option_map (clash_told view.entry.names.now.names) c ≡ loose_clash (entries mode view.entry.objects.now)) }
+    ensures named { IfOk result (λ c. IsNamed view.entry.names.now.names c) }
+{
+    if let Some(case) = first_other_import(rt, alloc, view, mode, workers)? {
+        return Ok(Some(case));
+    }
+    let broken = first_broken(rt, alloc, view, mode, workers)?;
+    Ok(broken)
+}
+
+/// By the number of each name, where the entry stands by which the others of the name are judged in a link that is like lld's.
+#[derive(Drop)]
+pub struct Judges {
+    pub(crate) firsts: Seq<Option<Spot>>,
+}
+
+/// The entries by which the others of their names are judged.
+pub fn judges_of(alloc: Global, view: Entries<'_>, mode: Mode) -> Result<Judges, OutOfMemory>
+    requires { Fits mode view }
+    ensures { IfOk result (λ judges. AreJudges mode view.entry.objects.now view.entry.names.now.names judges) }
+{
+    let rows = Rows { view, mode };
+    let firsts = rows.firsts(alloc, Question::Mismatches)?;
+    Ok(Judges { firsts })
+}
+
+/// Whether the symbol at a place of an object is a function that is no definition, and has another type than the definition of its name.
+pub fn has_other_type(
+    judges: &Judges,
+    view: Entries<'_>,
+    mode: Mode,
+    object: u32,
+    place: u32,
+) -> bool
+    requires fits { Fits mode view }
+    requires judges { AreJudges mode view.objects.now view.names.now.names judges.now }
+    requires there { object < length view.objects.now }
+    ensures { (e : InputSymbol) → entry_at view.entry.objects.now object place ≡ Some e → result ≡ has_other_type (entries mode view.entry.objects.now) e }
+{
+    let comparison = Comparison {
+        rows: Rows { view, mode },
+        question: Question::Mismatches,
+        firsts: judges.firsts.as_slice(),
+    };
+    let row = object + 1;
+    comparison.case_at(Spot { row, place }).is_some()
 }
 
 /// The least strong definition of a name that has a lesser one, with the least one. `None` exactly where each name has one at most.

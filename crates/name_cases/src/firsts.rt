@@ -2,7 +2,8 @@
 ghost use Rattle.std.specs.Prelude.{◌≡◌, [], length, filter, slice_index_or, replicate, IfOk};
 ghost use Rattle.name_entries.specs.name_rules.Entries.{is_entry};
 ghost use Rattle.name_cases.specs.Beside.{number_at};
-ghost use Rattle.name_cases.specs.Firsts.{Adds, noted};
+ghost use Rattle.name_cases.specs.Firsts.{Adds, AreFirsts, noted};
+ghost use Rattle.name_cases.specs.Search.{before, compared};
 ghost use Rattle.name_cases.specs.Least.{HasFirsts};
 ghost use Rattle.name_cases.specs.Rows.{RowsFit, entries_in, names_shown, rows_shown};
 
@@ -56,6 +57,34 @@ impl Rows<'_> {
         }
     }
 
+    /// Puts the definitions of all rows into the column, where these are asked for first.
+    fn note_definitions(&self, question: Question, firsts: &mut [Option<Spot>])
+        requires fits { RowsFit self.now }
+        requires len { length firsts.old ≡ length (names_shown self.now) }
+        ensures are { AreFirsts question (names_shown self.now) (rows_shown self.now) [] firsts.old
+            → AreFirsts question (names_shown self.now) (rows_shown self.now) (before question (entries_in (rows_shown self.now))) firsts.new }
+        ensures len { length firsts.new ≡ length (names_shown self.now) }
+    {
+        match question {
+            Question::Judged | Question::Mismatches => {
+                self.note_rows(Question::Definitions, firsts);
+            }
+            Question::Clashes | Question::Duplicates | Question::Imports | Question::Definitions =>
+                {}
+        }
+    }
+
+    /// Puts the symbols of all rows into the column, and before them the definitions where these are asked for first.
+    fn note_all(&self, question: Question, firsts: &mut [Option<Spot>])
+        requires fits { RowsFit self.now }
+        requires len { length firsts.old ≡ length (names_shown self.now) }
+        ensures { AreFirsts question (names_shown self.now) (rows_shown self.now) [] firsts.old
+            → AreFirsts question (names_shown self.now) (rows_shown self.now) (compared question (entries_in (rows_shown self.now))) firsts.new }
+    {
+        self.note_definitions(question, firsts);
+        self.note_rows(question, firsts);
+    }
+
     /// Where the least entry of each name stands that counts, by the name's number.
     pub(crate) fn firsts(
         &self,
@@ -66,7 +95,7 @@ impl Rows<'_> {
         ensures { IfOk result (λ column. HasFirsts question self.now column) }
     {
         let mut firsts = blank(alloc, self.name_count() as usize)?;
-        self.note_rows(question, firsts.as_mut_slice());
+        self.note_all(question, firsts.as_mut_slice());
         Ok(Seq::from_vec(firsts))
     }
 }

@@ -11,4 +11,6 @@ mod rows;
 #[cfg(test)]
 mod tests;
 
-pub use cases::{first_clash, first_duplicate};
+pub use cases::{
+    Judges, first_clash, first_duplicate, first_loose_clash, has_other_type, judges_of,
+};

@@ -1,5 +1,5 @@
 //! What is compared of two entries of a name.
-use crate::look::{Look, clash};
+use crate::look::{Look, breaks, clash, mismatches};
 use name_entries::{FuncTypeRef, ImportRef, SymbolKind, TypeRef};
 use std::test::Fail;
 use wasm_types::{GlobalType, ImportKind, ValType};
@@ -12,6 +12,7 @@ fn function(params: &'static [ValType]) -> Look<'static> {
             results: &[],
         }),
         explicit: None,
+        defines: false,
     }
 }
 
@@ -25,6 +26,7 @@ fn imported(module: &'static [u8], field: &'static [u8]) -> Look<'static> {
             field,
             kind: ImportKind::Function(0),
         }),
+        defines: false,
     }
 }
 
@@ -33,6 +35,7 @@ fn global(kind: ValType, var: bool) -> Look<'static> {
         kind: SymbolKind::GlobalVar,
         of_type: TypeRef::GlobalVar(GlobalType { kind, var }),
         explicit: None,
+        defines: false,
     }
 }
 
@@ -41,6 +44,7 @@ fn untyped(kind: SymbolKind) -> Look<'static> {
         kind,
         of_type: TypeRef::Untyped,
         explicit: None,
+        defines: false,
     }
 }
 
@@ -82,5 +86,37 @@ fn kinds_types_and_imports_are_compared(rt: HostRuntime) -> Result<(), Fail> {
         assert_eq!(rt; clash(look(a), look(b)), wanted);
         assert_eq!(rt; clash(look(b), look(a)), wanted);
     }
+    Ok(())
+}
+
+/// The same as a definition.
+fn defining(letter: u8) -> Look<'static> {
+    let Look {
+        kind,
+        of_type,
+        explicit,
+        defines: _,
+    } = look(letter);
+    Look {
+        kind,
+        of_type,
+        explicit,
+        defines: true,
+    }
+}
+
+#[test]
+fn a_function_may_be_called_by_another_type(rt: HostRuntime) -> Result<(), Fail> {
+    for (letter, breaking, mismatching) in [
+        (b'f', false, false),
+        (b'i', false, true),
+        (b'd', true, false),
+    ] {
+        assert_eq!(rt; breaks(defining(b'f'), look(letter)), breaking);
+        assert_eq!(rt; mismatches(defining(b'f'), look(letter)), mismatching);
+    }
+    // two definitions, and none
+    assert!(rt; breaks(defining(b'f'), defining(b'i')));
+    assert!(rt; breaks(look(b'f'), look(b'i')));
     Ok(())
 }

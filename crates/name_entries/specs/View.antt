@@ -1,5 +1,5 @@
 -- The symbols of the loaded objects, as the calls of the rules find them: by the place of the object and that of the symbol.
-use Rattle.std.specs.Prelude.{◌≡◌, ℕ, ◌<◌, ◌^◌, ◌==◌, Bool, false, List, [], ◌∷◌, map, slice_get, slice_index_or, Option, Some, None, option_map, if◌then◌else◌}
+use Rattle.std.specs.Prelude.{◌≡◌, ℕ, ◌<◌, ◌≤◌, ◌^◌, ◌==◌, Bool, false, List, [], ◌∷◌, map, slice_get, slice_index_or, Option, Some, None, option_map, if◌then◌else◌}
 use Rattle.object_file.specs.declared.object.Object.{Object}
 use Rattle.object_file.specs.wl_base.Names.{number_of}
 use Rattle.name_rules.specs.Entries.{InputSymbol, is_entry, name_of, symbols_of, group_winner}
@@ -37,3 +37,7 @@ GroupsAre names objects groups = (i : ℕ) (name : List ℕ) → slice_get names
 -- By the number of a name: the rank of the winner of the name.
 abbrev pub WinnersAre : List (List ℕ) → List InputSymbol → List (Option ℕ) → Type 0
 WinnersAre names all winners = (i : ℕ) (name : List ℕ) → slice_get names i ≡ Some name → slice_index_or winners i None ≡ option_map entry_rank (winner all name)
+
+-- From this number on there is no winner.
+abbrev pub NonePast : ℕ → List (Option ℕ) → Type 0
+NonePast count winners = (i : ℕ) → count ≤ i → slice_index_or winners i None ≡ None

@@ -1,5 +1,5 @@
 -- How the two races end.
-use Rattle.std.proofs.Common.{◌≡◌, ⊎_elim, ℕ, ◌-◌, ◌<◌, ◌^◌, List, length, slice_get, slice_index, slice_index_or, Some, None, unwrap_or, option_map, sym, subst, arith}
+use Rattle.std.proofs.Common.{◌≡◌, ⊎_elim, ℕ, ◌-◌, ◌<◌, ◌≤◌, ◌^◌, refl, List, length, slice_get, slice_index, slice_index_or, Some, None, unwrap_or, option_map, sym, subst, arith}
 use Rattle.std.specs.Prelude.{Option, bytes_eq}
 use Rattle.std.specs.List.{IsDistinct}
 use Rattle.std.proofs.lemmas.List.{length-replicate, get_or-replicate}
@@ -15,7 +15,7 @@ use Rattle.race_share.specs.Offered.{RanksBelow, IsLeastOffer}
 use Rattle.name_entries.specs.link_names.Numbered.{Numbered, AreNumbers}
 use Rattle.name_entries.specs.name_rules.Entries.{entries, group_winner}
 use Rattle.name_entries.specs.name_rules.Meanings.{entry_rank, winner}
-use Rattle.name_entries.specs.View.{InputsRise, GroupsAre, WinnersAre}
+use Rattle.name_entries.specs.View.{InputsRise, GroupsAre, WinnersAre, NonePast}
 use Rattle.name_jobs.specs.Offers.{group_jobs, name_jobs}
 use Rattle.name_jobs.specs.Races.{unset, unset_words, EndsAs, NameRace, GroupRace}
 use Rattle.name_jobs.proofs.Items.{in_item, item_in, one_least, LeastIn, all_offers}
@@ -40,6 +40,15 @@ winners_are mode objects n jobs winners are e least i name at =
     one_least (name_jobs n.names mode objects) i (slice_index_or winners i None) (option_map entry_rank (winner (entries mode objects) name))
     (subst (λ js. IsLeastOffer js i (slice_index_or winners i None)) e (least i))
     (names_least n.names mode objects i name are.differ at)
+
+-- no name has a number behind the others, and nothing is offered for it
+pub none_past : (mode : Mode) (objects : List Object) (n : Numbered) (jobs : List Job) (winners : List (Option ℕ))
+    → jobs ≡ name_jobs n.names mode objects → ((i : ℕ) → IsLeastOffer jobs i (slice_index_or winners i None)) → NonePast (length n.names) winners
+none_past mode objects n jobs winners e least i past = by (slice_index_or winners i None) (subst (λ js. IsLeastOffer js i (slice_index_or winners i None)) e (least i))
+  where
+    by : (o : Option ℕ) → IsLeastOffer (name_jobs n.names mode objects) i o → o ≡ None
+    by None h = refl
+    by (Some m) h = absurd (let t = h.1 in let low = name_words_below n.names mode objects t.0 t.1 t.2 t.3 in let at = t.4 in omega (arith, low, at, past))
 
 -- ---- the laws
 

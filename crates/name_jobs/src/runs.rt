@@ -1,8 +1,8 @@
 //! The two races over these jobs.
-ghost use Rattle.std.specs.Prelude.{IfOk, bytes_eq};
+ghost use Rattle.std.specs.Prelude.{length, IfOk, bytes_eq};
 ghost use Rattle.std.specs.List.{IsDistinct};
 ghost use Rattle.name_entries.specs.name_rules.Entries.{entries as all_entries};
-ghost use Rattle.name_entries.specs.View.{GroupsAre, InputsRise, WinnersAre};
+ghost use Rattle.name_entries.specs.View.{GroupsAre, InputsRise, NonePast, WinnersAre};
 ghost use Rattle.name_entries.specs.Fits.{Fits, GroupsAreNumbered};
 
 use crate::by_group::GroupJobs;
@@ -48,7 +48,9 @@ pub fn name_winners<G: Gate, R: Threads + Sync>(
     gate: &G,
 ) -> Result<Winners, OutOfMemory>
     requires { Fits mode entries }
-    ensures { IfOk result (λ winners. WinnersAre entries.entry.names.now.names (all_entries mode entries.entry.objects.now) winners) }
+    ensures won { IfOk result (λ winners. WinnersAre entries.entry.names.now.names (all_entries mode entries.entry.objects.now) winners) }
+    // Behind the numbers of names there is none.
+    ensures past { IfOk result (NonePast (length entries.entry.names.now.names)) }
 {
     let names = entries.names.count();
     let jobs = NameJobs::new(entries, mode);

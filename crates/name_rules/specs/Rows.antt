@@ -8,9 +8,9 @@ use Rattle.object_file.specs.linking_section.declared.symbol.SymbolKind.TheVaria
 use Rattle.object_file.specs.declared.object.Object.{Object}
 use Rattle.object_file.specs.Spaces.{no_type}
 use Rattle.made_symbols.specs.declared.mode.Mode.TheVariants.{Plain}
-use Rattle.name_rules.specs.Entries.{InputSymbol, ImportKey, of_function, is_kept, in_kept_part}
+use Rattle.name_rules.specs.Entries.{InputSymbol, ImportKey, of_function, untyped, is_kept, in_kept_part}
 use Rattle.name_rules.specs.Meanings.{Meaning, imported, null, nothing, no_uses, winner, meaning}
-use Rattle.name_rules.specs.Cases.{clash, duplicate}
+use Rattle.name_rules.specs.Cases.{clash, loose_clash, duplicate}
 
 -- ---- small entries, all of the name f
 
@@ -75,6 +75,31 @@ other_type = refl
 other_import : clash (wanted 1 0x50 (codes "a") ∷ wanted 2 0x50 (codes "b") ∷ []) ≡ Some (Clash f 1 2)
 unfolding clash
 other_import = refl
+
+-- ---- clashes in a link that is like lld's: a function that is no definition may have another type than the definition
+
+abbrev pub other_function : InputSymbol → InputSymbol
+other_function e = record e { type = of_function (record { params = I32 ∷ []; results = [] }) }
+
+loose_types : loose_clash (wanted 1 0x10 f ∷ other_function (defined 2 0) ∷ wanted 3 0x10 f ∷ []) ≡ None
+unfolding loose_clash
+loose_types = refl
+
+loose_definitions : loose_clash (defined 1 1 ∷ other_function (defined 2 0) ∷ []) ≡ Some (Clash f 1 2)
+unfolding loose_clash
+loose_definitions = refl
+
+loose_references : loose_clash (wanted 1 0x10 f ∷ other_function (wanted 2 0x10 f) ∷ []) ≡ Some (Clash f 1 2)
+unfolding loose_clash
+loose_references = refl
+
+loose_kinds : loose_clash (wanted 1 0x10 f ∷ record (defined 2 0) { symbol = symbol Datum 0; type = untyped } ∷ []) ≡ Some (Clash f 2 1)
+unfolding loose_clash
+loose_kinds = refl
+
+loose_imports : loose_clash (wanted 1 0x50 (codes "a") ∷ wanted 2 0x50 (codes "b") ∷ defined 3 0 ∷ []) ≡ Some (Clash f 1 2)
+unfolding loose_clash
+loose_imports = refl
 
 -- ---- groups: inputs 1 and 2 have the group c of function 0 and segment 0
 

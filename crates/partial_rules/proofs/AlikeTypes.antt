@@ -10,7 +10,7 @@ use Rattle.mark_bits.specs.declared.chunk.Chunk.{Chunk}
 use Rattle.type_merge.specs.Types.{merged}
 use Rattle.link_rules.specs.Program.{Program, Part, Named, a_symbol, a_type, chunk_at, types_named, named_type}
 use Rattle.link_rules.specs.Marks.{refs_of}
-use Rattle.link_rules.specs.Keys.{FunctionKey, outside, linker_function, stub, own, parts_of_kind, stub_names, content_type, part_type, type_of, is_function_at, window_types, function_type_of, entry_type, functions, types}
+use Rattle.link_rules.specs.Keys.{callable, FunctionKey, outside, linker_function, stub, own, parts_of_kind, stub_names, content_type, part_type, type_of, is_function_at, window_types, function_type_of, entry_type, functions, types}
 use Rattle.partial_rules.specs.Moving.{Moving, IsMoving, moved_function, AlikeNamed, AlikePart, AlikeParts, AlikeStage}
 use Rattle.partial_rules.proofs.Lists.{find_of, zip_find, zip_flat_map, flat_map_where, map_where, map_map}
 use Rattle.partial_rules.proofs.AlikeNumbers.{functions_all}
@@ -42,7 +42,7 @@ module _ (m : Moving) (C : Chunk → Type 0) (K : InputSymbol → Type 0) (is : 
   abbrev pub IsTyped : FunctionKey → Type 0
   IsTyped (outside k) = Unit {0}
   IsTyped (linker_function n) = Unit {0}
-  IsTyped (stub name) = entry_type (first_entry q.entries name) ≡ entry_type (first_entry p.entries name)
+  IsTyped (stub name) = entry_type (first_entry (callable q) name) ≡ entry_type (first_entry (callable p) name)
   IsTyped (own input index) = C (chunk_at input 0 index)
 
   pub type_alike : (xs ys : List Part) → AlikeParts m C K p q xs ys → (f : FunctionKey) → IsTyped f → type_of q ys (moved_function m f) ≡ type_of p xs f
@@ -77,11 +77,11 @@ module _ (m : Moving) (C : Chunk → Type 0) (K : InputSymbol → Type 0) (is : 
 
   -- ---- all types
 
-  stubs_typed : (names : List (List ℕ)) → All (λ name. entry_type (first_entry q.entries name) ≡ entry_type (first_entry p.entries name)) names → All IsTyped (map stub names)
+  stubs_typed : (names : List (List ℕ)) → All (λ name. entry_type (first_entry (callable q) name) ≡ entry_type (first_entry (callable p) name)) names → All IsTyped (map stub names)
   stubs_typed [] all = λ k d below. absurd (omega (arith, below))
   stubs_typed (n ∷ names) all =
-      All-cons IsTyped (stub n) (map stub names) (All-head (λ name. entry_type (first_entry q.entries name) ≡ entry_type (first_entry p.entries name)) n names all)
-      (stubs_typed names (All-tail (λ name. entry_type (first_entry q.entries name) ≡ entry_type (first_entry p.entries name)) n names all))
+      All-cons IsTyped (stub n) (map stub names) (All-head (λ name. entry_type (first_entry (callable q) name) ≡ entry_type (first_entry (callable p) name)) n names all)
+      (stubs_typed names (All-tail (λ name. entry_type (first_entry (callable q) name) ≡ entry_type (first_entry (callable p) name)) n names all))
 
   pub functions_typed : (xs ys : List Part) (ep eq : List InputSymbol) → AlikeStage m C K p q xs ys ep eq → All IsTyped (functions Plain p xs)
   functions_typed xs ys ep eq s =

@@ -7,7 +7,7 @@ use Rattle.name_rules.specs.Entries.{InputSymbol}
 use Rattle.mark_bits.specs.declared.chunk.Chunk.{Chunk}
 use Rattle.live_mark.specs.Live.{ReachedLaw}
 use Rattle.link_rules.specs.Program.{Program, Part}
-use Rattle.link_rules.specs.Marks.{exported, repeated_export, live, unresolved, pic_fault}
+use Rattle.link_rules.specs.Marks.{exported, repeated_export, live, unresolved, uncalled, pic_fault}
 use Rattle.link_rules.specs.LinkOf.{laid_out, marked, exporting}
 use Rattle.partial_rules.specs.Alike.{AlikePrograms, LiveMeant}
 use Rattle.partial_rules.specs.Moving.{Moving, IsMoving, AlikeParts, AlikeStage}
@@ -40,10 +40,12 @@ module _ (m : Moving) (C : Chunk → Type 0) (K : InputSymbol → Type 0) (is : 
         stub_types = s.stub_types xs;
       } in
       let a = no_fault m C K is p q xs ys ep eq stage (repeated_export Plain p ep) ep (λ es. marked Plain p es) bytes e in
-      let b = no_fault m C K is p q xs ys ep eq stage None xs (λ us. unless (unresolved p us) us >>= λ vs. laid_out Plain p ep vs) bytes a.1 in
-      let c = no_fault m C K is p q xs ys ep eq stage (unresolved p xs) xs (λ us. laid_out Plain p ep us) bytes b.1 in
-      let out : laid_out Plain q eq ys ≡ Ok bytes = laid_out_alike m C K is p q xs ys ep eq stage bytes c.1 in
+      let b = no_fault m C K is p q xs ys ep eq stage None xs (λ us. unless (unresolved p us) us >>= λ vs. unless (uncalled Plain p vs) vs >>= λ ws. laid_out Plain p ep ws) bytes a.1 in
+      let c = no_fault m C K is p q xs ys ep eq stage (unresolved p xs) xs (λ us. unless (uncalled Plain p us) us >>= λ vs. laid_out Plain p ep vs) bytes b.1 in
+      let d = no_fault m C K is p q xs ys ep eq stage (uncalled Plain p xs) xs (λ us. laid_out Plain p ep us) bytes c.1 in
+      let out : laid_out Plain q eq ys ≡ Ok bytes = laid_out_alike m C K is p q xs ys ep eq stage bytes d.1 in
       let settled : unresolved q ys ≡ None = resolved_alike m C K is p q s.words s.winners xs ys parts meant c.0 in
       goes_on m C K is p q xs ys ep eq stage (repeated_export Plain q eq) eq (λ es. marked Plain q es) bytes (repeats_alike m C K is p q s.words s.winners a.0)
-      (goes_on m C K is p q xs ys ep eq stage None ys (λ us. unless (unresolved q us) us >>= λ vs. laid_out Plain q eq vs) bytes refl
-      (goes_on m C K is p q xs ys ep eq stage (unresolved q ys) ys (λ us. laid_out Plain q eq us) bytes settled out))
+      (goes_on m C K is p q xs ys ep eq stage None ys (λ us. unless (unresolved q us) us >>= λ vs. unless (uncalled Plain q vs) vs >>= λ ws. laid_out Plain q eq ws) bytes refl
+      (goes_on m C K is p q xs ys ep eq stage (unresolved q ys) ys (λ us. unless (uncalled Plain q us) us >>= λ vs. laid_out Plain q eq vs) bytes settled
+      (goes_on m C K is p q xs ys ep eq stage (uncalled Plain q ys) ys (λ us. laid_out Plain q eq us) bytes (s.kept_calls xs ys parts d.0) out)))

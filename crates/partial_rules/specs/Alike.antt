@@ -1,13 +1,13 @@
 -- Two programs that are one but for where symbols and parts stand: what is asked of them, so that they give the same output.
-use Rattle.std.specs.Prelude.{◌≡◌, ℕ, zero, suc, false, List, [], ◌∷◌, map, position, Some, All}
+use Rattle.std.specs.Prelude.{◌≡◌, ℕ, zero, suc, false, List, [], ◌∷◌, map, position, Some, None, All}
 use Rattle.made_symbols.specs.declared.mode.Mode.TheVariants.{Plain}
 use Rattle.name_rules.specs.Entries.{InputSymbol}
 use Rattle.name_rules.specs.Meanings.{is_nothing}
 use Rattle.name_rules.specs.Cases.{first_entry}
 use Rattle.mark_bits.specs.declared.chunk.Chunk.{Chunk}
 use Rattle.link_rules.specs.Program.{Program, Part, Ref, same_chunk}
-use Rattle.link_rules.specs.Marks.{demanded, exported, export_name, live, refs_of, table_of}
-use Rattle.link_rules.specs.Keys.{imports_in_order, stub_names, entry_type}
+use Rattle.link_rules.specs.Marks.{demanded, exported, export_name, live, refs_of, table_of, uncalled}
+use Rattle.link_rules.specs.Keys.{callable, imports_in_order, stub_names, entry_type}
 use Rattle.link_rules.specs.Values.{rules_of}
 use Rattle.partial_rules.specs.Moving.{Moving, AlikeParts}
 
@@ -52,9 +52,11 @@ pub record AlikePrograms (m : Moving) (C : Chunk → Type 0) (K : InputSymbol �
   pub there : (c : Chunk) → C c → In c (table_of p)
   pub gc : q.plan.gc ≡ p.plan.gc
   pub imports : imports_in_order q ≡ imports_in_order p
+  -- no constructors are lost that weren't
+  pub kept_calls : (xs ys : List Part) → AlikeParts m C K p q xs ys → uncalled Plain p xs ≡ None → uncalled Plain q ys ≡ None
   -- the names of null functions that are called, and their types
   pub stubs : (xs ys : List Part) → AlikeParts m C K p q xs ys → stub_names q (refs_of ys) ≡ stub_names p (refs_of xs)
-  pub stub_types : (xs : List Part) → All (λ name. entry_type (first_entry q.entries name) ≡ entry_type (first_entry p.entries name)) (stub_names p (refs_of xs))
+  pub stub_types : (xs : List Part) → All (λ name. entry_type (first_entry (callable q) name) ≡ entry_type (first_entry (callable p) name)) (stub_names p (refs_of xs))
 
 -- Something is meant by all that live parts refer to.
 abbrev pub LiveMeant : Program → Type 0

@@ -12,7 +12,7 @@ use Rattle.reloc_apply.specs.Windows.{filled}
 use Rattle.link_rules.specs.Program.{Program, Part, Named, a_symbol, a_type, Ref, refs, chunk_at, chunk_of, same_chunk, types_named}
 use Rattle.name_rules.specs.Cases.{first_entry}
 use Rattle.link_rules.specs.Marks.{refs_of, export_name}
-use Rattle.link_rules.specs.Keys.{imports_in_order, stub_names, entry_type, FunctionKey, outside, linker_function, stub, own, GotKey, got_entry, got_import, got_null, GlobalKey, outside_global, linker_global, own_global, got, exported_datum, parts_of_kind}
+use Rattle.link_rules.specs.Keys.{callable, imports_in_order, stub_names, entry_type, FunctionKey, outside, linker_function, stub, own, GotKey, got_entry, got_import, got_null, GlobalKey, outside_global, linker_global, own_global, got, exported_datum, parts_of_kind}
 use Rattle.partial_rules.specs.Partial.{empty_window}
 use Rattle.link_rules.specs.Values.{part_bytes, is_zero, rules_of}
 use Rattle.made_symbols.specs.declared.mode.Mode.TheVariants.{Plain}
@@ -137,4 +137,4 @@ module _ (m : Moving) where
       pub most : q.plan.max_memory ≡ p.plan.max_memory
       -- the names of null functions that are called, and their types
       pub stubs : stub_names q (refs_of ys) ≡ stub_names p (refs_of xs)
-      pub stub_types : All (λ name. entry_type (first_entry q.entries name) ≡ entry_type (first_entry p.entries name)) (stub_names p (refs_of xs))
+      pub stub_types : All (λ name. entry_type (first_entry (callable q) name) ≡ entry_type (first_entry (callable p) name)) (stub_names p (refs_of xs))

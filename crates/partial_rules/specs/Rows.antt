@@ -16,7 +16,7 @@ use Rattle.image_emit.specs.Bytes.{bytes_of}
 use Rattle.link_plan.specs.declared.plan.Plan.{Plan}
 use Rattle.link_rules.specs.Candidates.{candidates_of}
 use Rattle.link_rules.specs.Program.{init_calls, parts_of, winners_of, program_of}
-use Rattle.link_rules.specs.Marks.{exported, repeated_export, live, pic_fault, unresolved}
+use Rattle.link_rules.specs.Marks.{exported, repeated_export, live, pic_fault, unresolved, uncalled}
 use Rattle.link_rules.specs.Keys.{imports_in_order, functions, slots, globals, types}
 use Rattle.link_rules.specs.Values.{shapes, windows}
 use Rattle.link_rules.specs.Output.{layout, image, source_windows}
@@ -89,25 +89,25 @@ abbrev pub whole_plan : ℕ → Plan
 whole_plan inputs = record (plan_of inputs) { gc = false; allow_undefined = true }
 
 call_linked : link_by Plain (read_as call_objects) (exporting 1 (codes "f" ∷ [])) call_files ≡ Ok call_output
-unfolding link_by candidates_of load entries resolve program_of winners_of parts_of init_calls asked_names too_many_names clash duplicate exported repeated_export link_program marked live reached pic_fault unresolved memory_fault memory_overflow shapes laid_out layout places functions slots globals types imports_in_order table_fault written image source_windows windows output_fault reference_fault value_overflow output_bytes bytes_of u32 u32_padded s32 s32_padded s64 ctor_body
+unfolding link_by candidates_of load entries resolve program_of winners_of parts_of init_calls asked_names too_many_names clash duplicate exported repeated_export link_program marked live reached pic_fault unresolved uncalled memory_fault memory_overflow shapes laid_out layout places functions slots globals types imports_in_order table_fault written image source_windows windows output_fault reference_fault value_overflow output_bytes bytes_of u32 u32_padded s32 s32_padded s64 ctor_body
 call_linked = refl
 
 call_linked_again : link_by Plain (read_as (call_read ∷ [])) (exporting 1 (codes "f" ∷ [])) (call_made ∷ []) ≡ Ok call_output
-unfolding link_by candidates_of load entries resolve program_of winners_of parts_of init_calls asked_names too_many_names clash duplicate exported repeated_export link_program marked live reached pic_fault unresolved memory_fault memory_overflow shapes laid_out layout places functions slots globals types imports_in_order table_fault written image source_windows windows output_fault reference_fault value_overflow output_bytes bytes_of u32 u32_padded s32 s32_padded s64 ctor_body
+unfolding link_by candidates_of load entries resolve program_of winners_of parts_of init_calls asked_names too_many_names clash duplicate exported repeated_export link_program marked live reached pic_fault unresolved uncalled memory_fault memory_overflow shapes laid_out layout places functions slots globals types imports_in_order table_fault written image source_windows windows output_fault reference_fault value_overflow output_bytes bytes_of u32 u32_padded s32 s32_padded s64 ctor_body
 call_linked_again = refl
 
 grouped_linked : link_by Plain (read_as grouped_objects) (exporting 2 (codes "f0" ∷ [])) grouped_files ≡ Ok grouped_output
-unfolding link_by candidates_of load entries resolve program_of winners_of parts_of init_calls asked_names too_many_names clash duplicate exported repeated_export link_program marked live reached pic_fault unresolved memory_fault memory_overflow shapes laid_out layout places functions slots globals types imports_in_order table_fault written image source_windows windows output_fault reference_fault value_overflow output_bytes bytes_of u32 u32_padded s32 s32_padded s64 ctor_body
+unfolding link_by candidates_of load entries resolve program_of winners_of parts_of init_calls asked_names too_many_names clash duplicate exported repeated_export link_program marked live reached pic_fault unresolved uncalled memory_fault memory_overflow shapes laid_out layout places functions slots globals types imports_in_order table_fault written image source_windows windows output_fault reference_fault value_overflow output_bytes bytes_of u32 u32_padded s32 s32_padded s64 ctor_body
 grouped_linked = refl
 
 grouped_linked_again : link_by Plain (read_as (grouped_read ∷ [])) (exporting 1 (codes "f0" ∷ [])) (grouped_made ∷ []) ≡ Ok grouped_output
-unfolding link_by candidates_of load entries resolve program_of winners_of parts_of init_calls asked_names too_many_names clash duplicate exported repeated_export link_program marked live reached pic_fault unresolved memory_fault memory_overflow shapes laid_out layout places functions slots globals types imports_in_order table_fault written image source_windows windows output_fault reference_fault value_overflow output_bytes bytes_of u32 u32_padded s32 s32_padded s64 ctor_body
+unfolding link_by candidates_of load entries resolve program_of winners_of parts_of init_calls asked_names too_many_names clash duplicate exported repeated_export link_program marked live reached pic_fault unresolved uncalled memory_fault memory_overflow shapes laid_out layout places functions slots globals types imports_in_order table_fault written image source_windows windows output_fault reference_fault value_overflow output_bytes bytes_of u32 u32_padded s32 s32_padded s64 ctor_body
 grouped_linked_again = refl
 
 mixed_linked : link_by Plain (read_as mixed_objects) (whole_plan 2) mixed_files ≡ Ok mixed_output
-unfolding link_by candidates_of load entries resolve program_of winners_of parts_of init_calls asked_names too_many_names clash duplicate exported repeated_export link_program marked live reached pic_fault unresolved memory_fault memory_overflow shapes laid_out layout places functions slots globals types imports_in_order table_fault written image source_windows windows output_fault reference_fault value_overflow output_bytes bytes_of u32 u32_padded s32 s32_padded s64 ctor_body
+unfolding link_by candidates_of load entries resolve program_of winners_of parts_of init_calls asked_names too_many_names clash duplicate exported repeated_export link_program marked live reached pic_fault unresolved uncalled memory_fault memory_overflow shapes laid_out layout places functions slots globals types imports_in_order table_fault written image source_windows windows output_fault reference_fault value_overflow output_bytes bytes_of u32 u32_padded s32 s32_padded s64 ctor_body
 mixed_linked = refl
 
 mixed_linked_again : link_by Plain (read_as (mixed_read ∷ [])) (whole_plan 1) (mixed_made ∷ []) ≡ Ok mixed_output
-unfolding link_by candidates_of load entries resolve program_of winners_of parts_of init_calls asked_names too_many_names clash duplicate exported repeated_export link_program marked live reached pic_fault unresolved memory_fault memory_overflow shapes laid_out layout places functions slots globals types imports_in_order table_fault written image source_windows windows output_fault reference_fault value_overflow output_bytes bytes_of u32 u32_padded s32 s32_padded s64 ctor_body
+unfolding link_by candidates_of load entries resolve program_of winners_of parts_of init_calls asked_names too_many_names clash duplicate exported repeated_export link_program marked live reached pic_fault unresolved uncalled memory_fault memory_overflow shapes laid_out layout places functions slots globals types imports_in_order table_fault written image source_windows windows output_fault reference_fault value_overflow output_bytes bytes_of u32 u32_padded s32 s32_padded s64 ctor_body
 mixed_linked_again = refl

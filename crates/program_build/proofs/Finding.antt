@@ -1,6 +1,8 @@
 -- What is found is what the definition finds.
-use Rattle.std.proofs.Common.{◌≡◌, ℕ, ◌≤◌, ◌<◌, ◌^◌, ◌∙◌, List, [], ◌∷◌, ◌++◌, length, refl, sym, ap, subst, Option, Some, None, Result, Ok, Err}
-use Rattle.std.specs.Prelude.{flat_map, filter_map, IsErr}
+use Rattle.std.proofs.Common.{◌≡◌, ℕ, ◌<◌, ◌≤◌, ◌^◌, ◌∙◌, List, [], ◌∷◌, ◌++◌, length, false, refl, sym, ap, subst, Option, Some, None, Result, Ok, Err}
+use Rattle.std.specs.Prelude.{map, flat_map, filter_map, bytes_eq, All, IsErr}
+use Rattle.std.specs.List.{list_any}
+use Rattle.std.proofs.lemmas.List.Elements.{All-cons, All-nil, All-head, All-tail}
 use Rattle.std.specs.Result.{IsErrAnd}
 use Rattle.link_program.specs.wl_base.Choice.{distinct, unless}
 use Rattle.link_program.specs.wl_base.declared.name_table.NameFault.{NameFault}
@@ -9,8 +11,13 @@ use Rattle.link_program.specs.wl_base.declared.fault.Fault.{Fault}
 use Rattle.link_program.specs.wl_base.declared.fault.Fault.TheVariants.{TooManyNames}
 use Rattle.link_program.specs.object_file.declared.object.Object.{Object}
 use Rattle.link_program.specs.made_symbols.declared.mode.Mode.{Mode}
+use Rattle.link_program.specs.made_symbols.declared.mode.Mode.TheVariants.{Plain}
+use Rattle.link_program.specs.link_names.Numbered.{AreNumbers}
+use Rattle.link_program.specs.name_entries.View.{WinnersAre}
+use Rattle.link_program.specs.declared.program.Tables.{Tables}
+use Rattle.link_program.specs.Program.{AreTables, variant_names}
 use Rattle.link_program.specs.link_names.Numbered as names
-use Rattle.link_program.specs.name_rules.Entries.{entries, same_import}
+use Rattle.link_program.specs.name_rules.Entries.{InputSymbol, entries, name_of, same_import}
 use Rattle.link_program.specs.name_rules.Meanings.{Meaning, here, imported, null, nothing}
 use Rattle.link_program.specs.name_entries.Fits.{IsTable}
 use Rattle.link_program.specs.name_entries.declared.table.EntryTable.{EntryTable}
@@ -25,8 +32,12 @@ use Rattle.link_program.specs.declared.error.LinkError.TheVariants.{Refused, Out
 use Rattle.program_build.specs.declared.found.Found.{Found}
 use Rattle.program_build.specs.declared.meanings.Meanings.{Meanings}
 use Rattle.link_program.specs.link_rules.LinkOf.{asked_names, too_many_names}
-use Rattle.program_build.specs.Steps.{Numbered, names_of, case_of, AreMeanings, MeansOrRefused}
+use Rattle.program_build.specs.Steps.{Numbered, names_of, case_of, AreMeant, MeansOrRefused}
 use Rattle.program_build.specs.Found.{found_of, IsFound, Finds}
+use Rattle.program_tables.specs.Loose.{variants_in}
+use Rattle.loose_calls.specs.Interned.{Stays}
+use Rattle.loose_calls.proofs.Behind.{IsNot, all_behind}
+use Rattle.program_build.proofs.Grown.{numbers_grown, table_grown, winners_grown}
 use Rattle.program_build.proofs.Names.{few, many}
 use Rattle.program_build.proofs.Steps.{too_many, a_case}
 
@@ -52,27 +63,6 @@ module _ (mode : Mode) (origin : Origin) (objects : List Object) where
   unfolding program_of
   entries_are = refl
 
-  is_found : (homes : List Home) (n : names.Numbered) (table : EntryTable) (m : Meanings) → IsLoaded origin.files origin.all objects homes → Numbered mode (Ok n) origin.plan objects
-      → AreMeanings mode m origin objects n.names → IsTable objects n table
-      → IsFound mode origin.plan objects (record { names = n; entries = table; ranks = m.ranks; resolution = m.resolution; tables = m.tables }) (program mode origin objects)
-  unfolding program_of names_of
-  is_found homes n table m loaded numbered meanings parts = record {
-    plan = refl;
-    objects = refl;
-    rise = loaded.rise;
-    entries = refl;
-    winners_are = refl;
-    resolved = refl;
-    parts_are = (origin.all, refl);
-    numbers = numbered.2;
-    order = numbered.0;
-    looked_up = parts;
-    ranks = meanings.ranked;
-    resolution = meanings.resolved;
-    imports = meanings.resolved.imports ∙ imports_are (program mode origin objects);
-    tables = meanings.tabled;
-  }
-
   names_few : (n : names.Numbered) → Numbered mode (Ok n) origin.plan objects → too_many_names (program mode origin objects) ≡ None
   unfolding program_of names_of
   names_few n numbered = few mode (program mode origin objects) entries_are (subst (λ (ns : List (List ℕ)). length ns ≤ 2 ^ 24) numbered.0 numbered.1)
@@ -82,7 +72,7 @@ module _ (mode : Mode) (origin : Origin) (objects : List Object) where
   names_many fault numbered =
       too_many (program mode origin objects) fault (many mode (program mode origin objects) entries_are numbered.1 ∙ ap (λ x. Some x) (sym numbered.0))
 
-  case_is : (n : names.Numbered) (o : Option Fault) → Numbered mode (Ok n) origin.plan objects → case_of (entries mode objects) ≡ o
+  case_is : (n : names.Numbered) (o : Option Fault) → Numbered mode (Ok n) origin.plan objects → case_of origin.plan.like_lld (entries mode objects) ≡ o
       → found_of (program mode origin objects) ≡ unless o (program mode origin objects)
   unfolding program_of
   case_is n o numbered is = a_case (program mode origin objects) o (names_few n numbered) is
@@ -105,10 +95,53 @@ module _ (mode : Mode) (origin : Origin) (objects : List Object) where
       let error : e ≡ Refused fault = sym was.1 in
       case_is n (Some fault) numbered (subst (λ r. MeansOrRefused mode r origin objects n.names) (is ∙ ap (λ e. Err e) error) told)
 
-  pub all_found : (homes : List Home) (n : names.Numbered) (table : EntryTable) (m : Meanings) → IsLoaded origin.files origin.all objects homes → Numbered mode (Ok n) origin.plan objects
-      → MeansOrRefused mode (Ok m) origin objects n.names → IsTable objects n table
-      → Finds mode (Ok (record { names = n; entries = table; ranks = m.ranks; resolution = m.resolution; tables = m.tables })) origin.plan objects (program mode origin objects)
-  all_found homes n table m loaded numbered told parts = (case_is n None numbered told.0, is_found homes n table m loaded numbered told.1 parts)
+  pub all_found : (n : names.Numbered) (m : Meanings) (f : Found) → Numbered mode (Ok n) origin.plan objects → MeansOrRefused mode (Ok m) origin objects n.names
+      → IsFound mode origin.plan objects f (program mode origin objects) → Finds mode (Ok f) origin.plan objects (program mode origin objects)
+  all_found n m f numbered told found = (case_is n None numbered told.0, found)
+
+all_mapped : {A B : Type 0} (P : B → Type 0) (f : A → B) (xs : List A) → All (λ x. P (f x)) xs → All P (map f xs)
+all_mapped P f [] all = All-nil P
+all_mapped P f (x ∷ xs) all = All-cons P (f x) (map f xs) (All-head (λ x. P (f x)) x xs all) (all_mapped P f xs (All-tail (λ x. P (f x)) x xs all))
+
+module _ (origin : Origin) (objects : List Object) (n m : names.Numbered) (table : EntryTable) (ms : Meanings) (homes : List Home) (loaded : IsLoaded origin.files origin.all objects homes)
+    (meant : AreMeant origin objects n table ms) (stays : Stays n m) (few : length m.names < 2 ^ 32) where
+  abbrev variants : List InputSymbol
+  variants = variants_in origin.plan.like_lld origin.plan.allow_undefined objects
+
+  module _ (behind : m.names ≡ n.names ++ variant_names variants) (apart : All (λ (v : InputSymbol). list_any (bytes_eq (name_of v)) n.names ≡ false) variants) where
+    all_apart : All (IsNot n.names) (map name_of variants)
+    all_apart = all_mapped (IsNot n.names) name_of variants apart
+
+    pub numbers_are : AreNumbers Plain objects m
+    numbers_are = numbers_grown Plain objects n m (map name_of variants) meant.numbered.2 (behind ∙ sym (all_behind n.names (map name_of variants) all_apart)) stays few
+
+    pub table_is : IsTable objects m table
+    table_is = table_grown objects n m table stays meant.looked_up
+
+    pub ranks_are : WinnersAre m.names (entries Plain objects) ms.ranks
+    ranks_are = winners_grown Plain objects n m (map name_of variants) ms.ranks meant.numbered.2 behind all_apart meant.meanings.past meant.meanings.ranked
+
+    pub is_found : (t : Tables) → AreTables m.names ms.resolution.imports t (program Plain origin objects)
+        → IsFound Plain origin.plan objects (record { names = m; entries = table; ranks = ms.ranks; resolution = ms.resolution; tables = t }) (program Plain origin objects)
+    unfolding program_of names_of
+    is_found t tables = record {
+      plan = refl;
+      objects = refl;
+      rise = loaded.rise;
+      entries = refl;
+      winners_are = refl;
+      resolved = refl;
+      parts_are = (origin.all, refl);
+      variants_are = refl;
+      numbers = numbers_are;
+      order = behind ∙ ap (λ l. l ++ variant_names variants) meant.numbered.0;
+      apart = subst (λ ns. All (λ (v : InputSymbol). list_any (bytes_eq (name_of v)) ns ≡ false) variants) meant.numbered.0 apart;
+      looked_up = table_is;
+      ranks = ranks_are;
+      resolution = meant.meanings.resolved;
+      imports = meant.meanings.resolved.imports ∙ imports_are (program Plain origin objects);
+      tables = tables;
+    }
 
 -- ---- the same plan, and a view of the same objects
 

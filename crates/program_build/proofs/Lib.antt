@@ -5,4 +5,6 @@ mod Windows
 mod Standing
 mod Names
 mod Steps
+mod Named
+mod Grown
 mod Finding

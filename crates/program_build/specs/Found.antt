@@ -1,22 +1,23 @@
 -- What is found of the loaded objects.
-use Rattle.std.specs.Prelude.{◌≡◌, ℕ, ◌++◌, List, Result, Ok, Err}
+use Rattle.std.specs.Prelude.{◌≡◌, ◌++◌, false, List, Result, Ok, Err, All, bytes_eq}
+use Rattle.std.specs.List.{list_any}
 use Rattle.link_program.specs.wl_base.Choice.{unless, ◌>>=◌}
 use Rattle.link_program.specs.wl_base.declared.fault.Fault.{Fault}
 use Rattle.link_program.specs.object_file.declared.object.Object.{Object}
 use Rattle.link_program.specs.made_symbols.declared.mode.Mode.{Mode}
 use Rattle.link_program.specs.round_rules.Rounds.{Candidate}
 use Rattle.link_program.specs.link_names.Numbered.{AreNumbers, different_names}
-use Rattle.link_program.specs.name_rules.Entries.{entries}
+use Rattle.link_program.specs.name_rules.Entries.{entries, name_of}
 use Rattle.link_program.specs.name_rules.Meanings.{resolve}
-use Rattle.link_program.specs.name_rules.Cases.{clash, duplicate}
+use Rattle.link_program.specs.name_rules.Cases.{clash_by, duplicate}
 use Rattle.link_program.specs.name_entries.View.{InputsRise, WinnersAre}
 use Rattle.link_program.specs.name_entries.Fits.{IsTable}
 use Rattle.link_program.specs.name_meanings.Means.{IsResolution}
 use Rattle.link_program.specs.link_plan.declared.plan.Plan.{Plan}
-use Rattle.link_program.specs.link_rules.Program.{Program, winners_of, parts_of}
+use Rattle.link_program.specs.link_rules.Program.{Program, winners_of, parts_of, loose_parts, loose_variants}
 use Rattle.link_program.specs.link_rules.Keys.{imports_in_order}
 use Rattle.link_program.specs.link_rules.LinkOf.{asked_names, too_many_names}
-use Rattle.link_program.specs.Program.{AreTables}
+use Rattle.link_program.specs.Program.{AreTables, variant_names}
 use Rattle.link_program.specs.declared.error.LinkError.{LinkError}
 use Rattle.link_program.specs.declared.error.LinkError.TheVariants.{Refused, OutOfMemory}
 use Rattle.program_build.specs.declared.found.Found.{Found}
@@ -25,7 +26,7 @@ use Rattle.program_build.specs.declared.found.Found.{Found}
 abbrev pub found_of : Program → Result Program Fault
 found_of p = do
   p ← unless (too_many_names p) p
-  p ← unless (clash p.entries) p
+  p ← unless (clash_by p.plan.like_lld p.entries) p
   unless (duplicate p.entries) p
 
 -- What was found by this plan of these objects is what the definition finds.
@@ -36,10 +37,12 @@ pub record IsFound (mode : Mode) (asked : Plan) (loaded : List Object) (f : Foun
   pub entries : p.entries ≡ entries mode p.objects
   pub winners_are : p.winners ≡ winners_of p.entries
   pub resolved : p.resolved ≡ resolve mode p.plan.allow_undefined p.entries p.objects
-  pub parts_are : (all : List Candidate) × (p.parts ≡ parts_of mode all p.objects p.resolved)
+  pub parts_are : (all : List Candidate) × (p.parts ≡ loose_parts p.plan.like_lld p.entries (parts_of mode all p.objects p.resolved))
+  pub variants_are : p.variants ≡ loose_variants p.plan.like_lld p.entries p.resolved
   -- names, winners and meanings by number
   pub numbers : AreNumbers mode p.objects f.names
-  pub order : f.names.names ≡ different_names mode (asked_names p.plan ++ p.plan.exports_if) p.objects
+  pub order : f.names.names ≡ different_names mode (asked_names p.plan ++ p.plan.exports_if) p.objects ++ variant_names p.variants
+  pub apart : All (λ v. list_any (bytes_eq (name_of v)) (different_names mode (asked_names p.plan ++ p.plan.exports_if) p.objects) ≡ false) p.variants
   pub looked_up : IsTable p.objects f.names f.entries
   pub ranks : WinnersAre f.names.names p.entries f.ranks
   pub resolution : IsResolution f.resolution p.resolved

@@ -1,13 +1,18 @@
 -- Where the parts of loaded objects stand.
-use Rattle.std.specs.Prelude.{ℕ, List}
+use Rattle.std.specs.Prelude.{ℕ, List, All}
 use Rattle.link_program.specs.object_file.declared.object.Object.{Object}
 use Rattle.link_program.specs.made_symbols.declared.mode.Mode.{Mode}
 use Rattle.link_program.specs.round_rules.Rounds.{Candidate}
 use Rattle.link_program.specs.link_plan.declared.plan.Plan.{Plan}
-use Rattle.link_program.specs.link_rules.Program.{program_of}
+use Rattle.link_program.specs.link_rules.Program.{strict_program, program_of}
 use Rattle.link_program.specs.declared.home.Home.{Home}
 use Rattle.link_program.specs.Loaded.{IsLoaded}
-use Rattle.link_program.specs.Stand.{PartsStand}
+use Rattle.link_program.specs.Stand.{PartsStand, PartStandsBy, IsSymbolOf}
+
+-- The same before calls are loosened, where each reference means what its symbol means.
+abbrev pub StrictPartsStand : Type 0
+StrictPartsStand = (mode : Mode) (plan : Plan) (files : List (List ℕ)) (all : List Candidate) (objects : List Object) (homes : List Home)
+    → IsLoaded files all objects homes → (let p = strict_program mode plan files all objects in All (PartStandsBy p (λ ref. IsSymbolOf p.resolved ref.entry ref.meaning)) p.parts)
 
 -- The parts of the program of loaded objects stand, whatever the mode and the plan.
 abbrev pub LoadedPartsStand : Type 0

@@ -1,22 +1,23 @@
 -- What each step of building a program answers.
-use Rattle.std.specs.Prelude.{◌≡◌, ℕ, ◌≤◌, ◌<◌, ◌^◌, List, [], ◌∷◌, ◌++◌, length, Option, Some, None, Result, Ok, Err}
+use Rattle.std.specs.Prelude.{◌≡◌, ℕ, ◌≤◌, ◌<◌, ◌^◌, Bool, List, [], ◌∷◌, ◌++◌, length, Option, Some, None, Result, Ok, Err}
 use Rattle.link_program.specs.wl_base.Choice.{first_some}
 use Rattle.link_program.specs.wl_base.declared.fault.Fault.{Fault}
 use Rattle.link_program.specs.wl_base.declared.fault.Fault.TheVariants.{TooManyNames}
 use Rattle.link_program.specs.object_file.declared.object.Object.{Object}
 use Rattle.link_program.specs.made_symbols.declared.mode.Mode.{Mode}
+use Rattle.link_program.specs.made_symbols.declared.mode.Mode.TheVariants.{Plain}
+use Rattle.link_program.specs.name_entries.Fits.{IsTable}
+use Rattle.link_program.specs.name_entries.declared.table.EntryTable.{EntryTable}
 use Rattle.link_program.specs.link_names.Numbered as names
 use Rattle.link_program.specs.link_names.Numbered.{AreNumbers, different_names}
 use Rattle.link_program.specs.name_rules.Entries.{InputSymbol, entries}
 use Rattle.link_program.specs.name_rules.Meanings.{resolve}
-use Rattle.link_program.specs.name_rules.Cases.{clash, duplicate}
-use Rattle.link_program.specs.name_entries.View.{WinnersAre}
+use Rattle.link_program.specs.name_rules.Cases.{clash_by, duplicate}
+use Rattle.link_program.specs.name_entries.View.{WinnersAre, NonePast}
 use Rattle.link_program.specs.name_meanings.Means.{IsResolution}
 use Rattle.link_program.specs.link_plan.declared.plan.Plan.{Plan}
-use Rattle.link_program.specs.link_rules.Program.{program_of}
 use Rattle.link_program.specs.link_rules.LinkOf.{asked_names}
 use Rattle.link_program.specs.Loaded.{Origin}
-use Rattle.link_program.specs.Program.{AreTables}
 use Rattle.link_program.specs.declared.error.LinkError.{LinkError}
 use Rattle.link_program.specs.declared.error.LinkError.TheVariants.{Refused, OutOfMemory}
 use Rattle.program_build.specs.declared.meanings.Meanings.{Meanings}
@@ -36,18 +37,24 @@ Numbered mode (Err OutOfMemory) plan objects = Unit {0}
 -- ---- cases
 
 -- The least clash, else the least duplicate.
-abbrev pub case_of : List InputSymbol → Option Fault
-case_of es = first_some (clash es ∷ duplicate es ∷ [])
+abbrev pub case_of : Bool → List InputSymbol → Option Fault
+case_of like_lld es = first_some (clash_by like_lld es ∷ duplicate es ∷ [])
 
 -- ---- meanings
 
--- The winners by number, what symbols mean, and the tables are those of these objects.
+-- The winners by number, and what symbols mean, are those of these objects.
 pub record AreMeanings (mode : Mode) (m : Meanings) (origin : Origin) (objects : List Object) (held : List (List ℕ)) : Type 0 where
   pub ranked : WinnersAre held (entries mode objects) m.ranks
   pub resolved : IsResolution m.resolution (resolve mode origin.plan.allow_undefined (entries mode objects) objects)
-  pub tabled : AreTables held m.resolution.imports m.tables (program_of mode origin.plan origin.files origin.all objects)
+  pub past : NonePast (length held) m.ranks
 
 abbrev pub MeansOrRefused : Mode → Result Meanings LinkError → Origin → List Object → List (List ℕ) → Type 0
-MeansOrRefused mode (Ok m) origin objects held = (case_of (entries mode objects) ≡ None) × AreMeanings mode m origin objects held
-MeansOrRefused mode (Err (Refused fault)) origin objects held = case_of (entries mode objects) ≡ Some fault
+MeansOrRefused mode (Ok m) origin objects held = (case_of origin.plan.like_lld (entries mode objects) ≡ None) × AreMeanings mode m origin objects held
+MeansOrRefused mode (Err (Refused fault)) origin objects held = case_of origin.plan.like_lld (entries mode objects) ≡ Some fault
 MeansOrRefused mode (Err OutOfMemory) origin objects held = Unit {0}
+
+-- The numbers of names, what is looked up of objects and what names mean, before variants have names.
+pub record AreMeant (origin : Origin) (objects : List Object) (n : names.Numbered) (table : EntryTable) (m : Meanings) : Type 0 where
+  pub numbered : Numbered Plain (Ok n) origin.plan objects
+  pub looked_up : IsTable objects n table
+  pub meanings : AreMeanings Plain m origin objects n.names

@@ -1,23 +1,65 @@
 //! What is found of the loaded objects, in order: the numbers of names, the winners of groups and of names, the least clash and the least
 //! duplicate, what symbols mean, and the tables of parts.
-ghost use Rattle.std.specs.Prelude.{◌≡◌};
+ghost use Rattle.std.specs.Prelude.{◌≡◌, IfOk};
 ghost use Rattle.link_program.specs.made_symbols.declared.mode.Mode.TheVariants as modes;
 ghost use Rattle.link_program.specs.link_plan.Plan.{IsPlan};
 ghost use Rattle.link_program.specs.link_rules.Program.{program_of};
 ghost use Rattle.link_program.specs.Loaded.{IsLoaded, Origin};
-ghost use Rattle.program_build.specs.Found.{Finds};
+ghost use Rattle.program_build.specs.Steps.{AreMeant};
+ghost use Rattle.program_build.specs.Found.{Finds, IsFound};
 
 use crate::found::Found;
 use crate::meanings::{Meanings, meanings_of};
 use crate::numbers::numbers_of;
 use link_plan::Plan;
-use link_program::{EntryTable, Home, LinkError, Object};
+use link_program::{EntryTable, Home, LinkError, Names, Object};
+use loose_calls::loosened;
 use made_symbols::Mode;
 use name_jobs::group_winners;
+use program_tables::tables_of;
 use std::alloc::Global;
 use std::thread::Threads;
+use wl_base::OutOfMemory;
 use wl_fan::Workers;
 use wl_outside::Gate;
+
+/// What is found of the loaded objects by what their names mean. Variants get names behind all others.
+fn found_by<R: Threads + Sync>(
+    rt: &R,
+    alloc: Global,
+    plan: &Plan,
+    objects: &[Object],
+    homes: &[Home],
+    mut names: Names,
+    entries: EntryTable,
+    meanings: Meanings,
+    workers: Workers,
+) -> Result<Found, OutOfMemory>
+    ghost origin: { Origin }
+    requires same { origin.plan ≡ plan.now }
+    requires loaded { IsLoaded origin.files origin.all objects.now homes.now }
+    requires meant { AreMeant origin objects.now names entries meanings }
+    ensures { IfOk result (λ found. IsFound modes.Plain plan.now objects.now found (program_of modes.Plain plan.now origin.files origin.all objects.now)) }
+{
+    let Meanings { ranks, resolution } = meanings;
+    let loose = loosened(
+        alloc,
+        &mut names,
+        &entries,
+        objects,
+        &resolution,
+        plan.like_lld,
+    )?;
+    let view = entries.view(objects, &names);
+    let tables = tables_of(rt, alloc, view, &ranks, &resolution, homes, &loose, workers)?;
+    Ok(Found {
+        names,
+        entries,
+        ranks,
+        resolution,
+        tables,
+    })
+}
 
 /// What the loaded objects are as a program: the numbers of their names, who wins each name, what each symbol means, and the tables of
 /// their symbols, parts and references. `homes` has where the bytes of each candidate stand.
@@ -44,16 +86,9 @@ pub fn find<G: Gate, R: Threads + Sync>(
     let groups = group_winners(rt, alloc, objects, &names, workers, gate)?;
     let entries = EntryTable::by_workers(rt, alloc, objects, &names, &groups, workers)?;
     let view = entries.view(objects, &names);
-    let Meanings {
-        ranks,
-        resolution,
-        tables,
-    } = meanings_of(rt, alloc, plan, view, homes, workers, gate)?;
-    Ok(Found {
-        names,
-        entries,
-        ranks,
-        resolution,
-        tables,
-    })
+    let meanings = meanings_of(rt, alloc, plan, view, workers, gate)?;
+    let found = found_by(
+        rt, alloc, plan, objects, homes, names, entries, meanings, workers,
+    )?;
+    Ok(found)
 }

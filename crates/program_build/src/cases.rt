@@ -1,15 +1,16 @@
 //! Entries of one name that can't stand together.
-ghost use Rattle.std.specs.Prelude.{◌≡◌, ◌<◌, length, IfOk};
+ghost use Rattle.std.specs.Prelude.{◌≡◌, ◌<◌, length, option_map, IfOk};
 ghost use Rattle.link_program.specs.made_symbols.declared.mode.Mode.TheVariants as modes;
 ghost use Rattle.link_program.specs.name_rules.Entries.{entries};
+ghost use Rattle.link_program.specs.name_rules.Cases.{clash_by};
 ghost use Rattle.link_program.specs.name_entries.Fits.{Fits};
-ghost use Rattle.name_cases.specs.Told.{clash_told, duplicate_told};
+ghost use Rattle.name_cases.specs.Told.{clash_told, duplicate_told, IsNamed};
 ghost use Rattle.link_program.specs.Answers.{Passes};
 ghost use Rattle.program_build.specs.Steps.{case_of};
 
 use link_program::{Entries, LinkError, Names, PairCase};
 use made_symbols::Mode;
-use name_cases::{first_clash, first_duplicate};
+use name_cases::{first_clash, first_duplicate, first_loose_clash};
 use std::alloc::Global;
 use std::thread::Threads;
 use wl_base::{Fault, OutOfMemory, Seq};
@@ -39,17 +40,37 @@ fn duplicate_of(alloc: Global, names: &Names, case: PairCase) -> Result<Fault, O
     })
 }
 
+/// The least clash, for a link that is like lld's or not.
+fn clash_in<R: Threads + Sync>(
+    rt: &R,
+    alloc: Global,
+    view: Entries<'_>,
+    like_lld: bool,
+    workers: Workers,
+) -> Result<Option<PairCase>, OutOfMemory>
+    requires { Fits modes.Plain view }
+    ensures is { IfOk result (λ c. option_map (clash_told view.entry.names.now.names) c ≡ clash_by like_lld (entries modes.Plain view.entry.objects.now)) }
+    ensures named { IfOk result (λ c. IsNamed view.entry.names.now.names c) }
+{
+    if like_lld {
+        first_loose_clash(rt, alloc, view, Mode::Plain, workers)
+    } else {
+        first_clash(rt, alloc, view, Mode::Plain, workers)
+    }
+}
+
 /// Refuses the least clash, and where there is none the least duplicate.
 pub(crate) fn refuse_cases<R: Threads + Sync>(
     rt: &R,
     alloc: Global,
     view: Entries<'_>,
+    like_lld: bool,
     workers: Workers,
 ) -> Result<(), LinkError>
     requires { Fits modes.Plain view }
-    ensures { Passes result (case_of (entries modes.Plain view.entry.objects.now)) }
+    ensures { Passes result (case_of like_lld (entries modes.Plain view.entry.objects.now)) }
 {
-    if let Some(case) = first_clash(rt, alloc, view, Mode::Plain, workers)? {
+    if let Some(case) = clash_in(rt, alloc, view, like_lld, workers)? {
         return Err(LinkError::Refused(clash_of(alloc, view.names, case)?));
     }
     if let Some(case) = first_duplicate(rt, alloc, view, Mode::Plain, workers)? {

@@ -1,17 +1,16 @@
-//! Who wins each name, what each symbol means, and the tables of parts.
+//! Who wins each name, and what each symbol means.
 ghost use Rattle.std.specs.Prelude.{◌≡◌};
 ghost use Rattle.link_program.specs.made_symbols.declared.mode.Mode.TheVariants as modes;
 ghost use Rattle.link_program.specs.name_entries.Fits.{Fits};
-ghost use Rattle.link_program.specs.Loaded.{IsLoaded, Origin};
+ghost use Rattle.link_program.specs.Loaded.{Origin};
 ghost use Rattle.program_build.specs.Steps.{MeansOrRefused};
 
 use crate::cases::refuse_cases;
 use link_plan::Plan;
-use link_program::{Entries, Home, LinkError, Tables};
+use link_program::{Entries, LinkError};
 use made_symbols::Mode;
 use name_jobs::name_winners;
 use name_meanings::{Resolution, resolve};
-use program_tables::tables_of;
 use std::alloc::Global;
 use std::thread::Threads;
 use symbol_race::Winners;
@@ -23,7 +22,6 @@ use wl_outside::Gate;
 pub(crate) struct Meanings {
     pub(crate) ranks: Winners,
     pub(crate) resolution: Resolution,
-    pub(crate) tables: Tables,
 }
 
 /// What is found by a view of the loaded objects, unless it is refused.
@@ -32,23 +30,16 @@ pub(crate) fn meanings_of<G: Gate, R: Threads + Sync>(
     alloc: Global,
     plan: &Plan,
     view: Entries<'_>,
-    homes: &[Home],
     workers: Workers,
     gate: &G,
 ) -> Result<Meanings, LinkError>
     ghost origin: { Origin }
     requires same { origin.plan ≡ plan.now }
     requires fits { Fits modes.Plain view }
-    requires loaded { IsLoaded origin.files origin.all view.objects.now homes.now }
     ensures { MeansOrRefused modes.Plain result origin view.entry.objects.now view.entry.names.now.names }
 {
     let ranks = name_winners(rt, alloc, view, Mode::Plain, workers, gate)?;
-    refuse_cases(rt, alloc, view, workers)?;
+    refuse_cases(rt, alloc, view, plan.like_lld, workers)?;
     let resolution = resolve(alloc, view, &ranks, plan.allow_undefined, Mode::Plain)?;
-    let tables = tables_of(rt, alloc, view, &ranks, &resolution, homes, workers)?;
-    Ok(Meanings {
-        ranks,
-        resolution,
-        tables,
-    })
+    Ok(Meanings { ranks, resolution })
 }

@@ -13,7 +13,7 @@ use Rattle.link_program.specs.name_entries.View.{entry_at}
 use Rattle.link_program.specs.name_entries.Shown.{Shows}
 use Rattle.link_program.specs.name_entries.declared.entry.EntryRef.{EntryRef}
 use Rattle.link_program.specs.declared.named.Named.TheVariants as items
-use Rattle.program_tables.specs.Views.{View}
+use Rattle.program_tables.specs.Views.{View, called_from}
 use Rattle.program_tables.specs.Inits.{call_by, call_of}
 use Rattle.program_tables.proofs.There.{row_at}
 
@@ -22,7 +22,7 @@ used_is r e names shows =
     ap (λ d. d || is_undefined (symbol_seen r.symbol)) shows.defines ∙ ap (λ (s : Symbol). e.defines || is_undefined s) shows.symbol
 
 pub called : (objects : List Object) (v : View) (i : InitFunc) (object : ℕ) (e : InputSymbol) (used : Bool) → slice_get objects object ≡ Some v.object → entry_at objects object i.symbol ≡ Some e → used ≡ is_init_use e
-    → call_of objects v i ≡ given used (record { priority = i.priority; named = items.Symbol 0 0 (pos 0) (v.first + i.symbol) })
+    → call_of objects v i ≡ given used (record { priority = i.priority; named = items.Symbol 0 0 (pos 0) (called_from v i.symbol) })
 called objects v i object e used at there is =
     ap (option_and_then (call_by v i)) (ap (λ l. slice_get l i.symbol) (sym (row_at objects object v.object at)) ∙ there)
-    ∙ ap (λ b. given b (record { priority = i.priority; named = items.Symbol 0 0 (pos 0) (v.first + i.symbol) })) (sym is)
+    ∙ ap (λ b. given b (record { priority = i.priority; named = items.Symbol 0 0 (pos 0) (called_from v i.symbol) })) (sym is)

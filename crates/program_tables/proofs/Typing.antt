@@ -71,9 +71,9 @@ rows_more old new rows row os i o keep are at numbered =
 pub kept : (old new : List FuncType) (t : FuncType) → new ≡ with_type old t → Keep old new
 kept old new t is = subst (Keep old) (sym is) (keep_with old t)
 
-pub all_typed : (none first second copies : List FuncType) (numbers : List (List ℕ)) (objects : List Object) → none ≡ [] → first ≡ with_type none no_type → Keep first second
-    → map (map (slice_get second)) numbers ≡ map (λ (o : Object). map Some o.types) objects → copies ≡ second → AreTyped copies numbers objects
-all_typed none first second copies numbers objects empty is keep each same =
+pub all_typed : (none first second third copies : List FuncType) (numbers : List (List ℕ)) (objects : List Object) → none ≡ [] → first ≡ with_type none no_type → Keep first second → Keep second third
+    → map (map (slice_get second)) numbers ≡ map (λ (o : Object). map Some o.types) objects → copies ≡ third → AreTyped copies numbers objects
+all_typed none first second third copies numbers objects empty is keep on each same =
     let one : first ≡ no_type ∷ [] = is ∙ ap (λ l. with_type l no_type) empty in
-    let at : slice_get second 0 ≡ Some no_type = keep 0 no_type (ap (λ l. slice_get l 0) one) in
-    subst (λ types. AreTyped types numbers objects) (sym same) (record { first = at; each = each })
+    let at : slice_get third 0 ≡ Some no_type = on 0 no_type (keep 0 no_type (ap (λ l. slice_get l 0) one)) in
+    subst (λ types. AreTyped types numbers objects) (sym same) (record { first = at; each = rows_still second third numbers objects on each })

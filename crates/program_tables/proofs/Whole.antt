@@ -20,11 +20,12 @@ use Rattle.link_program.specs.name_entries.declared.parts.ObjectParts.{ObjectPar
 use Rattle.link_program.proofs.name_entries_lemmas.Found.{counted}
 use Rattle.link_program.specs.round_rules.Rounds.{Candidate}
 use Rattle.link_program.specs.link_rules.Program as rules
-use Rattle.link_program.specs.link_rules.Program.{parts_in, parts_of, init_calls, init_calls_in, insert_call, by_priority, made_part, made_parts_from, made_kind, option_onto, a_symbol, linker_made, no_source}
+use Rattle.link_program.specs.link_rules.Program.{is_mismatch, variant, parts_in, parts_of, init_calls, init_calls_in, insert_call, by_priority, made_part, made_parts_from, made_kind, option_onto, a_symbol, linker_made, no_source}
 use Rattle.link_program.specs.declared.named.Named.{Named}
 use Rattle.link_program.specs.declared.part.Content.TheVariants as contents
 use Rattle.link_program.specs.Loaded.{home_of}
-use Rattle.link_program.specs.Told.{told_symbol}
+use Rattle.link_program.specs.Told.{told_symbol, told_variant}
+use Rattle.link_program.specs.declared.symbol.Symbol.{Symbol}
 use Rattle.program_tables.specs.declared.symbols.Sources.{Sources}
 use Rattle.program_tables.specs.declared.inits.InitCall.{InitCall}
 use Rattle.program_tables.specs.declared.view.Lookups.{Lookups}
@@ -32,18 +33,20 @@ use Rattle.program_tables.specs.Symbols.{symbols_of as all_symbols, symbol_of as
 use Rattle.program_tables.specs.Types.{AreTyped}
 use Rattle.program_tables.specs.Views.{View, view_at}
 use Rattle.program_tables.specs.Rows.{Row, made_rows, rows_of_view, rows_upto, all_rows}
+use Rattle.program_tables.specs.declared.loose.Loose.{Loose}
+use Rattle.program_tables.specs.Loose.{IsLoose, IsCalled, loosens, all_symbols as input_symbols}
 use Rattle.program_tables.specs.Inits.{insert_by, by_key, priority_of, named_of, calls_in, calls_of, calls_upto, call_names}
-use Rattle.program_tables.proofs.Lists.{at_take, in_rows, zip_append}
-use Rattle.program_tables.proofs.Steps.{item_at}
+use Rattle.program_tables.proofs.Lists.{at_take, front, behind, in_rows, zip_append}
+use Rattle.program_tables.proofs.Steps.{item_at, flat_length}
 use Rattle.program_tables.proofs.There.{above}
 use Rattle.program_tables.proofs.Answered.{meant, resolved_of, IsMeant, symbol_answered}
 use Rattle.program_tables.proofs.Typed.{Numbered, type_is, source_is}
-use Rattle.program_tables.proofs.Rows.{IsView, ShowsNamed, ShowsPart, ShowsCall, rows_shown, calls_shown}
+use Rattle.program_tables.proofs.Rows.{IsView, IsNamedBy, ShowsNamed, ShowsPart, ShowsCall, rows_shown, calls_shown}
 
 -- ---- views
 
 -- What is looked up is that of the objects.
-pub record AreLookups (s : Sources) (types : List FuncType) (all : List Candidate) (allow : Bool) (l : Lookups) : Type 0 where
+pub record AreLookups (s : Sources) (types : List FuncType) (all : List Candidate) (like allow : Bool) (lo : Loose) (l : Lookups) : Type 0 where
   pub entries : l.entries ≡ s.entries
   pub rise : InputsRise 0 s.entries.objects.now
   pub meant : IsMeant s.entries.objects.now allow s.resolution.now
@@ -52,6 +55,8 @@ pub record AreLookups (s : Sources) (types : List FuncType) (all : List Candidat
   pub typed : AreTyped types l.types.now s.entries.objects.now
   pub homes : l.homes.now ≡ map home_of all
   pub numbered : Numbered 1 all
+  pub loose : IsLoose like allow s.entries.names.now.names s.resolution.now.imports s.entries.objects.now lo
+  pub called : l.called.now ≡ lo.called
 
 row_length : (objects : List Object) (o : Object) (k : ℕ) (ss : List SymbolOf) → length (entries_from objects o k ss) ≡ length ss
 row_length objects o k [] = refl
@@ -90,11 +95,40 @@ told_there s allow i k o e m rise is at there means =
     let symbol : source_symbol s e ≡ told_symbol s.entries.names.now.names s.resolution.now.imports e (meant objects allow e) = rw (a.at, a.leads.lead) refl in
     symbol_at s i k o e at there ∙ ap Some (symbol ∙ ap (told_symbol s.entries.names.now.names s.resolution.now.imports e) same)
 
+-- what a call names
+flat_same : {A B : Type 0} (f : A → List B) (xs : List A) → flat_map (λ r. r) (map f xs) ≡ flat_map f xs
+flat_same f [] = refl
+flat_same f (x ∷ xs) = ap (λ l. f x ++ l) (flat_same f xs)
+
+many_symbols : (s : Sources) → length (all_symbols s) ≡ length (input_symbols s.entries.objects.now)
+many_symbols s = flat_length (source_symbol s) (rows_of s.entries.objects.now) ∙ ap (λ l. length l) (flat_same (symbols_of s.entries.objects.now) s.entries.objects.now)
+
+called_by : (s : Sources) (lo : Loose) (other : Bool) (v : Symbol) (number called : ℕ) → IsCalled other v (length (input_symbols s.entries.objects.now)) lo.symbols number called → IsNamedBy other v (all_symbols s ++ lo.symbols) number called
+called_by s lo true v number called is =
+    ap (slice_get (all_symbols s ++ lo.symbols)) (is.1 ∙ ap (λ n. n + is.0) (sym (many_symbols s))) ∙ behind (all_symbols s) lo.symbols is.0 ∙ is.2
+called_by s lo false v number called is = is
+
+called_there : (s : Sources) (like allow : Bool) (lo : Loose) (i k : ℕ) (o : Object) (e : InputSymbol) (m : Meaning) → IsLoose like allow s.entries.names.now.names s.resolution.now.imports s.entries.objects.now lo
+    → slice_get s.entries.objects.now i ≡ Some o → slice_get (symbols_of s.entries.objects.now o) k ≡ Some e
+    → slice_get (map (meant s.entries.objects.now allow) (symbols_of s.entries.objects.now o)) k ≡ Some m
+    → (let n = get_or (starts 0 (rows_of s.entries.objects.now)) i 0 + k in
+    IsNamedBy (like && is_mismatch (entries Plain s.entries.objects.now) e m) (told_variant s.entries.names.now.names s.resolution.now.imports (variant e)) (all_symbols s ++ lo.symbols) n (get_or lo.called n n))
+called_there s like allow lo i k o e m loose at there means =
+    let objects = s.entries.objects.now in
+    let n : ℕ = get_or (starts 0 (rows_of objects)) i 0 + k in
+    let v : Symbol = told_variant s.entries.names.now.names s.resolution.now.imports (variant e) in
+    let same : meant objects allow e ≡ m =
+    same_Some (meant objects allow e) m (sym (slice_get-map (meant objects allow) (symbols_of objects o) k ∙ ap (option_map (meant objects allow)) there) ∙ means) in
+    let row : slice_get (rows_of objects) i ≡ Some (symbols_of objects o) = slice_get-map (symbols_of objects) objects i ∙ ap (option_map (symbols_of objects)) at in
+    let flat : slice_get (input_symbols objects) n ≡ Some e = ap (λ l. slice_get l n) (sym (flat_same (symbols_of objects) objects)) ∙ in_rows (rows_of objects) i k (symbols_of objects o) e row there in
+    subst (λ m. IsNamedBy (like && is_mismatch (entries Plain objects) e m) v (all_symbols s ++ lo.symbols) n (get_or lo.called n n)) same
+    (called_by s lo (loosens like allow objects e) v n (get_or lo.called n n) (loose.called n e flat))
+
 -- a view of an object, and what its numbers stand for
-pub record ViewOf (s : Sources) (types : List FuncType) (all : List Candidate) (allow : Bool) (l : Lookups) (i : ℕ) (o : Object) : Type 0 where
+pub record ViewOf (s : Sources) (types : List FuncType) (all : List Candidate) (like allow : Bool) (lo : Loose) (l : Lookups) (i : ℕ) (o : Object) : Type 0 where
   pub view : View
   pub at : view_at l i ≡ Some view
-  pub is : IsView s.entries.names.now.names s.resolution.now.imports (all_symbols s) types all s.entries.objects.now (resolved_of s.entries.objects.now allow o) view
+  pub is : IsView like (entries Plain s.entries.objects.now) s.entries.names.now.names s.resolution.now.imports (all_symbols s ++ lo.symbols) types all s.entries.objects.now (resolved_of s.entries.objects.now allow o) view
 
 part_at : (objects : List Object) (parts : List ObjectParts) (i : ℕ) (o : Object) → AreParts objects parts → slice_get objects i ≡ Some o → (p : ObjectParts) × (slice_get parts i ≡ Some p)
 part_at objects parts i o are at =
@@ -102,9 +136,9 @@ part_at objects parts i o are at =
     let many = are.count in
     item_at parts i (omega arith)
 
-view_of : (s : Sources) (types : List FuncType) (all : List Candidate) (allow : Bool) (l : Lookups) (i : ℕ) (o : Object) → AreLookups s types all allow l → slice_get s.entries.objects.now i ≡ Some o
-    → ViewOf s types all allow l i o
-view_of s types all allow l i o are at =
+view_of : (s : Sources) (types : List FuncType) (all : List Candidate) (like allow : Bool) (lo : Loose) (l : Lookups) (i : ℕ) (o : Object) → AreLookups s types all like allow lo l → slice_get s.entries.objects.now i ≡ Some o
+    → ViewOf s types all like allow lo l i o
+view_of s types all like allow lo l i o are at =
     let objects = s.entries.objects.now in
     let found = part_at objects s.entries.parts.now i o are.parts at in
     let p = found.0 in
@@ -112,7 +146,7 @@ view_of s types all allow l i o are at =
     let there : slice_get l.entries.objects.now i ≡ Some o = ap (λ es. slice_get es.objects.now i) are.entries ∙ at in
     let parts_there : slice_get l.entries.parts.now i ≡ Some p = ap (λ es. slice_get es.parts.now i) are.entries ∙ found.1 in
     record {
-      view = record { object = o; parts = p; first = get_or l.firsts.now i 0; types = get_or l.types.now i []; home = slice_get l.homes.now (o.input - 1) };
+      view = record { object = o; parts = p; first = get_or l.firsts.now i 0; types = get_or l.types.now i []; home = slice_get l.homes.now (o.input - 1); called = l.called.now };
       at = rw (there, parts_there) refl;
       is = record {
         object = refl;
@@ -120,7 +154,12 @@ view_of s types all allow l i o are at =
         entries = row_length objects o 0 o.symbols;
         meanings = length-map (symbols_of objects o) (meant objects allow) ∙ row_length objects o 0 o.symbols;
         told = λ k e m at_e at_m.
-            ap (λ fs. slice_get (all_symbols s) (get_or fs i 0 + k)) are.firsts ∙ told_there s allow i k o e m are.rise are.meant at at_e at_m;
+            front (all_symbols s) lo.symbols (get_or l.firsts.now i 0 + k) (told_symbol s.entries.names.now.names s.resolution.now.imports e m)
+            (ap (λ fs. slice_get (all_symbols s) (get_or fs i 0 + k)) are.firsts ∙ told_there s allow i k o e m are.rise are.meant at at_e at_m);
+        called = λ k e m at_e at_m.
+            subst (λ fs. IsNamedBy (like && is_mismatch (entries Plain objects) e m) (told_variant s.entries.names.now.names s.resolution.now.imports (variant e)) (all_symbols s ++ lo.symbols) (get_or fs i 0 + k) (get_or l.called.now (get_or fs i 0 + k) (get_or fs i 0 + k))) (sym are.firsts)
+            (subst (λ cs. IsNamedBy (like && is_mismatch (entries Plain objects) e m) (told_variant s.entries.names.now.names s.resolution.now.imports (variant e)) (all_symbols s ++ lo.symbols) (get_or (starts 0 (rows_of objects)) i 0 + k) (get_or cs (get_or (starts 0 (rows_of objects)) i 0 + k) (get_or (starts 0 (rows_of objects)) i 0 + k))) (sym are.called)
+            (called_there s like allow lo i k o e m are.loose at at_e at_m));
         typed = λ index. type_is types l.types.now objects i o index are.typed at;
         source = λ span. source_is l.homes.now all o.input span are.homes are.numbered (above 0 objects i o are.rise at);
         parts = each;
@@ -130,15 +169,18 @@ view_of s types all allow l i o are at =
 
 -- ---- objects in turn
 
-module _ (s : Sources) (types : List FuncType) (all : List Candidate) (allow : Bool) (l : Lookups) (are : AreLookups s types all allow l) where
+module _ (s : Sources) (types : List FuncType) (all : List Candidate) (like allow : Bool) (lo : Loose) (l : Lookups) (are : AreLookups s types all like allow lo l) where
+  abbrev names_of : List InputSymbol
+  names_of = entries Plain s.entries.objects.now
+
   abbrev objects_of : List Object
   objects_of = s.entries.objects.now
 
   abbrev Shows : Row → rules.Part → Type 0
-  Shows = ShowsPart (all_symbols s) types s.entries.names.now.names s.resolution.now.imports
+  Shows = ShowsPart like names_of (all_symbols s ++ lo.symbols) types s.entries.names.now.names s.resolution.now.imports
 
   abbrev Calls : InitCall → rules.InitCall → Type 0
-  Calls = ShowsCall (all_symbols s) types s.entries.names.now.names s.resolution.now.imports
+  Calls = ShowsCall like names_of (all_symbols s ++ lo.symbols) types s.entries.names.now.names s.resolution.now.imports
 
   abbrev first_resolved : ℕ → List Resolved
   first_resolved n = map (resolved_of objects_of allow) (take n objects_of)
@@ -162,10 +204,10 @@ module _ (s : Sources) (types : List FuncType) (all : List Candidate) (allow : B
   rows_to zero le = tt
   rows_to (suc n) le =
       let (o, at) = object_at n (omega arith) in
-      let v = view_of s types all allow l n o are at in
+      let v = view_of s types all like allow lo l n o are at in
       let row : AllZip Shows (rows_of_view (view_at l n)) (parts_in all objects_of (resolved_of objects_of allow o)) =
       subst (λ x. AllZip Shows (rows_of_view x) (parts_in all objects_of (resolved_of objects_of allow o))) (sym v.at)
-      (rows_shown s.entries.names.now.names s.resolution.now.imports (all_symbols s) types all objects_of (resolved_of objects_of allow o) v.view v.is) in
+      (rows_shown like names_of s.entries.names.now.names s.resolution.now.imports (all_symbols s ++ lo.symbols) types all objects_of (resolved_of objects_of allow o) v.view v.is) in
       subst (λ x. AllZip Shows (rows_upto l n ++ rows_of_view (view_at l n)) x) (sym (more_flat (parts_in all objects_of) n o at))
       (zip_append Shows (rows_upto l n) (rows_of_view (view_at l n)) (flat_map (parts_in all objects_of) (first_resolved n)) (parts_in all objects_of (resolved_of objects_of allow o))
       (rows_to n (omega arith)) row)
@@ -174,12 +216,12 @@ module _ (s : Sources) (types : List FuncType) (all : List Candidate) (allow : B
   calls_to zero le = tt
   calls_to (suc n) le =
       let (o, at) = object_at n (omega arith) in
-      let v = view_of s types all allow l n o are at in
+      let v = view_of s types all like allow lo l n o are at in
       let r = resolved_of objects_of allow o in
       let row : AllZip Calls (calls_of l n) (init_calls_in r) =
       subst (λ x. AllZip Calls (calls_in l.entries.objects.now x) (init_calls_in r)) (sym v.at)
       (subst (λ es. AllZip Calls (calls_in es.objects.now (Some v.view)) (init_calls_in r)) (sym are.entries)
-      (calls_shown s.entries.names.now.names s.resolution.now.imports (all_symbols s) types all objects_of r v.view v.is)) in
+      (calls_shown like names_of s.entries.names.now.names s.resolution.now.imports (all_symbols s ++ lo.symbols) types all objects_of r v.view v.is)) in
       subst (λ x. AllZip Calls (calls_upto l n ++ calls_of l n) x) (sym (more_flat init_calls_in n o at))
       (zip_append Calls (calls_upto l n) (calls_of l n) (flat_map init_calls_in (first_resolved n)) (init_calls_in r) (calls_to n (omega arith)) row)
 
@@ -210,7 +252,7 @@ module _ (s : Sources) (types : List FuncType) (all : List Candidate) (allow : B
   sorted_shown (c ∷ cs) (d ∷ ds) all = insert_shown c d (by_key priority_of cs) (by_priority ds) all.0 (sorted_shown cs ds all.1)
 
   abbrev ShowsOne : Named → rules.Named → Type 0
-  ShowsOne = ShowsNamed (all_symbols s) types s.entries.names.now.names s.resolution.now.imports
+  ShowsOne = ShowsNamed like names_of (all_symbols s ++ lo.symbols) types s.entries.names.now.names s.resolution.now.imports
 
   names_shown : (cs : List InitCall) (ds : List rules.InitCall) → AllZip Calls cs ds → AllZip ShowsOne (map named_of cs) (map a_symbol (map (λ c. c.ref) ds))
   names_shown [] [] all = tt

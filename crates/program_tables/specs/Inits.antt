@@ -9,7 +9,7 @@ use Rattle.link_program.specs.declared.named.Named.{Named}
 use Rattle.link_program.specs.declared.named.Named.TheVariants.{Symbol}
 use Rattle.program_tables.specs.declared.inits.InitCall.{InitCall}
 use Rattle.program_tables.specs.declared.view.Lookups.{Lookups}
-use Rattle.program_tables.specs.Views.{View, view_at}
+use Rattle.program_tables.specs.Views.{View, view_at, called_from}
 
 -- The items by rising keys; those of one key stay as they stand.
 abbrev pub insert_by : {A : Type 0} → (A → ℕ) → A → List A → List A
@@ -28,7 +28,7 @@ named_of c = c.named
 
 -- The call of an init function by its symbol. There is none where the symbol is defined in a part that isn't kept.
 abbrev pub call_by : View → InitFunc → InputSymbol → Option InitCall
-call_by v i e = given (is_init_use e) (record { priority = i.priority; named = Symbol 0 0 (pos 0) (v.first + i.symbol) })
+call_by v i e = given (is_init_use e) (record { priority = i.priority; named = Symbol 0 0 (pos 0) (called_from v i.symbol) })
 
 abbrev pub call_of : List Object → View → InitFunc → Option InitCall
 call_of objects v i = option_and_then (call_by v i) (slice_get (symbols_of objects v.object) i.symbol)

@@ -8,3 +8,4 @@ pub mod Rows
 pub mod Gains
 pub mod Pieces
 pub mod Inits
+pub mod Loose

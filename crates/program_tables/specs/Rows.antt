@@ -18,7 +18,7 @@ use Rattle.link_program.specs.declared.named.Named.TheVariants as items
 use Rattle.link_program.specs.declared.part.Content.TheVariants.{Function, Segment, Global, Made}
 use Rattle.link_program.specs.declared.part.Part.{Part}
 use Rattle.program_tables.specs.declared.view.Lookups.{Lookups}
-use Rattle.program_tables.specs.Views.{View, view_at, keeps_function, type_from, source_from}
+use Rattle.program_tables.specs.Views.{View, view_at, keeps_function, number_named, type_from, source_from}
 use Rattle.program_tables.specs.Inits.{call_names}
 
 -- A part, and what it names.
@@ -29,7 +29,7 @@ pub record Row : Type 0 where
 -- ---- what windows name
 
 abbrev pub symbol_named : View → ℕ → ℕ → ℤ → ℕ → Option Named
-symbol_named v place kind addend symbol = given (nat_lt symbol (length v.object.symbols)) (items.Symbol kind place addend (v.first + symbol))
+symbol_named v place kind addend symbol = given (nat_lt symbol (length v.object.symbols)) (items.Symbol kind place addend (number_named v kind symbol))
 
 abbrev pub operand_named : View → Operand → Option Named
 operand_named v operands.Number = None

@@ -49,7 +49,7 @@ fn call_of(
             kind: 0,
             place: 0,
             addend: 0,
-            symbol: view.first + init.symbol,
+            symbol: view.called(init.symbol),
         },
     })
 }

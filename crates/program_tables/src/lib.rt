@@ -5,6 +5,7 @@
 mod definitions;
 mod inits;
 mod joining;
+mod loose;
 mod making;
 mod objects;
 mod parts;
@@ -17,4 +18,5 @@ mod view;
 mod windows;
 mod winners;
 
+pub use loose::Loose;
 pub use tables::tables_of;

@@ -21,7 +21,7 @@ pub(crate) struct Sources<'a> {
     pub(crate) places: &'a [u32],
 }
 
-/// The symbols of all objects, one object behind another, and where those of each object begin.
+/// The symbols of all objects, one object behind another, and behind them the variants; and where those of each object begin.
 #[derive(Drop)]
 pub(crate) struct AllSymbols {
     pub(crate) symbols: Seq<Symbol>,
@@ -89,10 +89,14 @@ fn next_number(symbols: &Seq<Symbol>) -> Result<u32, OutOfMemory>
     }
 }
 
-/// The symbols of all objects; 2^32 of them or more are answered as want of memory.
-pub(crate) fn all_symbols(alloc: Global, sources: Sources<'_>) -> Result<AllSymbols, OutOfMemory>
+/// The symbols of all objects, and behind them those of variants; 2^32 of them or more are answered as want of memory.
+pub(crate) fn all_symbols(
+    alloc: Global,
+    sources: Sources<'_>,
+    variants: &[Symbol],
+) -> Result<AllSymbols, OutOfMemory>
     requires { AreSources sources }
-    ensures symbols { IfOk result (λ all. all.symbols ≡ symbols_of sources.entry) }
+    ensures symbols { IfOk result (λ all. all.symbols ≡ symbols_of sources.entry ++ variants.now) }
     ensures firsts { IfOk result (λ all. all.firsts ≡ starts 0 (rows_of sources.entry.entries.objects.now)) }
     ensures few { IfOk result (λ all. length all.symbols < 2 ^ 32) }
 {
@@ -102,6 +106,7 @@ pub(crate) fn all_symbols(alloc: Global, sources: Sources<'_>) -> Result<AllSymb
         firsts.push(next_number(&symbols)?)?;
         add_symbols(&mut symbols, sources, object)?;
     }
+    symbols.extend_from_slice(variants)?;
     next_number(&symbols)?;
     Ok(AllSymbols { symbols, firsts })
 }

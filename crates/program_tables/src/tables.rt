@@ -9,7 +9,9 @@ ghost use Rattle.link_program.specs.name_meanings.Means.{IsResolution};
 ghost use Rattle.link_program.specs.link_rules.Program.{program_of};
 ghost use Rattle.link_program.specs.Loaded.{Origin, IsLoaded};
 ghost use Rattle.link_program.specs.Program.{AreTables};
+ghost use Rattle.program_tables.specs.Loose.{IsLoose};
 
+use crate::loose::Loose;
 use crate::objects::places_by_input;
 use crate::parts::{AllParts, all_parts};
 use crate::symbols::{AllSymbols, Sources, all_symbols};
@@ -24,7 +26,7 @@ use wl_base::OutOfMemory;
 use wl_fan::Workers;
 
 /// The tables of the program of these loaded objects, by the numbers of names and imports. `ranks` has the winner of each name,
-/// `resolution` what each symbol means, `homes` where the bytes of each candidate begin.
+/// `resolution` what each symbol means, `homes` where the bytes of each candidate begin, `loose` what is called by other types.
 ///
 /// The parts are made by the workers, where there are many; what is answered doesn't depend on their number.
 /// 2^32 symbols, or 2^32 - 1 parts, are answered as want of memory. `origin` is where the objects come from, by which the program is
@@ -36,6 +38,7 @@ pub fn tables_of<R: Threads + Sync>(
     ranks: &Winners,
     resolution: &Resolution,
     homes: &[Home],
+    loose: &Loose,
     workers: Workers,
 ) -> Result<Tables, OutOfMemory>
     ghost origin: { Origin }
@@ -44,6 +47,7 @@ pub fn tables_of<R: Threads + Sync>(
     requires resolution { IsResolution resolution.now
         (resolve modes.Plain origin.plan.allow_undefined (all_entries modes.Plain entries.objects.now) entries.objects.now) }
     requires loaded { IsLoaded origin.files origin.all entries.objects.now homes.now }
+    requires loose { IsLoose origin.plan.like_lld origin.plan.allow_undefined entries.names.now.names resolution.now.imports entries.objects.now loose.now }
     ensures { IfOk result (λ tables. AreTables entries.entry.names.now.names resolution.now.imports tables
         (program_of modes.Plain origin.plan origin.files origin.all entries.entry.objects.now)) }
 {
@@ -53,21 +57,26 @@ pub fn tables_of<R: Threads + Sync>(
         resolution,
         places: places.as_slice(),
     };
-    let AllSymbols { symbols, firsts } = all_symbols(alloc, sources)?;
+    let AllSymbols { symbols, firsts } = all_symbols(alloc, sources, loose.symbols.as_slice())?;
     let winners = all_winners(alloc, entries, ranks)?;
-    let kinds = all_types(alloc, entries.objects)?;
+    let kinds = all_types(alloc, entries.objects, loose.types.as_slice())?;
     let lookups = Lookups {
         entries,
         firsts: firsts.as_slice(),
         types: kinds.numbers(),
         homes,
+        called: loose.called.as_slice(),
     };
     let AllParts {
         parts,
         named,
         chunks,
     } = all_parts(rt, alloc, lookups, workers)?;
-    let AllTypes { types, numbers: _ } = kinds;
+    let AllTypes {
+        types,
+        numbers: _,
+        variants,
+    } = kinds;
     Ok(Tables {
         symbols,
         winners,
@@ -75,5 +84,6 @@ pub fn tables_of<R: Threads + Sync>(
         named,
         types,
         chunks,
+        variants,
     })
 }

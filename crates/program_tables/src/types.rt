@@ -12,12 +12,13 @@ use wasm_types::FuncType;
 use wl_base::{OutOfMemory, Seq};
 use wl_lists::Lists;
 
-/// The function types, each once, and by object the numbers of its types.
+/// The function types, each once, by object the numbers of its types, and the numbers of those of variants.
 #[derive(Drop)]
 pub(crate) struct AllTypes {
     /// The first is () to (), which the linker's functions have.
     pub(crate) types: Seq<FuncType>,
     pub(crate) numbers: Lists<u32>,
+    pub(crate) variants: Seq<u32>,
 }
 
 impl AllTypes {
@@ -88,9 +89,32 @@ fn numbers_of(
     Ok(rows)
 }
 
-/// The function types of these objects.
-pub(crate) fn all_types(alloc: Global, objects: &[Object]) -> Result<AllTypes, OutOfMemory>
-    ensures { IfOk result (λ all. AreTyped all.types all.numbers objects.now) }
+/// The numbers of these types, which go last where they are new.
+fn numbers_for(
+    alloc: Global,
+    table: &mut TypeTable,
+    these: &[FuncType],
+) -> Result<Seq<u32>, OutOfMemory>
+    ensures keep { OnOk result (Keep table.old table.new) }
+    ensures numbers { IfOk result (λ numbers. AreNumbered table.new numbers these.now) }
+{
+    let mut numbers = Seq::new(alloc);
+    for kind in these {
+        let params = kind.params.as_slice();
+        let results = kind.results.as_slice();
+        numbers.push(number_of(table, FuncTypeRef { params, results })?)?;
+    }
+    Ok(numbers)
+}
+
+/// The function types of these objects, and of variants.
+pub(crate) fn all_types(
+    alloc: Global,
+    objects: &[Object],
+    variants: &[FuncType],
+) -> Result<AllTypes, OutOfMemory>
+    ensures typed { IfOk result (λ all. AreTyped all.types all.numbers objects.now) }
+    ensures variants { IfOk result (λ all. AreNumbered all.types all.variants variants.now) }
 {
     let mut table = TypeTable::new(alloc);
     let none = FuncTypeRef {
@@ -99,6 +123,11 @@ pub(crate) fn all_types(alloc: Global, objects: &[Object]) -> Result<AllTypes, O
     };
     number_of(&mut table, none)?;
     let numbers = numbers_of(alloc, &mut table, objects)?;
+    let variants = numbers_for(alloc, &mut table, variants)?;
     let types = copies_of(alloc, table.types())?;
-    Ok(AllTypes { types, numbers })
+    Ok(AllTypes {
+        types,
+        numbers,
+        variants,
+    })
 }

@@ -1,7 +1,7 @@
 //! What is looked up of an object when its parts are made.
 ghost use Rattle.std.specs.Prelude.{◌≡◌, ◌-◌, ◌+◌, ◌<◌, ◌^◌, [], length, slice_get, slice_index_or, option_map, Some, None, not, IfOk};
 ghost use Rattle.link_program.specs.name_entries.Parts.{has_flag};
-ghost use Rattle.program_tables.specs.Views.{view_seen, view_at, keeps_function, type_from, source_from};
+ghost use Rattle.program_tables.specs.Views.{view_seen, view_at, keeps_function, called_from, number_named, type_from, source_from};
 
 use link_program::{Entries, Home, Object, ObjectParts};
 use wl_base::{FileSpan, InputId, OutOfMemory, Seq, Span};
@@ -17,6 +17,8 @@ pub(crate) struct Lookups<'a> {
     pub(crate) types: &'a Lists<u32>,
     /// By candidate, where its bytes begin.
     pub(crate) homes: &'a [Home],
+    /// By the number of a symbol, that of the one which a call of it names; where there is none, it is the symbol itself.
+    pub(crate) called: &'a [u32],
 }
 
 /// An object, and the numbers of its symbols and types.
@@ -30,6 +32,8 @@ pub(crate) struct ObjectView<'a> {
     pub(crate) types: &'a [u32],
     /// Where its bytes begin.
     pub(crate) home: Option<Home>,
+    /// By the number of a symbol, that of the one which a call of it names.
+    pub(crate) called: &'a [u32],
 }
 
 /// Where the bytes of an input begin.
@@ -56,6 +60,19 @@ fn first_of(firsts: &[u32], object: u32) -> u32
     match firsts.get(object as usize) {
         Some(first) => *first,
         None => 0,
+    }
+}
+
+/// The type of a relocation that calls (R_WASM_FUNCTION_INDEX_LEB).
+const CALLS: u8 = 0;
+
+/// The number of the symbol that a call names in place of the one of this number.
+fn called_by(called: &[u32], number: u32) -> u32
+    ensures { result ≡ slice_index_or called.now number number }
+{
+    match called.get(number as usize) {
+        Some(other) => *other,
+        None => number,
     }
 }
 
@@ -88,6 +105,7 @@ impl<'a> Lookups<'a> {
             first,
             types: types_of(self.types, object),
             home: home_of(self.homes, from.input),
+            called: self.called,
         })
     }
 }
@@ -109,6 +127,28 @@ impl ObjectView<'_> {
         ensures { result ≡ not (has_flag self.entry.parts.now.dropped_segments index) }
     {
         is_unset(&self.parts.dropped_segments, index as usize)
+    }
+
+    /// The number of the symbol that a call of a symbol of the object names.
+    pub(crate) fn called(self, symbol: u32) -> u32
+        requires few { self.first + length self.from.now.symbols < 2 ^ 32 }
+        requires there { symbol < length self.from.now.symbols }
+        ensures { result ≡ called_from (view_seen self.entry) symbol }
+    {
+        called_by(self.called, self.first + symbol)
+    }
+
+    /// The number of the symbol that a relocation of this type names, by a symbol of the object.
+    pub(crate) fn named_by(self, kind: u8, symbol: u32) -> u32
+        requires few { self.first + length self.from.now.symbols < 2 ^ 32 }
+        requires there { symbol < length self.from.now.symbols }
+        ensures { result ≡ number_named (view_seen self.entry) kind symbol }
+    {
+        if kind == CALLS {
+            self.called(symbol)
+        } else {
+            self.first + symbol
+        }
     }
 
     /// The number of a type of the object; 0, that of () to (), where there is none.

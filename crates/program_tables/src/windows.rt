@@ -24,7 +24,7 @@ impl ObjectView<'_> {
             kind,
             place,
             addend,
-            symbol: self.first + symbol,
+            symbol: self.named_by(kind, symbol),
         })
     }
 

@@ -1,4 +1,4 @@
--- Where a link gives bytes, both machines give one trace.
+-- Where a link gives bytes, the machine of modules gives the trace of the plan and the files, and the machine of objects no other.
 use Rattle.std.specs.Prelude.{◌≡◌, ℕ, List, length, unwrap_or, Ok}
 use Rattle.object_file.specs.declared.object.Object.{Object}
 use Rattle.round_rules.specs.Rounds.{Candidate, load}
@@ -12,17 +12,21 @@ use Rattle.link_rules.specs.Candidates.{candidates_of}
 use Rattle.link_rules.specs.LinkOf.{asked_names, the_readers, link_of}
 use Rattle.link_rules.specs.Marks.{exported}
 use Rattle.link_rules.specs.Program.{Program, program_of}
-use Rattle.link_worlds.specs.Worlds.{layout_of}
+use Rattle.link_worlds.specs.Worlds.{layout_of, plan_trace}
 use Rattle.link_facts.specs.Faults.{Enough}
 use Rattle.run_machines.specs.declared.outcome.Run.TheVariants.{Traced}
 use Rattle.run_machines.specs.Runs.{run_of_bytes}
 use Rattle.run_machines.specs.Sym.{run_of_sym}
 use Rattle.run_laws.specs.Objects.{objects_of}
 
--- What `run_sym` gives of the objects and `run_mod` of the bytes.
+-- The bytes are a module whose segments fit, and `run_mod` gives its trace.
+abbrev pub ModuleRuns : Program → List InputSymbol → List ℕ → Type 0
+ModuleRuns p exports bytes = (s : Session) (n : ℕ) → Enough s (layout_of p exports) → run_of_bytes s bytes n ≡ Traced (plan_trace s p exports n)
+
+-- What `run_sym` gives of the objects, `run_mod` gives of the bytes.
 abbrev pub SameTraces : Program → List InputSymbol → List ℕ → Type 0
-SameTraces p exports bytes = (s : Session) (n : ℕ) (before after : Trace) → Enough s (layout_of p exports)
-    → run_of_sym s (objects_of p exports) n ≡ Traced before → run_of_bytes s bytes n ≡ Traced after → before ≡ after
+SameTraces p exports bytes = (s : Session) (n : ℕ) (trace : Trace) → Enough s (layout_of p exports)
+    → run_of_sym s (objects_of p exports) n ≡ Traced trace → run_of_bytes s bytes n ≡ Traced trace
 
 -- The same of the objects that a link loads.
 pub record Agree (plan : Plan) (files : List (List ℕ)) (bytes : List ℕ) : Type 0 where
@@ -30,6 +34,7 @@ pub record Agree (plan : Plan) (files : List (List ℕ)) (bytes : List ℕ) : Ty
   pub objects : List Object
   pub found : candidates_of the_readers plan files ≡ Ok all
   pub loaded : load Plain (asked_names plan) all ≡ Ok objects
+  pub runs : ModuleRuns (program_of Plain plan files all objects) (exported Plain (program_of Plain plan files all objects)) bytes
   pub same : SameTraces (program_of Plain plan files all objects) (exported Plain (program_of Plain plan files all objects)) bytes
 
 -- So it is of each link that gives bytes.

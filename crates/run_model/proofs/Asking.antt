@@ -1,5 +1,5 @@
 -- What the host answers does not depend on the values and places that it replaces.
-use Rattle.std.proofs.Common.{◌≡◌, ℕ, ◌≤◌, Bool, true, false, List, [], ◌∷◌, ◌++◌, length, take, drop, map, Option, Some, None, refl, sym, ap, subst, ◌∙◌, arith}
+use Rattle.std.proofs.Common.{◌≡◌, ℕ, ◌+◌, ◌≤◌, Bool, true, false, List, [], ◌∷◌, ◌++◌, length, take, drop, map, Option, Some, None, refl, sym, ap, subst, ◌∙◌, arith}
 use Rattle.std.proofs.lemmas.Bool.Decides.{nat_tests}
 use Rattle.std.specs.Prelude.{reverse, slice_get, nat_le, if◌then◌else◌}
 use Rattle.wasm_types.specs.declared.function.FuncType.{FuncType}
@@ -14,7 +14,7 @@ use Rattle.run_rules.specs.declared.world.Source.{Source}
 use Rattle.run_rules.specs.declared.world.Source.TheVariants.{Host}
 use Rattle.run_rules.specs.declared.state.Frame.{Frame}
 use Rattle.run_rules.specs.declared.state.Inner.{Inner}
-use Rattle.run_rules.specs.Own.{Turn, Ends}
+use Rattle.run_rules.specs.Own.{Turn, Ends, used}
 use Rattle.run_rules.specs.Steps.{Names, Cells, told, blank, ended, over, turned, given_back, replied, have_types, all_written, asking, into, call_as}
 use Rattle.run_numbers.specs.Layers.{Layers}
 use Rattle.run_rules.specs.Runs.{hosted}
@@ -22,7 +22,7 @@ use Rattle.run_model.specs.declared.state.Running.{Running}
 use Rattle.run_model.specs.declared.state.Active.{Active}
 use Rattle.run_model.specs.declared.state.After.{After}
 use Rattle.run_model.specs.declared.state.After.TheVariants as after
-use Rattle.run_model.specs.Views.{Turns, hosting, frame_of, inner_of, turn_of}
+use Rattle.run_model.specs.Views.{Turns, hosting, asking_in, frame_of, inner_of, turn_of}
 use Rattle.run_model.proofs.Turning.{over_stays, ended_stays, turned_after}
 
 -- ---- in a call
@@ -40,7 +40,7 @@ asked_apart names cells i t vs (Some (answers.Results ws rs)) = by (have_types r
     by false m = refl
 
 -- a call of a function of the host
-led_by_host : (s : Session) (g : ℕ) (names : Names) (cells : Cells) (i : Inner) (j k : Active) (vs : List Value) (t : FuncType) (source : Source) (m n : List ℕ) (a : After) → source ≡ Host m n → length t.params ≤ length vs → inner_of j ≡ record (asking i m n (reverse (take (length t.params) vs))) { frame = record i.frame { values = drop (length t.params) vs } } → Turns (replied t (inner_of j) j.frame.layered.values (slice_get s.answers j.answered)) a j k → call_as s g names cells i vs t source ≡ turned names cells (inner_of k) (turn_of a k)
+led_by_host : (s : Session) (g : ℕ) (names : Names) (cells : Cells) (i : Inner) (j k : Active) (vs : List Value) (t : FuncType) (source : Source) (m n : List ℕ) (a : After) → source ≡ Host m n → length t.params ≤ length vs → inner_of j ≡ record (asking i m n (reverse (take (length t.params) vs))) { frame = record i.frame { values = drop (length t.params) vs } } → Turns (replied t (inner_of j) j.frame.layered.values (slice_get s.answers i.answered)) a j k → call_as s g names cells i vs t source ≡ turned names cells (inner_of k) (turn_of a k)
 led_by_host s g names cells i j k vs t source m n a is fits same turns =
     let args : List Value = take (length t.params) vs in
     let left : List Value = drop (length t.params) vs in
@@ -48,86 +48,84 @@ led_by_host s g names cells i j k vs t source m n a is fits same turns =
     ap (λ (b : Bool). if b then into s g names cells i t args left source else ended cells i events.Stuck) enough
     ∙ ap (into s g names cells i t args left) is
     ∙ asked_apart names cells (asking i m n (reverse args)) t left (slice_get s.answers i.answered)
-    ∙ ap (λ (x : Inner). turned names cells x (replied t x x.frame.values (slice_get s.answers x.answered))) (sym same)
-    ∙ turned_after names cells j k (replied t (inner_of j) j.frame.layered.values (slice_get s.answers j.answered)) a turns
+    ∙ ap (λ (x : Inner). turned names cells x (replied t x x.frame.values (slice_get s.answers i.answered))) (sym same)
+    ∙ turned_after names cells j k (replied t (inner_of j) j.frame.layered.values (slice_get s.answers i.answered)) a turns
 
--- the state with other values and events
-abbrev pub asking_from : Active → Layers → List Event → Active
-asking_from old layered now = record old { frame = record old.frame { layered = layered }; events = now }
+-- the state with other values
+abbrev pub layered_in : Active → Layers → Active
+layered_in old layered = record old { frame = record old.frame { layered = layered } }
 
 -- the same, step by step: arguments are taken off, the call is told, and the host answers
-pub host_called : (s : Session) (g : ℕ) (names : Names) (cells : Cells) (old k : Active) (t : FuncType) (source : Source) (m n : List ℕ) (a : After) (count : ℕ) (top args : List Value) (event : Event) (layered : Layers) (now : List Event) → source ≡ Host m n → count ≡ length t.params → count ≤ length old.frame.layered.values → top ≡ take count old.frame.layered.values → args ≡ reverse top → event ≡ events.Asked m n args → layered ≡ record old.frame.layered { values = drop count old.frame.layered.values } → now ≡ old.events ++ event ∷ [] → Turns (replied t (inner_of (asking_from old layered now)) layered.values (slice_get s.answers old.answered)) a (asking_from old layered now) k → call_as s g names cells (inner_of old) old.frame.layered.values t source ≡ turned names cells (inner_of k) (turn_of a k)
-host_called s g names cells old k t source m n a count top args event layered now is counted enough taken turned_round asked left push turns =
+pub host_called : (s : Session) (g : ℕ) (names : Names) (cells : Cells) (old j k : Active) (t : FuncType) (source : Source) (m n : List ℕ) (a : After) (count place : ℕ) (top args : List Value) (event : Event) (layered : Layers) → source ≡ Host m n → count ≡ length t.params → count ≤ length old.frame.layered.values → top ≡ take count old.frame.layered.values → args ≡ reverse top → event ≡ events.Asked m n args → layered ≡ record old.frame.layered { values = drop count old.frame.layered.values } → place ≡ old.answered → j ≡ asking_in (layered_in old layered) event → Turns (replied t (inner_of j) j.frame.layered.values (slice_get s.answers place)) a j k → call_as s g names cells (inner_of old) old.frame.layered.values t source ≡ turned names cells (inner_of k) (turn_of a k)
+host_called s g names cells old j k t source m n a count place top args event layered is counted enough taken turned_round asked left at told turns =
     let vs : List Value = old.frame.layered.values in
     let fits : length t.params ≤ length vs = omega arith in
-    let events_are : now ≡ old.events ++ events.Asked m n (reverse (take (length t.params) vs)) ∷ [] =
-    push ∙ ap (λ (e : Event). old.events ++ e ∷ []) (asked ∙ ap (events.Asked m n) (turned_round ∙ ap (λ (l : List Value). reverse l) (taken ∙ ap (λ (c : ℕ). take c vs) counted))) in
+    let event_is : event ≡ events.Asked m n (reverse (take (length t.params) vs)) =
+    asked ∙ ap (events.Asked m n) (turned_round ∙ ap (λ (l : List Value). reverse l) (taken ∙ ap (λ (c : ℕ). take c vs) counted)) in
     let labels_are : layered.labels ≡ old.frame.layered.labels = ap (λ (l : Layers). l.labels) left in
     let values_are : layered.values ≡ drop (length t.params) vs = ap (λ (l : Layers). l.values) left ∙ ap (λ (c : ℕ). drop c vs) counted in
-    led_by_host s g names cells (inner_of old) (asking_from old layered now) k vs t source m n a is fits
-    (λ x. record {
+    led_by_host s g names cells (inner_of old) j k vs t source m n a is fits
+    (ap inner_of told
+    ∙ (λ x. record {
       frame = record { place = old.frame.place; locals = old.frame.locals.items; labels = labels_are x; values = values_are x; results = old.frame.results };
       below = map frame_of old.below;
       memory = old.memory.items;
-      answered = old.answered;
-      events = events_are x;
-    })
-    turns
+      answered = old.answered + 1;
+      events = old.events ++ event_is x ∷ [];
+    }))
+    (subst (λ (p : ℕ). Turns (replied t (inner_of j) j.frame.layered.values (slice_get s.answers p)) a j k) at turns)
 
 -- ---- in a call of the session, where no function runs
 
-asked_idle : (s : Session) (cells : Cells) (i : Inner) (f : Frame) (t : FuncType) → hosting s cells i t ≡ hosting s cells (record i { frame = f }) t
-asked_idle s cells i f t = onto (slice_get s.answers i.answered)
+asked_idle : (cells : Cells) (i : Inner) (f : Frame) (t : FuncType) (a : Option Answer) → hosted cells i (replied t i [] a) ≡ hosted cells (record i { frame = f }) (replied t (record i { frame = f }) [] a)
+asked_idle cells i f t None = refl
+asked_idle cells i f t (Some answers.Trap) = refl
+asked_idle cells i f t (Some (answers.Grow b)) = refl
+asked_idle cells i f t (Some (answers.Results ws rs)) = by (have_types rs t.results) (all_written ws i.memory)
   where
-    by : (rs : List Value) (b : Bool) (m : Option (List ℕ)) → hosted cells i (if b then given_back i (reverse rs ++ []) m else Ends events.HostSpent) ≡ hosted cells (record i { frame = f }) (if b then given_back (record i { frame = f }) (reverse rs ++ []) m else Ends events.HostSpent)
-    by rs true None = refl
-    by rs true (Some m) = refl
-    by rs false m = refl
-
-    onto : (a : Option Answer) → hosted cells i (replied t i [] a) ≡ hosted cells (record i { frame = f }) (replied t (record i { frame = f }) [] a)
-    onto None = refl
-    onto (Some answers.Trap) = refl
-    onto (Some (answers.Grow b)) = refl
-    onto (Some (answers.Results ws rs)) = by rs (have_types rs t.results) (all_written ws i.memory)
-
--- the state where no function runs, with other events
-abbrev pub idle_from : Active → Running → List Event → Active
-idle_from old frame now = record old { frame = frame; events = now }
+    by : (b : Bool) (m : Option (List ℕ)) → hosted cells i (if b then given_back i (reverse rs ++ []) m else Ends events.HostSpent) ≡ hosted cells (record i { frame = f }) (if b then given_back (record i { frame = f }) (reverse rs ++ []) m else Ends events.HostSpent)
+    by true None = refl
+    by true (Some m) = refl
+    by false m = refl
 
 -- from here on: the call is told, no function runs, and the host answers
-module _ (s : Session) (cells : Cells) (old k : Active) (t : FuncType) (event : Event) (frame : Running) (now : List Event) (a : After) (blank_is : frame_of frame ≡ blank) (push : now ≡ old.events ++ event ∷ []) (turns : Turns (replied t (inner_of (idle_from old frame now)) frame.layered.values (slice_get s.answers old.answered)) a (idle_from old frame now) k) where
+module _ (s : Session) (cells : Cells) (old j k : Active) (t : FuncType) (event : Event) (frame : Running) (place : ℕ) (a : After) (blank_is : frame_of frame ≡ blank) (at : place ≡ old.answered) (told_is : j ≡ asking_in old event) (turns : Turns (replied t (inner_of (record j { frame = frame })) frame.layered.values (slice_get s.answers place)) a (record j { frame = frame }) k) where
+  abbrev idle_in : Active
+  idle_in = record j { frame = frame }
+
   abbrev answer : Turn
-  answer = replied t (inner_of (idle_from old frame now)) frame.layered.values (slice_get s.answers old.answered)
+  answer = replied t (inner_of idle_in) frame.layered.values (slice_get s.answers place)
 
-  led : hosting s cells (told (inner_of old) event) t ≡ hosted cells (inner_of (idle_from old frame now)) answer
+  led : hosting s cells (inner_of old) t event ≡ hosted cells (inner_of idle_in) answer
   led =
-      let same : inner_of (idle_from old frame now) ≡ record (told (inner_of old) event) { frame = blank } = λ x. record {
+      let same : inner_of idle_in ≡ record (used (told (inner_of old) event)) { frame = blank } = λ x. record {
         frame = blank_is x;
-        below = map frame_of old.below;
-        memory = old.memory.items;
-        answered = old.answered;
-        events = push x;
+        below = map frame_of (told_is x).below;
+        memory = (told_is x).memory.items;
+        answered = (told_is x).answered;
+        events = (told_is x).events;
       } in
-      asked_idle s cells (told (inner_of old) event) blank t
-      ∙ ap (λ (x : Inner). hosted cells x (replied t x x.frame.values (slice_get s.answers x.answered))) (sym same)
+      asked_idle cells (used (told (inner_of old) event)) blank t (slice_get s.answers old.answered)
+      ∙ ap (λ (x : Inner). hosted cells x (replied t x x.frame.values (slice_get s.answers old.answered))) (sym same)
+      ∙ ap (λ (p : ℕ). hosted cells (inner_of idle_in) (replied t (inner_of idle_in) frame.layered.values (slice_get s.answers p))) (sym at)
 
-  pub host_gives : (top args : List Value) → a ≡ after.Goes → top ≡ k.frame.layered.values → args ≡ reverse top → hosting s cells (told (inner_of old) event) t ≡ over cells (inner_of k) (events.Returned args)
+  pub host_gives : (top args : List Value) → a ≡ after.Goes → top ≡ k.frame.layered.values → args ≡ reverse top → hosting s cells (inner_of old) t event ≡ over cells (inner_of k) (events.Returned args)
   host_gives top args is taken turned_round =
       led
-      ∙ ap (hosted cells (inner_of (idle_from old frame now))) (subst (λ (x : After). Turns answer x (idle_from old frame now) k) is turns)
+      ∙ ap (hosted cells (inner_of idle_in)) (subst (λ (x : After). Turns answer x idle_in k) is turns)
       ∙ ap (λ (vs : List Value). over cells (inner_of k) (events.Returned vs)) (sym (turned_round ∙ ap (λ (l : List Value). reverse l) taken))
 
-  pub host_leaves : (vs : List Value) → a ≡ after.Leaves vs → hosting s cells (told (inner_of old) event) t ≡ ended cells (inner_of k) events.Stuck
+  pub host_leaves : (vs : List Value) → a ≡ after.Leaves vs → hosting s cells (inner_of old) t event ≡ ended cells (inner_of k) events.Stuck
   host_leaves vs is =
-      let gone : Turns answer (after.Leaves vs) (idle_from old frame now) k = subst (λ (x : After). Turns answer x (idle_from old frame now) k) is turns in
-      led ∙ ap (hosted cells (inner_of (idle_from old frame now))) gone.0 ∙ ended_stays cells (idle_from old frame now) k events.Stuck gone.1
+      let gone : Turns answer (after.Leaves vs) idle_in k = subst (λ (x : After). Turns answer x idle_in k) is turns in
+      led ∙ ap (hosted cells (inner_of idle_in)) gone.0 ∙ ended_stays cells idle_in k events.Stuck gone.1
 
-  pub host_traps : (x : TrapKind) → a ≡ after.Traps x → hosting s cells (told (inner_of old) event) t ≡ over cells (inner_of k) (events.Trapped x)
+  pub host_traps : (x : TrapKind) → a ≡ after.Traps x → hosting s cells (inner_of old) t event ≡ over cells (inner_of k) (events.Trapped x)
   host_traps x is =
-      let gone : Turns answer (after.Traps x) (idle_from old frame now) k = subst (λ (y : After). Turns answer y (idle_from old frame now) k) is turns in
-      led ∙ ap (hosted cells (inner_of (idle_from old frame now))) gone.0 ∙ over_stays cells (idle_from old frame now) k (events.Trapped x) gone.1
+      let gone : Turns answer (after.Traps x) idle_in k = subst (λ (y : After). Turns answer y idle_in k) is turns in
+      led ∙ ap (hosted cells (inner_of idle_in)) gone.0 ∙ over_stays cells idle_in k (events.Trapped x) gone.1
 
-  pub host_ends : (e : Event) → a ≡ after.Ends e → hosting s cells (told (inner_of old) event) t ≡ ended cells (inner_of k) e
+  pub host_ends : (e : Event) → a ≡ after.Ends e → hosting s cells (inner_of old) t event ≡ ended cells (inner_of k) e
   host_ends e is =
-      let gone : Turns answer (after.Ends e) (idle_from old frame now) k = subst (λ (x : After). Turns answer x (idle_from old frame now) k) is turns in
-      led ∙ ap (hosted cells (inner_of (idle_from old frame now))) gone.0 ∙ ended_stays cells (idle_from old frame now) k e gone.1
+      let gone : Turns answer (after.Ends e) idle_in k = subst (λ (x : After). Turns answer x idle_in k) is turns in
+      led ∙ ap (hosted cells (inner_of idle_in)) gone.0 ∙ ended_stays cells idle_in k e gone.1

@@ -1,5 +1,5 @@
 -- States of the code as states of the definitions, and what steps lead to.
-use Rattle.std.specs.Prelude.{◌≡◌, ℕ, ◌+◌, slice_get, [], ◌∷◌, map, Option, Some, None}
+use Rattle.std.specs.Prelude.{◌≡◌, ℕ, ◌+◌, slice_get, [], ◌∷◌, ◌++◌, map, Option, Some, None}
 use Rattle.run_rules.specs.declared.trace.Event.{Event}
 use Rattle.run_rules.specs.declared.state.Frame.{Frame}
 use Rattle.run_rules.specs.declared.state.Inner.{Inner}
@@ -9,8 +9,8 @@ use Rattle.run_rules.specs.declared.state.How.TheVariants.{GoesOn}
 use Rattle.run_rules.specs.declared.session.Session.{Session}
 use Rattle.wasm_types.specs.declared.function.FuncType.{FuncType}
 use Rattle.run_rules.specs.declared.world.World.{World}
-use Rattle.run_rules.specs.Own.{Turn, Goes, Leaves, Traps, Ends}
-use Rattle.run_rules.specs.Steps.{Step, Names, Cells, stepped, replied}
+use Rattle.run_rules.specs.Own.{Turn, Goes, Leaves, Traps, Ends, used}
+use Rattle.run_rules.specs.Steps.{Step, Names, Cells, stepped, told, replied}
 use Rattle.run_rules.specs.Runs.{Ran, Over, Closed, halted, hosted}
 use Rattle.run_model.specs.declared.state.Running.{Running}
 use Rattle.run_model.specs.declared.state.Active.{Active}
@@ -69,6 +69,10 @@ Drives w r (Some e) t n = r ≡ Closed (halted w (state_of t) e)
 abbrev pub called_in : ℕ → Names → Cells → Inner → Frame → Step
 called_in g names cells i f = stepped (g ∷ names) cells (record i { frame = f; below = record i.frame { place = i.frame.place + 1 } ∷ i.below }) GoesOn
 
--- a call of the session whose function the host runs, once that is told
-abbrev pub hosting : Session → Cells → Inner → FuncType → Step
-hosting s cells i t = hosted cells i (replied t i [] (slice_get s.answers i.answered))
+-- a call of the session whose function the host runs, which this event tells
+abbrev pub hosting : Session → Cells → Inner → FuncType → Event → Step
+hosting s cells i t e = let j = used (told i e) in hosted cells j (replied t j [] (slice_get s.answers i.answered))
+
+-- the state once the host is called, which this event tells
+abbrev pub asking_in : Active → Event → Active
+asking_in a e = record a { answered = a.answered + 1; events = a.events ++ e ∷ [] }

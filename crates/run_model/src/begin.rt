@@ -1,12 +1,11 @@
 //! How a call of the session begins.
 ghost use Rattle.std.specs.Prelude.{◌≡◌, [], IfOk};
 ghost use Rattle.run_rules.specs.Runs.{begin as begin_of, begin_as as begin_as_of, called};
-ghost use Rattle.run_rules.specs.Steps.{told};
 ghost use Rattle.run_model.specs.Views.{Steps, hosting, inner_of, state_of};
 
 use crate::calls::function_at;
 use crate::frames::{blank, end, finish, new_frame};
-use crate::host::{asked, have_types, reply};
+use crate::host::{ask, asked, have_types, reply};
 use crate::state::{After, Machine};
 use run_rules::{Call, Event, How, Session, Source, Target, World};
 use std::alloc::Global;
@@ -41,12 +40,12 @@ fn ask_host(
     event: Event,
 ) -> Result<How, OutOfMemory>
     ensures { IfOk result (λ how.
-        Steps (hosting session.now state.old.cells.items (told (inner_of state.old.inner) event)
-        kind.now) how state.new) }
+        Steps (hosting session.now state.old.cells.items (inner_of state.old.inner) kind.now event)
+        how state.new) }
 {
-    state.inner.events.push(event)?;
+    let place = ask(&mut state.inner, event)?;
     state.inner.frame = blank(alloc);
-    match reply(session, kind, &mut state.inner)? {
+    match reply(session, kind, &mut state.inner, place)? {
         After::Goes => {
             let values = state.inner.frame.layered.take_values()?;
             finish(alloc, state, Event::Returned(values.into_seq()))

@@ -6,7 +6,7 @@ ghost use Rattle.run_rules.specs.Steps.{function_at as function_of};
 ghost use Rattle.run_model.specs.Views.{Steps, inner_of, called_in};
 
 use crate::frames::{end, finish, new_frame};
-use crate::host::{asked, reply};
+use crate::host::{ask, asked, reply};
 use crate::state::Machine;
 use crate::turns::turn;
 use run_rules::{Event, Function, How, Session, Source, TrapKind, Value, World};
@@ -80,8 +80,8 @@ pub(crate) fn call_as(
         ),
         Source::Host { module, field } => {
             let event = asked(alloc, module, field, args)?;
-            state.inner.events.push(event)?;
-            let after = reply(session, kind, &mut state.inner)?;
+            let place = ask(&mut state.inner, event)?;
+            let after = reply(session, kind, &mut state.inner, place)?;
             turn(alloc, state, after)
         }
     }

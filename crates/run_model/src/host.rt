@@ -5,7 +5,7 @@ ghost use Rattle.run_rules.specs.Memory.{written};
 ghost use Rattle.run_rules.specs.Numbers.{type_of};
 ghost use Rattle.run_rules.specs.Steps.{all_written, replied, have_types};
 ghost use Rattle.run_model.specs.Writes.{all_fit};
-ghost use Rattle.run_model.specs.Views.{Turns, inner_of};
+ghost use Rattle.run_model.specs.Views.{Turns, asking_in, inner_of};
 
 use crate::state::{Active, After};
 use run_rules::{Answer, Event, MemWrite, Session, TrapKind, Value};
@@ -64,6 +64,20 @@ pub(crate) fn asked(
     })
 }
 
+/// The host is called, as the event tells, and one answer of it is used: the one at this place.
+pub(crate) fn ask(inner: &mut Active, event: Event) -> Result<usize, OutOfMemory>
+    ensures place { IfOk result (λ place. place ≡ inner.old.answered) }
+    ensures told { OnOk result (inner.new ≡ asking_in inner.old event) }
+{
+    let place = inner.answered;
+    let Some(next) = place.checked_add(1) else {
+        return Err(OutOfMemory);
+    };
+    inner.events.push(event)?;
+    inner.answered = next;
+    Ok(place)
+}
+
 /// Whether all that the host writes fits a memory of so many bytes.
 fn all_fit(writes: &[MemWrite], room: usize) -> bool
     ensures { result ≡ all_fit room writes.now }
@@ -95,24 +109,21 @@ fn write_all(memory: &mut [u8], writes: &[MemWrite])
     }
 }
 
-/// What the next answer of the host gives a call of a function of this type, whose arguments are taken off.
+/// What the answer at a place gives a call of a function of this type, whose arguments are taken off.
 /// What doesn't fit the memory, or has other types, is no answer, and nothing of it is written.
 #[tactic(auto, using(crate::proofs::Writes::refused))]
 pub(crate) fn reply(
     session: &Session,
     kind: &FuncType,
     inner: &mut Active,
+    place: usize,
 ) -> Result<After, OutOfMemory>
     requires { inner.old.frame.place + 1 < 2 ^ 64 }
     ensures { IfOk result (λ after.
         Turns (replied kind.now (inner_of inner.old) inner.old.frame.layered.values (slice_get
-        session.now.answers inner.old.answered)) after inner.old inner.new) }
+        session.now.answers place)) after inner.old inner.new) }
 {
-    let count = session.answers.len();
-    if count <= inner.answered {
-        return Ok(After::Ends(Event::HostSpent));
-    }
-    match session.answers.get(inner.answered) {
+    match session.answers.get(place) {
         Some(Answer::Results { writes, values }) => {
             if !have_types(values.as_slice(), kind.results.as_slice()) {
                 return Ok(After::Ends(Event::HostSpent));
@@ -122,7 +133,6 @@ pub(crate) fn reply(
             }
             write_all(inner.memory.as_mut_slice(), writes.as_slice());
             inner.frame.layered.push_all(values.as_slice())?;
-            inner.answered += 1;
             inner.frame.place += 1;
             Ok(After::Goes)
         }

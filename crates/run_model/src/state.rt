@@ -27,7 +27,7 @@ pub(crate) struct Active {
     pub below: Stack<Running>,
     /// The memory.
     pub memory: Vec<u8>,
-    /// How many answers of the host were used.
+    /// How many answers of the host were asked for.
     pub answered: usize,
     /// What happened so far.
     pub events: Seq<Event>,

@@ -73,6 +73,10 @@ asking_host = record (module_of (int ∷ int_to_int ∷ []) (0 ∷ []) (body [] 
   exports = function_export f_name 1 ∷ [];
 }
 
+-- f is the host's own
+abbrev sharing_host : Module
+sharing_host = record asking_host { exports = function_export f_name 0 ∷ [] }
+
 abbrev asked : Event
 asked = events.Asked (0x6D ∷ []) (0x67 ∷ []) (I32 5 ∷ [])
 
@@ -135,6 +139,9 @@ rows =
     -- the host
     ∷ on asking_host (session (call_f [] ∷ []) (answers_of.Results [] (I32 6 ∷ []) ∷ [])) 100 (asked ∷ gives 6)
     ∷ on asking_host (session (call_f [] ∷ []) (answers_of.Trap ∷ [])) 100 (asked ∷ events.Trapped traps.HostTrap ∷ [])
+    -- a trap is used up
+    ∷ on asking_host (session (call_f [] ∷ call_f [] ∷ []) (answers_of.Trap ∷ answers_of.Results [] (I32 6 ∷ []) ∷ [])) 100 (asked ∷ events.Trapped traps.HostTrap ∷ asked ∷ gives 6)
+    ∷ on sharing_host (session (call_f (I32 5 ∷ []) ∷ call_f (I32 5 ∷ []) ∷ []) (answers_of.Trap ∷ answers_of.Results [] (I32 6 ∷ []) ∷ [])) 100 (asked ∷ events.Trapped traps.HostTrap ∷ asked ∷ gives 6)
     ∷ on asking_host (session (call_f [] ∷ []) (answers_of.Results [] (I64 6 ∷ []) ∷ [])) 100 (asked ∷ events.HostSpent ∷ [])
     ∷ on asking_host (session (call_f [] ∷ []) []) 1 (events.StepsSpent ∷ [])
     ∷ on asking_host (session (call_f [] ∷ []) []) 2 (asked ∷ events.HostSpent ∷ [])

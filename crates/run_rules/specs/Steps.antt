@@ -93,7 +93,7 @@ all_written (w ∷ ws) memory = if reaches w.address (length w.bytes) memory the
 
 abbrev pub given_back : Inner → List Value → Option (List ℕ) → Turn
 given_back i vs None = Ends events.HostSpent
-given_back i vs (Some memory) = Goes (record (moved (used i) vs) { memory = memory })
+given_back i vs (Some memory) = Goes (record (moved i vs) { memory = memory })
 
 -- What the host answers to a call of a function of this type: the results, on top of these values, and what it writes; a trap; or the
 -- run ends, since the answer is no answer to a call of this type.
@@ -103,8 +103,9 @@ replied t i vs (Some (answers.Results writes rs)) =
 replied t i vs (Some answers.Trap) = Traps HostTrap
 replied t i vs _ = Ends events.HostSpent
 
+-- The host is called, which uses one answer, whatever it is.
 abbrev pub asking : Inner → List ℕ → List ℕ → List Value → Inner
-asking i m n args = told i (events.Asked m n args)
+asking i m n args = used (told i (events.Asked m n args))
 
 -- a frame at its start
 abbrev pub begun : FuncType → List Value → List LocalRun → Frame

@@ -40,7 +40,7 @@ pub struct Inner {
     pub below: Stack<Frame>,
     /// The memory.
     pub memory: Seq<u8>,
-    /// How many answers of the host were used.
+    /// How many answers of the host were asked for.
     pub answered: usize,
     /// What happened so far.
     pub events: Seq<Event>,

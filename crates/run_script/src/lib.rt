@@ -3,6 +3,7 @@
 //! first that isn't one.
 #![tactic(auto)]
 
+mod givens;
 mod item;
 mod names;
 mod numbers;

@@ -1,11 +1,13 @@
 //! A script as a session: its lines one after another, up to the first that isn't one.
-ghost use Rattle.std.specs.Prelude.{◌≡◌, IfOk, map};
-ghost use Rattle.std.specs.List.{list_any};
-ghost use Rattle.run_script.specs.Scripts.{Went, no_script, is_again, with_item, is_skipped, with_said, line_onto, script_of, Reads};
+ghost use Rattle.std.specs.Prelude.{◌≡◌, IfOk, OnOk, map};
+ghost use Rattle.run_script.specs.Givens.{pair_of};
+ghost use Rattle.run_script.specs.Scripts.{Went, no_script, with_item, is_skipped, with_said, line_onto, script_of, Reads};
 
+use crate::givens::{Pair, give};
 use crate::item::{Item, line_item};
 use crate::pieces::cut;
-use run_rules::{GivenGlobal, Session};
+use indexmap::IndexSet;
+use run_rules::Session;
 use std::alloc::Global;
 use wl_base::{OutOfMemory, Seq};
 
@@ -53,23 +55,17 @@ fn empty(alloc: Global) -> Script
     }
 }
 
-// Whether both are of one import.
-fn is_again(g: &GivenGlobal, h: &GivenGlobal) -> bool
-    ensures { result ≡ is_again g.now h.now }
-{
-    g.module.as_slice() == h.module.as_slice() && g.field.as_slice() == h.field.as_slice()
-}
-
-// Whether one of the globals is of the same import.
-fn is_there(globals: &[GivenGlobal], g: &GivenGlobal) -> bool
-    ensures { result ≡ list_any (is_again g.now) globals.now }
-{
-    globals.iter().any(|h| is_again(g, h))
-}
-
-// Adds what a line says; `false` where it may not be said again.
-fn add(script: &mut Script, item: Item) -> Result<bool, OutOfMemory>
-    ensures { IfOk result (λ went. Went (with_item script.old item) went script.new) }
+// Adds what a line says; `false` where it may not be said again. The pairs are the imports of the globals so far.
+#[tactic(auto, using(crate::proofs::Again::given_on))]
+fn add(
+    alloc: Global,
+    script: &mut Script,
+    pairs: &mut IndexSet<Pair>,
+    item: Item,
+) -> Result<bool, OutOfMemory>
+    requires { pairs.old.keys ≡ map pair_of script.old.session.globals }
+    ensures went { IfOk result (λ went. Went (with_item script.old item) went script.new) }
+    ensures pairs { OnOk result (pairs.new.keys ≡ map pair_of script.new.session.globals) }
 {
     match item {
         Item::Pages(n) => {
@@ -85,10 +81,8 @@ fn add(script: &mut Script, item: Item) -> Result<bool, OutOfMemory>
             script.entries = Some(n);
         }
         Item::First(global) => {
-            if is_there(script.session.globals.as_slice(), &global) {
-                return Ok(false);
-            }
-            script.session.globals.push(global)?;
+            let went = give(alloc, &mut script.session.globals, pairs, global)?;
+            return Ok(went);
         }
         Item::Calls(call) => script.session.calls.push(call)?,
         Item::Answers(answer) => script.session.answers.push(answer)?,
@@ -107,25 +101,39 @@ fn is_skipped(line: &[u8]) -> bool
 }
 
 // Adds what a line says, where it says something.
-fn add_said(script: &mut Script, item: Option<Item>) -> Result<bool, OutOfMemory>
-    ensures { IfOk result (λ went. Went (with_said script.old item) went script.new) }
+fn add_said(
+    alloc: Global,
+    script: &mut Script,
+    pairs: &mut IndexSet<Pair>,
+    item: Option<Item>,
+) -> Result<bool, OutOfMemory>
+    requires { pairs.old.keys ≡ map pair_of script.old.session.globals }
+    ensures went { IfOk result (λ went. Went (with_said script.old item) went script.new) }
+    ensures pairs { OnOk result (pairs.new.keys ≡ map pair_of script.new.session.globals) }
 {
     match item {
         None => Ok(false),
-        Some(item) => add(script, item),
+        Some(item) => add(alloc, script, pairs, item),
     }
 }
 
 // Adds a line; `false` where it isn't of a script.
-fn add_line(alloc: Global, script: &mut Script, line: &[u8]) -> Result<bool, OutOfMemory>
-    ensures { IfOk result (λ went. Went (line_onto script.old line.now) went script.new) }
+fn add_line(
+    alloc: Global,
+    script: &mut Script,
+    pairs: &mut IndexSet<Pair>,
+    line: &[u8],
+) -> Result<bool, OutOfMemory>
+    requires { pairs.old.keys ≡ map pair_of script.old.session.globals }
+    ensures went { IfOk result (λ went. Went (line_onto script.old line.now) went script.new) }
+    ensures pairs { OnOk result (pairs.new.keys ≡ map pair_of script.new.session.globals) }
 {
     if is_skipped(line) {
         return Ok(true);
     }
     let words = cut(alloc, b' ', line)?;
     let item = line_item(alloc, words.as_slice())?;
-    add_said(script, item)
+    add_said(alloc, script, pairs, item)
 }
 
 /// What a script says.
@@ -137,9 +145,10 @@ pub fn read_script(alloc: Global, text: &[u8]) -> Result<Script, ScriptError>
     ensures { Reads result (script_of text.now) }
 {
     let mut script = empty(alloc);
+    let mut pairs = IndexSet::new(alloc);
     let lines = cut(alloc, b'\n', text)?;
     for (k, line) in lines.as_slice().iter().enumerate() {
-        if !add_line(alloc, &mut script, line)? {
+        if !add_line(alloc, &mut script, &mut pairs, line)? {
             return Err(ScriptError::BadScript(k as u64 + 1));
         }
     }

@@ -1,5 +1,5 @@
 -- What functions are, by the data.
-use Rattle.std.specs.Prelude.{ℕ, ◌==◌, List, [], ◌∷◌, ◌++◌, map, filter_map, slice_get, slice_index_or, if◌then◌else◌, Option, Some, None, option_map, Result, Ok, Err}
+use Rattle.std.specs.Prelude.{ℕ, ◌==◌, List, [], ◌∷◌, ◌++◌, map, filter_map, length, slice_get, if◌then◌else◌, Option, Some, None, option_map, Result, Ok, Err}
 use Rattle.wasm_grammar.specs.declared.fault.Stop.{Stop}
 use Rattle.wasm_instr.specs.declared.instr.Instr.TheVariants as instrs
 use Rattle.wasm_instr.specs.declared.body.Body.{Body}
@@ -22,7 +22,7 @@ use Rattle.link_program.specs.declared.named.Named.TheVariants as names
 use Rattle.link_program.specs.declared.program.Tables.{Tables}
 use Rattle.link_program.specs.Look.{part_at, row_at, chunk_number}
 use Rattle.link_keys.specs.declared.firsts.At.{At}
-use Rattle.link_keys.specs.Types.{kept_type, content_type_at, first_type}
+use Rattle.link_keys.specs.Types.{StubTypes, kept_type, content_type_at, stub_type}
 use Rattle.sym_parts.specs.Sought.{Known, symbol_of}
 use Rattle.sym_parts.specs.Ops.{call_symbol, op_seen}
 
@@ -44,7 +44,7 @@ part_source k files None = Some Nowhere
 part_source k files (Some n) = body_seen k (row_at k.tables n) (body_at (file_part files (part_at k.tables n).source))
 
 abbrev pub call_named : Known → Named → Option (Option Op)
-call_named k (names.Symbol kind place addend symbol) = Some (call_symbol k.functions (symbol_of k symbol))
+call_named k (names.Symbol kind place addend symbol) = Some (call_symbol k.dropped_stub k.functions (symbol_of k symbol))
 call_named k (names.Type place number) = None
 
 -- What the linker's function calls, and the end.
@@ -72,11 +72,15 @@ abbrev pub part_kind : Tables → Option ℕ → FuncType
 part_kind t None = no_type
 part_kind t (Some n) = content_type_at t.types (part_at t n).content
 
--- The type of a function; a stub has that of the least entry of its name.
+-- By what the types of stubs are found.
+abbrev pub stub_types : Tables → List Object → List (Option At) → StubTypes
+stub_types t objects firsts = record { objects = objects; firsts = firsts; types = t.types; variants = t.variants }
+
+-- The type of a function; a stub has that of the least entry of its name, or of the variant that has the name.
 abbrev pub kind_seen : List ImportKey → Tables → List Object → List (Option At) → FunctionKey → FuncType
 kind_seen imports t objects firsts (functions.Import n) = kept_type (slice_get imports n)
 kind_seen imports t objects firsts (functions.Own input index) = if input == 0 then no_type else part_kind t (chunk_number t.chunks (chunk_at input 0 index))
-kind_seen imports t objects firsts (functions.Stub n) = first_type objects (slice_index_or firsts n None)
+kind_seen imports t objects firsts (functions.Stub n) = stub_type (stub_types t objects firsts) (length firsts) n
 
 -- ---- functions
 

@@ -1,6 +1,5 @@
 -- All functions and cells of a program, live or dead, by the data.
 use Rattle.std.specs.Prelude.{◌≡◌, ℕ, nat_eq, ◌==◌, Bool, true, false, ◌&&◌, List, [], ◌++◌, map, filter_map, fold, length, slice_get, slice_index_or, Option, Some, None}
-use Rattle.std.specs.List.{list_any}
 use Rattle.indexmap.specs.IndexMap.{get}
 use Rattle.indexmap.specs.IndexSet.{insert_key}
 use Rattle.link_program.specs.linking_section.Flags.{kind_code}
@@ -79,12 +78,3 @@ cells_of imports t =
     map globals.Import (imported_globals imports)
     ++ filter_map (own_global true) t.parts
     ++ filter_map (own_global false) t.parts
-
-abbrev pub is_stub : FunctionKey → Bool
-is_stub (functions.Import n) = false
-is_stub (functions.Own input index) = false
-is_stub (functions.Stub n) = true
-
--- whether a stub is among them
-abbrev pub has_stub : List FunctionKey → Bool
-has_stub keys = list_any is_stub keys

@@ -1,4 +1,5 @@
 pub mod Keys
+pub mod Dropped
 pub mod Sought
 pub mod Ops
 pub mod Code

@@ -1,5 +1,5 @@
 -- The instructions of bodies, with what their references mean, by the data. There is no answer where the data can't tell.
-use Rattle.std.specs.Prelude.{ℕ, ◌+◌, ◌==◌, List, [], position, slice_index_or, if◌then◌else◌, Option, Some, None, option_map}
+use Rattle.std.specs.Prelude.{ℕ, ◌+◌, ◌==◌, Bool, List, [], position, slice_index_or, if◌then◌else◌, Option, Some, None, option_map}
 use Rattle.link_program.specs.wasm_types.declared.function.FuncType.{FuncType}
 use Rattle.link_program.specs.object_file.Spaces.{no_type}
 use Rattle.link_program.specs.linking_section.Flags.{kind_code}
@@ -25,21 +25,21 @@ use Rattle.run_rules.specs.declared.op.Op.{Op}
 use Rattle.run_rules.specs.declared.op.Op.TheVariants.{Own, OpenBlock, CallTo, CallThrough, Number, Absent}
 use Rattle.run_rules.specs.Ops.{block_type, opening, cell_op}
 use Rattle.link_worlds.specs.Bodies.{to_name}
-use Rattle.sym_parts.specs.Keys.{has_stub}
 use Rattle.sym_parts.specs.Sought.{Known, named_at, symbol_of, base_of, number_named}
 
 -- ---- functions and cells that are meant
 
--- The stub of a name. Without the name's number there is none where there are no stubs, and else no answer.
-abbrev pub stub_place : List FunctionKey → Option ℕ → Option (Option ℕ)
-stub_place fs None = if has_stub fs then None else Some None
-stub_place fs (Some n) = Some (position (same_function_key (functions.Stub n)) fs)
+-- The stub of a name. Without the name's number the symbol is one of a dropped part: there is none, or no answer where such a symbol has the
+-- name of a stub.
+abbrev pub stub_place : Bool → List FunctionKey → Option ℕ → Option (Option ℕ)
+stub_place dropped fs None = if dropped then None else Some None
+stub_place dropped fs (Some n) = Some (position (same_function_key (functions.Stub n)) fs)
 
-abbrev pub function_place : List FunctionKey → Option ℕ → Lead → Option (Option ℕ)
-function_place fs name (leads.Here d) = Some (position (same_function_key (function_of d)) fs)
-function_place fs name (leads.Import n) = Some (position (same_function_key (functions.Import n)) fs)
-function_place fs name leads.Null = stub_place fs name
-function_place fs name leads.Nothing = stub_place fs name
+abbrev pub function_place : Bool → List FunctionKey → Option ℕ → Lead → Option (Option ℕ)
+function_place dropped fs name (leads.Here d) = Some (position (same_function_key (function_of d)) fs)
+function_place dropped fs name (leads.Import n) = Some (position (same_function_key (functions.Import n)) fs)
+function_place dropped fs name leads.Null = stub_place dropped fs name
+function_place dropped fs name leads.Nothing = stub_place dropped fs name
 
 abbrev pub cell_place : List GlobalKey → Lead → Option ℕ
 cell_place gs (leads.Here d) = position (same_global_key (globals.Own d.input (index_of d))) gs
@@ -52,12 +52,12 @@ cell_place gs leads.Nothing = None
 abbrev pub call_by : Option (Option ℕ) → Option Op
 call_by o = option_map (to_name CallTo) o
 
-abbrev pub call_symbol : List FunctionKey → Symbol → Option Op
-call_symbol fs s = call_by (function_place fs s.name s.lead)
+abbrev pub call_symbol : Bool → List FunctionKey → Symbol → Option Op
+call_symbol dropped fs s = call_by (function_place dropped fs s.name s.lead)
 
 abbrev pub call_seen : Known → Option Named → Option Op
 call_seen k None = Some Absent
-call_seen k (Some (names.Symbol kind place addend symbol)) = call_symbol k.functions (symbol_of k symbol)
+call_seen k (Some (names.Symbol kind place addend symbol)) = call_symbol k.dropped_stub k.functions (symbol_of k symbol)
 call_seen k (Some (names.Type place number)) = Some Absent
 
 abbrev pub through_seen : List FuncType → Option Named → Op

@@ -86,7 +86,7 @@ fn add_call(ops: &mut Seq<Op>, k: Sought<'_>, named: Named) -> Result<(), OutOfM
     } = named
     {
         let symbol = symbol_at(k.tables.symbols.as_slice(), symbol);
-        ops.push(call_symbol(k.functions, symbol)?)?;
+        ops.push(call_symbol(k.dropped_stub, k.functions, symbol)?)?;
     }
     Ok(())
 }

@@ -1,9 +1,9 @@
 //! The types of functions.
-ghost use Rattle.std.specs.Prelude.{◌≡◌, slice_get, slice_index_or, Some, None, IfOk};
+ghost use Rattle.std.specs.Prelude.{◌≡◌, length, slice_get, slice_index_or, Some, None, IfOk};
 ghost use Rattle.link_program.specs.object_columns.Seen.{func_type_seen};
 ghost use Rattle.link_program.specs.name_entries.Fits.{FitsObjects};
-ghost use Rattle.link_keys.specs.Types.{type_at, kept_type, content_type_at, first_type};
-ghost use Rattle.sym_parts.specs.Code.{part_kind, kind_seen};
+ghost use Rattle.link_keys.specs.Types.{type_at, kept_type, content_type_at, first_type, variant_number, stub_type};
+ghost use Rattle.sym_parts.specs.Code.{part_kind, stub_types, kind_seen};
 
 use crate::clones::{empty_type, type_of};
 use link_keys::At;
@@ -104,19 +104,42 @@ fn least_at(firsts: &[Option<At>], name: u32) -> Option<At>
     }
 }
 
-/// The type of the stub of a name, by its least entry.
+/// The type of the least entry of a name.
+fn first_kind(alloc: Global, entries: Entries<'_>, at: Option<At>) -> Result<FuncType, OutOfMemory>
+    requires { FitsObjects entries }
+    ensures { IfOk result (λ t. t ≡ first_type entries.entry.objects.now at) }
+{
+    match at {
+        Some(at) => symbol_kind(alloc, entries, at),
+        None => Ok(empty_type(alloc)),
+    }
+}
+
+/// Which of the variants the name of this number is of, as the number of its type; the variants have the last of so many names.
+fn variant_number(names: usize, variants: &[u32], number: u32) -> Option<u32>
+    ensures { result ≡ variant_number names variants.now number }
+{
+    let place = number as usize + variants.len();
+    if place < names {
+        return None;
+    }
+    variants.get(place - names).copied()
+}
+
+/// The type of the stub of a name.
 fn stub_kind(
     alloc: Global,
+    tables: &Tables,
     entries: Entries<'_>,
     firsts: &[Option<At>],
     name: u32,
 ) -> Result<FuncType, OutOfMemory>
     requires { FitsObjects entries }
-    ensures { IfOk result (λ t. t ≡ first_type entries.entry.objects.now (slice_index_or firsts.now name None)) }
+    ensures { IfOk result (λ t. t ≡ stub_type (stub_types tables.now entries.entry.objects.now firsts.now) (length firsts.now) name) }
 {
-    match least_at(firsts, name) {
-        Some(at) => symbol_kind(alloc, entries, at),
-        None => Ok(empty_type(alloc)),
+    match variant_number(firsts.len(), tables.variants.as_slice(), name) {
+        Some(number) => type_at(alloc, tables.types.as_slice(), number),
+        None => first_kind(alloc, entries, least_at(firsts, name)),
     }
 }
 
@@ -143,6 +166,6 @@ pub(crate) fn kind_of(
             };
             part_kind(alloc, tables, chunk_number(&tables.chunks, chunk))
         }
-        FunctionKey::Stub(name) => stub_kind(alloc, entries, firsts, name),
+        FunctionKey::Stub(name) => stub_kind(alloc, tables, entries, firsts, name),
     }
 }

@@ -31,15 +31,19 @@ const GLOBAL_GET: u8 = 0x23;
 /// `global.set`.
 const GLOBAL_SET: u8 = 0x24;
 
-/// The place of the stub of a name. A symbol that is no entry of a name and means nothing leads nowhere where there are no stubs; else it
-/// is answered as want of memory, since its name isn't told.
-fn stub_place(functions: &Functions, name: Option<u32>) -> Result<Option<u32>, OutOfMemory>
-    ensures { IfOk result (λ place. stub_place functions.now name ≡ Some place) }
+/// The place of the stub of a name. A symbol of a dropped part leads nowhere; where one of them has the name of a stub it is answered as
+/// want of memory, since the tables don't tell which one it is.
+fn stub_place(
+    dropped: bool,
+    functions: &Functions,
+    name: Option<u32>,
+) -> Result<Option<u32>, OutOfMemory>
+    ensures { IfOk result (λ place. stub_place dropped functions.now name ≡ Some place) }
 {
     match name {
         Some(name) => Ok(functions.place(FunctionKey::Stub(name))),
         None => {
-            if functions.has_stub() {
+            if dropped {
                 return Err(OutOfMemory);
             }
             Ok(None)
@@ -49,16 +53,17 @@ fn stub_place(functions: &Functions, name: Option<u32>) -> Result<Option<u32>, O
 
 /// The place of the function that a symbol means.
 fn function_place(
+    dropped: bool,
     functions: &Functions,
     name: Option<u32>,
     lead: Lead,
 ) -> Result<Option<u32>, OutOfMemory>
-    ensures { IfOk result (λ place. function_place functions.now name lead ≡ Some place) }
+    ensures { IfOk result (λ place. function_place dropped functions.now name lead ≡ Some place) }
 {
     match lead {
         Lead::Here(definition) => Ok(functions.place(function_of(definition))),
         Lead::Import(number) => Ok(functions.place(FunctionKey::Import(number))),
-        Lead::Null | Lead::Nothing => stub_place(functions, name),
+        Lead::Null | Lead::Nothing => stub_place(dropped, functions, name),
     }
 }
 
@@ -87,10 +92,14 @@ fn call_to(place: Option<u32>) -> Op
 }
 
 /// A call of the function that a symbol means.
-pub(crate) fn call_symbol(functions: &Functions, symbol: Symbol) -> Result<Op, OutOfMemory>
-    ensures { IfOk result (λ op. call_symbol functions.now symbol ≡ Some op) }
+pub(crate) fn call_symbol(
+    dropped: bool,
+    functions: &Functions,
+    symbol: Symbol,
+) -> Result<Op, OutOfMemory>
+    ensures { IfOk result (λ op. call_symbol dropped functions.now symbol ≡ Some op) }
 {
-    let place = function_place(functions, symbol.name, symbol.lead)?;
+    let place = function_place(dropped, functions, symbol.name, symbol.lead)?;
     Ok(call_to(place))
 }
 
@@ -107,7 +116,8 @@ fn call(k: Sought<'_>, named: Option<Named>) -> Result<Op, OutOfMemory>
                 symbol,
             },
         ) => {
-            let op = call_symbol(k.functions, symbol_at(k.tables.symbols.as_slice(), symbol))?;
+            let symbol = symbol_at(k.tables.symbols.as_slice(), symbol);
+            let op = call_symbol(k.dropped_stub, k.functions, symbol)?;
             Ok(op)
         }
         Some(

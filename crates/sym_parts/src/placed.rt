@@ -1,7 +1,7 @@
 //! All functions and cells of a program, each with its place.
 ghost use Rattle.std.specs.Prelude.{◌≡◌, position, IfOk};
 ghost use Rattle.link_program.specs.Keys.{same_function_key, same_global_key};
-ghost use Rattle.sym_parts.specs.Keys.{functions_of, cells_of, is_stub, has_stub};
+ghost use Rattle.sym_parts.specs.Keys.{functions_of, cells_of};
 
 use crate::listing::{list_cells, list_functions};
 use crate::places::Places;
@@ -16,38 +16,19 @@ use wl_base::{OutOfMemory, Seq};
 pub struct Functions {
     keys: Seq<FunctionKey>,
     places: Places,
-    /// Whether a stub is among them.
-    stubs: bool,
 }
 
 impl Model for Functions {
-    ghost use Rattle.std.specs.Prelude.{◌≡◌, List, map};
+    ghost use Rattle.std.specs.Prelude.{List, map};
     ghost use Rattle.link_program.specs.declared.keys.FunctionKey.{FunctionKey};
     ghost use Rattle.link_keys.specs.Codes.{function_code};
-    ghost use Rattle.sym_parts.specs.Keys.{ArePlaces, has_stub};
+    ghost use Rattle.sym_parts.specs.Keys.{ArePlaces};
 
     ghost Value = { List FunctionKey };
 
     ghost view = { λ f. f.keys };
 
-    ghost invariant = { λ f. ArePlaces (map function_code f.keys) f.places × (f.stubs ≡ has_stub f.keys) };
-}
-
-/// Whether a function is a stub.
-fn is_stub(key: FunctionKey) -> bool
-    ensures { result ≡ is_stub key }
-{
-    match key {
-        FunctionKey::Stub(_) => true,
-        FunctionKey::Import(_) | FunctionKey::Own { input: _, index: _ } => false,
-    }
-}
-
-/// Whether a stub is among them.
-fn has_stub(keys: &[FunctionKey]) -> bool
-    ensures { result ≡ has_stub keys.now }
-{
-    keys.iter().any(|key| is_stub(*key))
+    ghost invariant = { λ f. ArePlaces (map function_code f.keys) f.places };
 }
 
 impl Functions {
@@ -62,11 +43,9 @@ impl Functions {
         let keys = list_functions(alloc, resolution, tables)?;
         let codes = function_codes(alloc, keys.as_slice())?;
         let places = Places::new(alloc, codes.as_slice())?;
-        let stubs = has_stub(keys.as_slice());
         Ok(Functions {
             keys: Seq::from_vec(keys),
             places,
-            stubs,
         })
     }
 
@@ -75,13 +54,6 @@ impl Functions {
         ensures { result.now ≡ self.now }
     {
         self.keys.as_slice()
-    }
-
-    /// Whether a stub is among them.
-    pub fn has_stub(&self) -> bool
-        ensures { result ≡ has_stub self.now }
-    {
-        self.stubs
     }
 
     /// The place of a function.

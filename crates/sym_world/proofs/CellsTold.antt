@@ -1,28 +1,24 @@
 -- The first values of cells, and what the memory holds at first, are those of the objects.
-use Rattle.std.proofs.Common.{◌≡◌, ℕ, zero, suc, ◌<◌, ◌+◌, ◌==◌, Bool, true, false, not, ◌&&◌, ◌||◌, List, [], ◌∷◌, ◌++◌, map, filter, filter_map, length, slice_get, get_or, position, Option, Some, None, option_map, unwrap_or, refl, sym, ap, subst, ◌∙◌, arith, ℤ, pos}
-use Rattle.std.specs.Prelude.{if◌then◌else◌, slice_index_or, find, cond, option_and_then}
-use Rattle.std.specs.List.{list_any, All, cons_option}
+use Rattle.std.proofs.Common.{◌≡◌, ℕ, zero, ◌+◌, ◌==◌, Bool, true, false, not, ◌&&◌, ◌||◌, List, [], ◌∷◌, ◌++◌, map, filter, filter_map, slice_get, get_or, Option, Some, None, option_map, refl, sym, ap, subst, ◌∙◌}
+use Rattle.std.specs.Prelude.{if◌then◌else◌, slice_index_or, option_and_then}
+use Rattle.std.specs.List.{list_any, All}
 use Rattle.std.proofs.lemmas.Bool.{eqb-true}
 use Rattle.std.proofs.lemmas.List.{map-append}
-use Rattle.std.proofs.lemmas.List.Elements.{All-head, All-tail, All-cons, All-append}
-use Rattle.std.proofs.lemmas.Option.{slice_get-get_or, slice_get-map, get_or_from_slice_get}
+use Rattle.std.proofs.lemmas.List.Elements.{All-head, All-tail, All-append}
+use Rattle.std.proofs.lemmas.Option.{slice_get-map, get_or_from_slice_get}
 use Rattle.link_program.specs.wl_base.Choice.{given}
 use Rattle.link_program.specs.wasm_types.declared.function.FuncType.{FuncType}
 use Rattle.link_program.specs.image_emit.Bytes.{file_part}
-use Rattle.link_program.specs.image_emit.Bytes.{Block}
-use Rattle.link_program.specs.mark_bits.declared.chunk.Chunk.{Chunk}
 use Rattle.link_program.specs.made_symbols.declared.mode.Mode.TheVariants.{Plain}
 use Rattle.made_symbols.specs.Made.{stack_pointer}
 use Rattle.link_program.specs.memory_layout.declared.rules.Places.{Places}
 use Rattle.link_program.specs.reloc_apply.declared.window.Form.TheVariants.{Word4}
-use Rattle.link_program.specs.reloc_apply.declared.window.Window.{Window}
-use Rattle.link_program.specs.reloc_apply.declared.window.Patch.{Patch}
 use Rattle.link_program.specs.reloc_apply.Windows.{filled, patched, patch_of, over, little, spelled}
 use Rattle.link_program.specs.name_rules.Entries.{InputSymbol, ImportKey, same_import}
 use Rattle.link_program.specs.link_rules.Program as rules
-use Rattle.link_program.specs.link_rules.Program.{Ref, a_symbol, a_type, chunk_at, function, segment, global, linker_made}
+use Rattle.link_program.specs.link_rules.Program.{a_symbol, a_type, chunk_at, function, segment, global, linker_made}
 use Rattle.link_program.specs.link_rules.Keys as keys
-use Rattle.link_program.specs.link_rules.Keys.{outside_global, linker_global, own_global, got, exported_datum, is_global_type, imports_in_order, made_global_key, own_global_key}
+use Rattle.link_program.specs.link_rules.Keys.{outside_global, linker_global, own_global, is_global_type, imports_in_order, made_global_key, own_global_key}
 use Rattle.link_program.specs.link_rules.Values as values
 use Rattle.link_program.specs.link_rules.Values.{form_of, named_window, windows, part_bytes, segment_address, segments, solid_segments}
 use Rattle.link_program.specs.link_rules.Output.{layout}
@@ -32,19 +28,17 @@ use Rattle.link_program.specs.declared.part.Content.{Content}
 use Rattle.link_program.specs.declared.part.Content.TheVariants as contents
 use Rattle.link_program.specs.declared.part.Part.{Part}
 use Rattle.link_program.specs.Keys.{told_global}
-use Rattle.link_program.specs.Seen.{SeenRef, seen_named, told_named, seen_content, told_content, seen_part, told_part}
+use Rattle.link_program.specs.Seen.{SeenRef, seen_named, told_named, seen_content, told_content}
 use Rattle.link_program.specs.Look.{part_at, row_at, chunk_number}
 use Rattle.link_program.specs.Live.{AreLive}
 use Rattle.link_layout.specs.declared.values.Layout.{Layout}
 use Rattle.link_layout.specs.Layout.{IsLayout}
 use Rattle.link_layout.specs.Placed.{address_among, chunks_of}
-use Rattle.link_layout.specs.Segments.{segment_numbers, shape_at}
-use Rattle.link_layout.proofs.Parts.{part_told, row_told, segments_are, shape_told}
+use Rattle.link_layout.specs.Segments.{segment_numbers}
+use Rattle.link_layout.proofs.Parts.{part_told, segments_are, shape_told}
 use Rattle.link_layout.proofs.Pairs.{filter_pairs}
 use Rattle.link_image.proofs.Lists.{import_there, all_chosen, all_mapped}
-use Rattle.link_keys.proofs.Any.{all_none, all_map, all_filtered}
 use Rattle.link_keys.proofs.Imports.{both}
-use Rattle.run_rules.specs.declared.value.Value.{Value}
 use Rattle.run_rules.specs.declared.value.Value.TheVariants.{I32}
 use Rattle.run_rules.specs.Modules.{expr_value}
 use Rattle.run_machines.specs.declared.sym.SymCell.{SymCell}
@@ -58,24 +52,12 @@ use Rattle.sym_parts.specs.Sought.{Known, named_place, number_named}
 use Rattle.sym_parts.specs.Data as seen
 use Rattle.sym_parts.specs.Data.{words_on, word_named, is_word}
 use Rattle.link_numbers.specs.Knows.{KnowsGlobal}
-use Rattle.sym_world.proofs.Ground.{all_gs, cells_are, cells_known}
-use Rattle.sym_world.proofs.OpsTold.{IsSought, IsKnownNamed, alike, number_told}
-use Rattle.sym_world.proofs.OpsTold as ops
-use Rattle.sym_world.proofs.CodeTold.{IsPart, part_of, part_known, row_is, source_is}
+use Rattle.sym_functions.proofs.Ground.{all_gs, cells_are, cells_known}
+use Rattle.sym_functions.proofs.OpsTold.{IsSought, IsKnownNamed, alike, number_told}
+use Rattle.sym_functions.proofs.OpsTold as ops
+use Rattle.sym_functions.proofs.CodeTold.{all_given, part_of, part_known, row_is, source_is}
 
--- Each that is there is what is told of it.
-pub all_given : {A B C : Type 0} (f : B → Option C) (told : A → B) (g : A → C) (xs : List A) (ys : List C) → All (λ x. (y : C) → f (told x) ≡ Some y → y ≡ g x) xs → map f (map told xs) ≡ map Some ys → ys ≡ map g xs
-all_given f told g [] [] each e = refl
-all_given f told g [] (y ∷ ys) each e = absurd cc
-all_given f told g (x ∷ xs) [] each e = absurd cc
-all_given {A} {B} {C} f told g (x ∷ xs) (y ∷ ys) each e =
-    let first : f (told x) ≡ Some y = cc in
-    let rest : map f (map told xs) ≡ map Some ys = cc in
-    let here = All-head (λ x. (y : C) → f (told x) ≡ Some y → y ≡ g x) x xs each y first in
-    let there = all_given f told g xs ys (All-tail (λ x. (y : C) → f (told x) ≡ Some y → y ≡ g x) x xs each) rest in
-    λ i. here i ∷ there i
-
--- the same of the numbers of items
+-- Each that is there is what is told of it, by the numbers of items.
 pub all_numbered : {A C : Type 0} (f : ℕ → Option C) (g : A → C) (ps : List A) → ((n : ℕ) (x : A) → slice_get ps n ≡ Some x → (y : C) → f n ≡ Some y → y ≡ g x)
     → (ns : List ℕ) (xs : List A) (ys : List C) → map (slice_get ps) ns ≡ map Some xs → map f ns ≡ map Some ys → ys ≡ map g xs
 all_numbered f g ps each [] [] [] are e = refl

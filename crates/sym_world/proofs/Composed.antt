@@ -1,23 +1,18 @@
 -- The objects of a program, put together of their parts.
-use Rattle.std.proofs.Common.{◌≡◌, ℕ, ◌<◌, Bool, true, false, List, [], ◌∷◌, ◌++◌, map, filter, length, replicate, Option, Some, None, option_map, unwrap_or, refl, sym, ap, subst, ◌∙◌}
-use Rattle.std.proofs.lemmas.List.{length-map}
+use Rattle.std.proofs.Common.{◌≡◌, ℕ, Bool, true, false, List, [], ◌∷◌, ◌++◌, map, filter, Option, Some, option_map, unwrap_or, sym, ap, ◌∙◌}
 use Rattle.std.specs.Prelude.{if◌then◌else◌, ◌/◌}
 use Rattle.link_program.specs.object_file.declared.object.Object.{Object}
 use Rattle.link_program.specs.made_symbols.declared.mode.Mode.TheVariants.{Plain}
-use Rattle.link_program.specs.index_layout.Numbers.{number_by}
-use Rattle.link_program.specs.link_names.Numbered.{symbol_number}
+use Rattle.link_program.specs.link_names.Numbered.{Numbered}
 use Rattle.link_program.specs.memory_layout.declared.rules.Places.{Places}
-use Rattle.link_program.specs.name_rules.Entries.{InputSymbol, ImportKey}
-use Rattle.link_program.specs.name_entries.declared.lookups.Entries.{Entries}
-use Rattle.link_program.specs.name_entries.Fits.{FitsObjects}
+use Rattle.link_program.specs.name_rules.Entries.{InputSymbol}
 use Rattle.link_program.specs.link_plan.declared.plan.Plan.{Plan}
 use Rattle.link_program.specs.link_rules.Program as rules
 use Rattle.link_program.specs.link_rules.Marks.{memory_name, live}
 use Rattle.link_program.specs.link_rules.Values as values
 use Rattle.link_program.specs.link_rules.Output.{layout}
-use Rattle.link_program.specs.Keys.{same_function_key}
-use Rattle.link_program.specs.Live.{Stage, AreLive}
-use Rattle.link_keys.specs.Firsts.{firsts_rows}
+use Rattle.link_program.specs.declared.keys.FunctionKey.{FunctionKey}
+use Rattle.link_program.specs.Live.{AreLive}
 use Rattle.link_layout.specs.declared.values.Layout.{Layout}
 use Rattle.link_layout.specs.Layout.{IsLayout}
 use Rattle.link_layout.specs.Segments.{segment_numbers}
@@ -27,64 +22,49 @@ use Rattle.run_rules.specs.declared.world.Target.TheVariants.{Elsewhere}
 use Rattle.run_rules.specs.declared.world.World.{World}
 use Rattle.run_machines.specs.declared.sym.SymCell.{SymCell}
 use Rattle.run_machines.specs.declared.sym.SymSegment.{SymSegment}
-use Rattle.run_machines.specs.declared.sym.SymWorld.{SymWorld}
-use Rattle.link_worlds.specs.Names.{all_cells}
-use Rattle.link_worlds.specs.Worlds.{world_by, plan_world, layout_of}
+use Rattle.link_worlds.specs.Names.{all_functions, all_cells}
+use Rattle.link_worlds.specs.Worlds.{plan_function, plan_table, world_by, plan_world}
 use Rattle.run_laws.specs.Objects.{sym_cell, sym_segment, blocks_of, objects_of}
 use Rattle.sym_parts.specs.declared.sought.Sought.{Sought}
+use Rattle.sym_parts.specs.Dropped.{dropped_stub}
 use Rattle.sym_parts.specs.Sought.{known}
-use Rattle.sym_parts.specs.Code.{function_seen}
-use Rattle.sym_parts.specs.Data.{taker_place, cell_seen, segment_seen, is_so}
+use Rattle.sym_parts.specs.Data.{cell_seen, segment_seen, is_so}
 use Rattle.sym_world.specs.Exports.{export_seen}
 use Rattle.sym_parts.specs.Keys.{functions_of}
-use Rattle.sym_world.specs.Choosing.{IsStage}
-use Rattle.sym_world.specs.Whole.{IsSoughtOf}
-use Rattle.sym_world.proofs.OpsTold.{IsSought}
+use Rattle.sym_functions.specs.SoughtOf.{IsSoughtOf}
+use Rattle.sym_functions.proofs.Composed.{sought_is}
 use Rattle.sym_world.proofs.CellsTold.{cells_told, segments_told}
-use Rattle.sym_world.proofs.WorldTold.{functions_told, table_told, exports_told}
+use Rattle.sym_world.proofs.ExportsTold.{exports_told}
 
--- as many rows of names as objects
-pub rows_counted : (es : Entries) (symbols : List (List (Option ℕ))) (count : ℕ) → FitsObjects es → es.names.now.symbols ≡ symbols → count ≡ length es.objects.now → length symbols ≡ count
-rows_counted es symbols count fits same is =
-    ap length (sym same) ∙ ap length fits.symbols ∙ length-map es.objects.now (λ (o : Object). map (symbol_number es.names.now.names) o.symbols) ∙ sym is
+-- whether a symbol of a dropped part has the name of a stub, by what is told
+pub dropped_is : (a : Bool) (names told : Numbered) (fs keys : List FunctionKey) (os objects : List Object) → a ≡ dropped_stub names.names fs os → names ≡ told → fs ≡ keys → os ≡ objects → a ≡ dropped_stub told.names keys objects
+dropped_is a names told fs keys os objects is n f o = is ∙ (λ i. dropped_stub (n i).names (f i) (o i))
 
 module _ (p : rules.Program) (parts : List rules.Part) (es : List InputSymbol) (d : Layout) (is : IsLayout p parts es d) where
   abbrev l : values.Layout
   l = layout Plain p parts es
 
-  sought_is : (k : Sought) → IsSoughtOf l d k → IsSought p parts es d is (known k)
-  sought_is k s = record { tables = s.tables; bases = s.bases; functions = s.functions; cells = s.cells }
-
-  module _ (k : Sought) (s : IsSoughtOf l d k) (files : List (List ℕ)) (same_files : files ≡ p.files) where
-    pub world_is : (view : Entries) → FitsObjects view → view.objects.now ≡ d.program.objects.now → view.names.now ≡ d.program.names.now → (fs : List (Option Runs))
-        → map (function_seen (known k) files d.program.resolution.now.imports view.objects.now (firsts_rows 0 (replicate (length d.program.names.now.names) None) d.program.names.now.symbols)) k.functions.now ≡ map Some fs
-        → (table : List (Option ℕ)) → table ≡ None ∷ map (taker_place k.functions.now d.numbering.now.functions) (map (number_by same_function_key d.numbering.now.functions) d.numbering.now.slots)
+  module _ (k : Sought) (s : IsSoughtOf l d k) where
+    pub world_is : (fs : List (Option Runs)) → fs ≡ map (plan_function p l) (all_functions p) → (table : List (Option ℕ)) → table ≡ plan_table p l
         → (xs : List Exported) → xs ≡ (if d.program.plan.now.import_memory then [] else record { name = memory_name; target = Elsewhere } ∷ []) ++ map (export_seen p l k.functions.now k.cells.now) es
         → (n : ℕ) → n ≡ unwrap_or (option_map (λ n. n / 65536) d.program.plan.now.max_memory) 65536
         → record { functions = fs; table = Some table; exports = xs; memory = Some n } ≡ world_by p l es
     unfolding world_by
-    world_is view fits seen named fs fs_are table table_is xs xs_are n n_is =
-        let objects : view.objects.now ≡ p.objects = seen ∙ is.program.objects in
-        let rows : d.program.names.now.symbols ≡ map (λ (o : Object). map (symbol_number d.program.names.now.names) o.symbols) p.objects =
-        ap (λ n. n.symbols) (sym named) ∙ fits.symbols ∙ (λ i. map (λ (o : Object). map (symbol_number (named i).names) o.symbols) (objects i)) in
-        let a = functions_told p parts es d is rows (known k) (sought_is k s) files same_files fs
-        (ap (map (function_seen (known k) files d.program.resolution.now.imports p.objects (firsts_rows 0 (replicate (length d.program.names.now.names) None) d.program.names.now.symbols))) (sym s.functions)
-        ∙ ap (λ os. map (function_seen (known k) files d.program.resolution.now.imports os (firsts_rows 0 (replicate (length d.program.names.now.names) None) d.program.names.now.symbols)) k.functions.now) (sym objects) ∙ fs_are) in
-        let b = table_is
-        ∙ ap (λ fs. None ∷ map (taker_place fs d.numbering.now.functions) (map (number_by same_function_key d.numbering.now.functions) d.numbering.now.slots)) s.functions ∙ table_told p parts es d is in
-        let c = xs_are
+    world_is fs fs_are table table_is xs xs_are n n_is =
+        let exports = xs_are
         ∙ ap (λ (plan : Plan). (if plan.import_memory then [] else record { name = memory_name; target = Elsewhere } ∷ []) ++ map (export_seen p l k.functions.now k.cells.now) es) is.program.plan
         ∙ ap (λ fs. (if p.plan.import_memory then [] else record { name = memory_name; target = Elsewhere } ∷ []) ++ map (export_seen p l fs k.cells.now) es) s.functions
         ∙ ap (λ gs. (if p.plan.import_memory then [] else record { name = memory_name; target = Elsewhere } ∷ []) ++ map (export_seen p l (functions_of d.program.resolution.now.imports d.program.tables.now) gs) es) s.cells
         ∙ ap (λ ys. (if p.plan.import_memory then [] else record { name = memory_name; target = Elsewhere } ∷ []) ++ ys) (exports_told p parts es d is es) in
-        let m = n_is ∙ ap (λ (plan : Plan). unwrap_or (option_map (λ n. n / 65536) plan.max_memory) 65536) is.program.plan in
-        λ i. record { functions = a i; table = Some (b i); exports = c i; memory = Some (m i) }
+        let most = n_is ∙ ap (λ (plan : Plan). unwrap_or (option_map (λ n. n / 65536) plan.max_memory) 65536) is.program.plan in
+        λ i. record { functions = fs_are i; table = Some (table_is i); exports = exports i; memory = Some (most i) }
 
+  module _ (k : Sought) (s : IsSoughtOf l d k) (files : List (List ℕ)) (same_files : files ≡ p.files) where
     pub segments_are : (live : List ℕ) → AreLive p live parts → (ys : List SymSegment)
         → map (segment_seen (known k) files d.placed.now.addresses) (filter (is_so k.tables.now files false) (segment_numbers k.tables.now live) ++ filter (is_so k.tables.now files true) (segment_numbers k.tables.now live)) ≡ map Some ys
         → ys ≡ map sym_segment (blocks_of p parts l)
     segments_are live lives ys e =
-        segments_told p parts es d is (known k) (sought_is k s) files same_files live lives ys
+        segments_told p parts es d is (known k) (sought_is p parts es d is k s) files same_files live lives ys
         (ap (λ t. map (segment_seen (known k) files d.placed.now.addresses) (filter (is_so t files false) (segment_numbers t live) ++ filter (is_so t files true) (segment_numbers t live))) (sym s.tables) ∙ e)
 
     pub cells_are : (ys : List SymCell) → map (cell_seen d.program.tables.now d.program.resolution.now.imports d.placed.now.places.stack_high) k.cells.now ≡ map Some ys

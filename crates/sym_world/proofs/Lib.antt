@@ -1,11 +1,5 @@
-pub mod Known
-pub mod Listed
-pub mod Ground
-pub mod BasesTold
-pub mod OpsTold
-pub mod CodeTold
 pub mod CellsTold
-pub mod WorldTold
+pub mod ExportsTold
 pub mod Composed
 pub mod SymSteps
 pub mod SymAnswering

@@ -16,7 +16,7 @@ use Rattle.link_program.specs.link_plan.declared.plan.Plan.{Plan}
 use Rattle.link_program.specs.name_rules.Entries.{InputSymbol}
 use Rattle.link_program.specs.link_rules.Candidates.{candidates_of}
 use Rattle.link_program.specs.link_rules.Program.{Program, Part, program_of}
-use Rattle.link_program.specs.link_rules.Marks.{exported, is_exported_by, repeated_export, live, unresolved}
+use Rattle.link_program.specs.link_rules.Marks.{exported, is_exported_by, repeated_export, live, unresolved, uncalled}
 use Rattle.link_program.specs.link_rules.Keys.{numbers}
 use Rattle.link_program.specs.link_rules.Values.{rules_of, shapes}
 use Rattle.link_program.specs.link_rules.Output.{layout}
@@ -93,9 +93,18 @@ name_left_open p es e x is once stops = fails_by (sym_exporting p es) e x is (su
     by (Refused f) stops = steps.left_open p es f stops
     by OutOfMemory stops = tt
 
-pub all_closed : (p : Program) (es : List InputSymbol) → repeated_export Plain p es ≡ None → unresolved p (live p es) ≡ None
+-- constructors would be lost
+pub ctors_lost : (p : Program) (es : List InputSymbol) (e x : LinkError) → x ≡ e → repeated_export Plain p es ≡ None → unresolved p (live p es) ≡ None → Stops e (uncalled Plain p (live p es))
+    → Fails x (sym_exporting p es)
+ctors_lost p es e x is once closed stops = fails_by (sym_exporting p es) e x is (subst (Fails e) (sym (steps.exports p es once)) (by e stops))
+  where
+    by : (e : LinkError) → Stops e (uncalled Plain p (live p es)) → Fails e (sym_marked p es)
+    by (Refused f) stops = steps.left_uncalled p es f closed stops
+    by OutOfMemory stops = tt
+
+pub all_closed : (p : Program) (es : List InputSymbol) → repeated_export Plain p es ≡ None → unresolved p (live p es) ≡ None → uncalled Plain p (live p es) ≡ None
     → sym_exporting p es ≡ sym_laid_out p es (live p es)
-all_closed p es once closed = steps.exports p es once ∙ steps.closed p es closed
+all_closed p es once closed called = steps.exports p es once ∙ steps.closed p es closed called
 
 pub choose_failed : (p : Program) (e x : LinkError) → x ≡ e → found_of p ≡ Ok p → Fails e (sym_exporting p (exported Plain p)) → Told (Err x) (sym_program p)
 choose_failed p e x is found fails = goes_on_found p (Err x) found (fails_by (sym_exporting p (exported Plain p)) e x is fails)

@@ -3,7 +3,7 @@ use Rattle.std.proofs.Common.{◌≡◌, ◌∙◌, List, sym, ap, subst, Err}
 use Rattle.link_program.specs.object_file.declared.object.Object.{Object}
 use Rattle.link_program.specs.made_symbols.declared.mode.Mode.TheVariants.{Plain}
 use Rattle.link_program.specs.link_plan.declared.plan.Plan.{Plan}
-use Rattle.link_program.specs.link_rules.Program.{Program, program_of}
+use Rattle.link_program.specs.link_rules.Program.{program_of}
 use Rattle.link_program.specs.declared.error.LinkError.{LinkError}
 use Rattle.program_build.specs.Found.{Finds}
 use Rattle.link_core.specs.Loading.{Loading, program_in}

@@ -7,10 +7,10 @@ use Rattle.link_program.specs.link_plan.declared.plan.Plan.{Plan}
 use Rattle.link_program.specs.made_symbols.declared.mode.Mode.TheVariants.{Plain}
 use Rattle.link_program.specs.round_rules.Rounds.{load}
 use Rattle.link_program.specs.name_rules.Entries.{InputSymbol}
-use Rattle.link_program.specs.name_rules.Cases.{clash, duplicate}
+use Rattle.link_program.specs.name_rules.Cases.{clash_by, duplicate}
 use Rattle.link_program.specs.link_rules.Candidates.{candidates_of}
 use Rattle.link_program.specs.link_rules.Program.{Program, Part, program_of}
-use Rattle.link_program.specs.link_rules.Marks.{exported, repeated_export, live, pic_fault, unresolved}
+use Rattle.link_program.specs.link_rules.Marks.{exported, repeated_export, live, pic_fault, unresolved, uncalled}
 use Rattle.link_program.specs.link_rules.Output.{layout}
 use Rattle.link_program.specs.link_rules.LinkOf.{asked_names, the_readers, too_many_names, memory_fault, table_fault}
 use Rattle.link_program.specs.declared.error.LinkError.{LinkError}
@@ -28,6 +28,7 @@ abbrev pub sym_resolved : Program → List InputSymbol → List Part → Result 
 sym_resolved p exports parts = do
   parts ← unless (pic_fault Plain parts) parts
   parts ← unless (unresolved p parts) parts
+  parts ← unless (uncalled Plain p parts) parts
   sym_laid_out p exports parts
 
 unfoldable pub sym_marked : Program → List InputSymbol → Result SymWorld Fault
@@ -42,7 +43,7 @@ sym_exporting p exports = do
 unfoldable pub sym_program : Program → Result SymWorld Fault
 sym_program p = do
   p ← unless (too_many_names p) p
-  p ← unless (clash p.entries) p
+  p ← unless (clash_by p.plan.like_lld p.entries) p
   p ← unless (duplicate p.entries) p
   sym_exporting p (exported Plain p)
 

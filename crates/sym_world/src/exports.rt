@@ -14,13 +14,13 @@ ghost use Rattle.link_worlds.specs.Worlds.{target_by};
 ghost use Rattle.sym_parts.specs.Data.{target_seen};
 ghost use Rattle.sym_world.specs.Exports.{export_seen};
 
-use crate::bases::address;
 use link_layout::Layout;
 use link_marks::export_name;
 use link_program::{Definition, GlobalKey, Winner, function_of, index_of};
 use linking_section::SymbolKind;
 use run_rules::{Exported, Target};
 use std::alloc::Global;
+use sym_functions::address;
 use sym_parts::{Cells, Functions};
 use wl_base::{OutOfMemory, Seq};
 

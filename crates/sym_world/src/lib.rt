@@ -3,7 +3,6 @@
 //! `run_machines::run_sym` is what is run of the linked module.
 #![tactic(auto)]
 
-mod bases;
 mod exports;
 mod objects;
 mod steps;

@@ -10,18 +10,17 @@ ghost use Rattle.link_worlds.specs.Worlds.{world_by};
 ghost use Rattle.run_laws.specs.Objects.{sym_segment, blocks_of, objects_of};
 ghost use Rattle.sym_world.specs.Choosing.{IsStage};
 ghost use Rattle.sym_parts.specs.Sought.{known};
-ghost use Rattle.sym_world.specs.Whole.{IsSoughtOf};
+ghost use Rattle.sym_functions.specs.SoughtOf.{IsSoughtOf};
 
-use crate::bases::bases_of;
 use crate::world::{exports_of, most_pages};
 use link_layout::Layout;
 use link_program::{Entries, Winner};
 use run_machines::{SymSegment, SymWorld};
 use run_rules::World;
 use std::alloc::Global;
+use sym_functions::{bases_of, functions, table};
 use sym_parts::{
-    Cells, Functions, Sought, first_cells, functions_of, least_entries, numbers_in_order,
-    segments_of, table_of,
+    Cells, Functions, Sought, dropped_stub, first_cells, numbers_in_order, segments_of,
 };
 use wl_base::{OutOfMemory, Seq};
 
@@ -46,9 +45,8 @@ fn world(
     ensures { IfOk result (λ w. w ≡ world_by s.program (laid_out Plain s.program s.parts s.exports) s.exports) }
 {
     let program = layout.program;
-    let firsts = least_entries(alloc, program.names, entries.count())?;
-    let functions = functions_of(alloc, k, files, program.resolution, entries, &firsts)?;
-    let table = table_of(alloc, k.functions, layout.numbering)?;
+    let functions = functions(alloc, layout, k, entries, files)?;
+    let table = table(alloc, layout, k)?;
     let exports = exports_of(alloc, layout, k.functions, k.cells, exports)?;
     let most = most_pages(program.plan.max_memory)?;
     Ok(World {
@@ -105,11 +103,13 @@ pub(crate) fn objects(
     let functions = Functions::new(alloc, program.resolution, program.tables)?;
     let cells = Cells::new(alloc, program.resolution, program.tables)?;
     let bases = bases_of(alloc, layout)?;
+    let dropped = dropped_stub(entries, &functions);
     let k = Sought {
         tables: program.tables,
         bases: &bases,
         functions: &functions,
         cells: &cells,
+        dropped_stub: dropped,
     };
     let world = world(alloc, layout, k, entries, files, exports)?;
     let places = &layout.placed.places;

@@ -5,6 +5,7 @@ ghost use Rattle.link_program.specs.link_plan.Plan.{IsPlan};
 ghost use Rattle.link_program.specs.link_rules.Program as rules;
 ghost use Rattle.link_program.specs.Loaded.{IsLoaded};
 ghost use Rattle.link_program.specs.Program.{IsProgram};
+ghost use Rattle.link_program.specs.name_entries.Fits.{Fits};
 ghost use Rattle.link_program.specs.Stand.{PartsStand};
 ghost use Rattle.link_program.specs.Live.{Stage};
 ghost use Rattle.link_core.specs.Chosen.{IsChosen};
@@ -20,6 +21,7 @@ use link_marks::{Live, all_are_meant, exports, live_parts, repeated_export, unre
 use link_numbers::number;
 use link_plan::Plan;
 use link_program::{Entries, LinkError, Program, Winner};
+use lost_ctors::uncalled;
 use program_build::find;
 use program_build::laws::parts_stand;
 use run_machines::SymWorld;
@@ -43,7 +45,7 @@ pub(crate) struct Chosen {
 ///
 /// # Errors
 ///
-/// The first fault of the link up to its layout: of loading, of names, of exports, an unresolved name, too much memory, too large a table.
+/// The first fault of the link up to its layout: of loading, of names, of exports, an unresolved name, lost constructors, too much memory, too large a table.
 /// A link whose output is too long, or in which a reference is out of range, has its objects all the same. `OutOfMemory`.
 pub fn sym_world<R: Threads + Sync, G: Gate>(
     rt: &R,
@@ -85,7 +87,7 @@ fn found_world<R: Threads + Sync, G: Gate>(
     parts_stand();
     let program = found.program(plan, objects);
     let entries = found.view(objects);
-    let chosen = choose(rt, alloc, program, workers, gate)?;
+    let chosen = choose(rt, alloc, program, entries, workers, gate)?;
     let exports = chosen.exports.as_slice();
     let live = chosen.live.numbers.as_slice();
     let world = placed_world(alloc, program, entries, files, exports, live);
@@ -97,11 +99,14 @@ fn choose<R: Threads + Sync, G: Gate>(
     rt: &R,
     alloc: Global,
     program: Program<'_>,
+    entries: Entries<'_>,
     workers: Workers,
     gate: &G,
 ) -> Result<Chosen, LinkError>
     ghost p: { rules.Program }
     requires program { IsProgram modes.Plain program p }
+    requires fits { Fits modes.Plain entries }
+    requires objects { entries.objects.now ≡ program.objects.now }
     requires stand { PartsStand p }
     ensures { Chooses result program.entry p }
 {
@@ -109,6 +114,7 @@ fn choose<R: Threads + Sync, G: Gate>(
     repeated_export(alloc, program, exports.as_slice())?;
     let live = live_parts(rt, alloc, program, exports.as_slice(), workers, gate)?;
     unresolved(rt, alloc, program, &live, workers)?;
+    uncalled(alloc, program, entries, &live)?;
     all_are_meant();
     Ok(Chosen { exports, live })
 }

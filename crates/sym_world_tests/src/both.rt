@@ -1,9 +1,9 @@
-//! What both machines say of a link.
+//! What both machines say of a link: the one over the bytes that the program saves, the other over the objects.
 
 ghost use Rattle.std.specs.Prelude.{◌≡◌, IfSome, true, length, unwrap_or};
 ghost use Rattle.link_plan.specs.Plan.{IsPlan};
 
-use link_core::{LinkError, link};
+use link_command::{Status, link_command};
 use link_plan::Plan;
 use link_words::read_words;
 use run_machines::{Run, run_mod, run_sym};
@@ -12,11 +12,11 @@ use run_script::read_script;
 use run_text::trace_text;
 use std::alloc::Global;
 use std::thread::Threads;
-use sym_world::sym_world;
-use test_kit::texts;
-use wl_base::{Fault, Seq};
+use sym_world::{LinkError, sym_world};
+use test_kit::{file, shelf_of, texts};
+use wl_base::{Fault, OutOfMemory, Seq};
 use wl_fan::Workers;
-use wl_outside::OpenGate;
+use wl_outside::{MemShelf, MemSink, OpenGate};
 
 /// A session on a link.
 #[derive(Clone, Copy)]
@@ -80,23 +80,61 @@ fn is_printed(alloc: Global, run: &Run, text: &[u8]) -> bool {
     }
 }
 
-/// What a session comes to on the linked module.
-fn run_linked<R: Threads + Sync>(
+/// A shelf of these objects, whose names are the first words.
+fn shelf_for(alloc: Global, words: &[&str], objects: &[&[u8]]) -> Result<MemShelf, OutOfMemory> {
+    let mut files = Seq::new(alloc);
+    for (name, object) in words.iter().zip(objects) {
+        files.push(file(alloc, name, object)?)?;
+    }
+    shelf_of(alloc, files, &[])
+}
+
+/// How the program ends on these words.
+fn status_on<R: Threads + Sync>(
     rt: &R,
     alloc: Global,
-    plan: &Plan,
-    files: &[Seq<u8>],
-    session: &Session,
-    steps: u64,
-) -> Option<Run>
-    requires plan { IsPlan plan.now }
-{
-    if !is_whole(plan, files) {
-        return None;
+    words: &[&str],
+    shelf: &mut MemShelf,
+) -> Result<Status, OutOfMemory> {
+    let words = texts(alloc, words)?;
+    if words.len() > 100 {
+        return Err(OutOfMemory);
     }
-    match link(rt, alloc, plan, files, &OpenGate) {
-        Ok(bytes) => run_mod(alloc, bytes.as_slice(), session, steps).ok(),
-        Err(_) => None,
+    let mut say = MemSink::new(alloc, Seq::new(alloc));
+    Ok(link_command(rt, alloc, words.as_slice(), shelf, &mut say, &OpenGate))
+}
+
+/// Whether the program links.
+fn is_linked<R: Threads + Sync>(
+    rt: &R,
+    alloc: Global,
+    words: &[&str],
+    shelf: &mut MemShelf,
+) -> bool {
+    match status_on(rt, alloc, words, shelf) {
+        Ok(status) => status == Status::Linked,
+        Err(_) => false,
+    }
+}
+
+fn is_refusal(status: &Status, fault: &Fault) -> bool {
+    match status {
+        Status::Refused(found) => found == fault,
+        _ => false,
+    }
+}
+
+/// Whether the program refuses the link for this fault.
+fn is_refused<R: Threads + Sync>(
+    rt: &R,
+    alloc: Global,
+    words: &[&str],
+    shelf: &mut MemShelf,
+    fault: &Fault,
+) -> bool {
+    match status_on(rt, alloc, words, shelf) {
+        Ok(status) => is_refusal(&status, fault),
+        Err(_) => false,
     }
 }
 
@@ -135,6 +173,7 @@ fn agree<R: Threads + Sync>(
     alloc: Global,
     plan: &Plan,
     files: &[Seq<u8>],
+    module: &[u8],
     case: &Case<'_>,
 ) -> bool
     requires plan { IsPlan plan.now }
@@ -142,7 +181,7 @@ fn agree<R: Threads + Sync>(
     match read_script(alloc, case.script) {
         Ok(script) => {
             let session = &script.session;
-            let linked = run_linked(rt, alloc, plan, files, session, case.steps);
+            let linked = run_mod(alloc, module, session, case.steps).ok();
             let objects = run_objects(rt, alloc, plan, files, session, case.steps);
             prints(alloc, linked, case.text) && prints(alloc, objects, case.text)
         }
@@ -156,19 +195,35 @@ fn all_agree<R: Threads + Sync>(
     alloc: Global,
     plan: &Plan,
     files: &[Seq<u8>],
+    module: &[u8],
     cases: &[Case<'_>],
 ) -> bool
     requires plan { IsPlan plan.now }
 {
     for case in cases {
-        if !agree(rt, alloc, plan, files, case) {
+        if !agree(rt, alloc, plan, files, module, case) {
             return false;
         }
     }
     true
 }
 
-/// Whether on a link of these objects by these words both machines print the traces of all cases.
+/// Whether this module and these objects give the traces of all cases.
+fn module_holds<R: Threads + Sync>(
+    rt: &R,
+    alloc: Global,
+    words: &[&str],
+    objects: &[&[u8]],
+    module: &[u8],
+    cases: &[Case<'_>],
+) -> bool {
+    match (plan_of(alloc, words), files_of(alloc, objects)) {
+        (Some(plan), Some(files)) => all_agree(rt, alloc, &plan, files.as_slice(), module, cases),
+        _ => false,
+    }
+}
+
+/// Whether both machines print the traces of all cases, on what the program saves by these words and on these objects.
 pub(crate) fn hold<R: Threads + Sync>(
     rt: &R,
     alloc: Global,
@@ -176,9 +231,16 @@ pub(crate) fn hold<R: Threads + Sync>(
     objects: &[&[u8]],
     cases: &[Case<'_>],
 ) -> bool {
-    match (plan_of(alloc, words), files_of(alloc, objects)) {
-        (Some(plan), Some(files)) => all_agree(rt, alloc, &plan, files.as_slice(), cases),
-        _ => false,
+    let mut shelf = match shelf_for(alloc, words, objects) {
+        Ok(shelf) => shelf,
+        Err(_) => return false,
+    };
+    if !is_linked(rt, alloc, words, &mut shelf) {
+        return false;
+    }
+    match shelf.held("out") {
+        Some(module) => module_holds(rt, alloc, words, objects, module, cases),
+        None => false,
     }
 }
 
@@ -201,24 +263,6 @@ fn fault_of_objects<R: Threads + Sync>(
     }
 }
 
-/// The fault of the link.
-fn fault_of_link<R: Threads + Sync>(
-    rt: &R,
-    alloc: Global,
-    plan: &Plan,
-    files: &[Seq<u8>],
-) -> Option<Fault>
-    requires plan { IsPlan plan.now }
-{
-    if !is_whole(plan, files) {
-        return None;
-    }
-    match link(rt, alloc, plan, files, &OpenGate) {
-        Err(LinkError::Refused(fault)) => Some(fault),
-        _ => None,
-    }
-}
-
 fn is_fault(found: Option<Fault>, fault: &Fault) -> bool {
     match found {
         Some(found) => found == *fault,
@@ -226,8 +270,8 @@ fn is_fault(found: Option<Fault>, fault: &Fault) -> bool {
     }
 }
 
-/// Whether a link and its objects have this fault.
-pub(crate) fn fail<R: Threads + Sync>(
+/// Whether the objects have this fault.
+fn objects_fail<R: Threads + Sync>(
     rt: &R,
     alloc: Global,
     words: &[&str],
@@ -236,9 +280,24 @@ pub(crate) fn fail<R: Threads + Sync>(
 ) -> bool {
     match (plan_of(alloc, words), files_of(alloc, objects)) {
         (Some(plan), Some(files)) => {
-            is_fault(fault_of_link(rt, alloc, &plan, files.as_slice()), fault)
-                && is_fault(fault_of_objects(rt, alloc, &plan, files.as_slice()), fault)
+            is_fault(fault_of_objects(rt, alloc, &plan, files.as_slice()), fault)
         }
         _ => false,
     }
+}
+
+/// Whether the program by these words and the objects have this fault.
+pub(crate) fn fail<R: Threads + Sync>(
+    rt: &R,
+    alloc: Global,
+    words: &[&str],
+    objects: &[&[u8]],
+    fault: &Fault,
+) -> bool {
+    let mut shelf = match shelf_for(alloc, words, objects) {
+        Ok(shelf) => shelf,
+        Err(_) => return false,
+    };
+    is_refused(rt, alloc, words, &mut shelf, fault)
+        && objects_fail(rt, alloc, words, objects, fault)
 }

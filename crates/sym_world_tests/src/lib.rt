@@ -1,4 +1,4 @@
-//! Sessions on loaded objects and on what they are linked to: both machines print the same trace, which is the expected one.
+//! Sessions on loaded objects and on the bytes that the program saves of them: both machines print the same trace, which is the expected one.
 #![tactic(auto)]
 
 #[cfg(test)]

@@ -55,9 +55,29 @@ const GROUP: &[u8; 111] =
 const GROUP_CALLED: &[u8; 148] =
     b"\0asm\x01\0\0\0\x01\x85\x80\x80\x80\0\x01`\0\x01\x7F\x02\x98\x80\x80\x80\0\x01\x03env\x0F__linear_memory\x02\0\0\x03\x83\x80\x80\x80\0\x02\0\0\x0A\x8F\x80\x80\x80\0\x02\x04\0A\x01\x0B\x08\0\x10\x80\x80\x80\x80\0\x0B\0\xA9\x80\x80\x80\0\x07linking\x02\x08\x8B\x80\x80\x80\0\x02\0\x02\0\x01g\0\0\x01\x01f\x07\x89\x80\x80\x80\0\x01\x03grp\0\x01\x01\0\0\x90\x80\x80\x80\0\x0Areloc.CODE\x03\x01\0\x09\0";
 
+/// The same group, and `d`, which calls its function.
+const GROUP_DEAD: &[u8; 148] =
+    b"\0asm\x01\0\0\0\x01\x85\x80\x80\x80\0\x01`\0\x01\x7F\x02\x98\x80\x80\x80\0\x01\x03env\x0F__linear_memory\x02\0\0\x03\x83\x80\x80\x80\0\x02\0\0\x0A\x8F\x80\x80\x80\0\x02\x04\0A\x01\x0B\x08\0\x10\x80\x80\x80\x80\0\x0B\0\xA9\x80\x80\x80\0\x07linking\x02\x08\x8B\x80\x80\x80\0\x02\0\x02\0\x01g\0\0\x01\x01d\x07\x89\x80\x80\x80\0\x01\x03grp\0\x01\x01\0\0\x90\x80\x80\x80\0\x0Areloc.CODE\x03\x01\0\x09\0";
+
 /// A group whose local function writes 7 to 1024 and is an init function.
 const INIT: &[u8; 127] =
     b"\0asm\x01\0\0\0\x01\x84\x80\x80\x80\0\x01`\0\0\x02\x98\x80\x80\x80\0\x01\x03env\x0F__linear_memory\x02\0\0\x03\x82\x80\x80\x80\0\x01\0\x0A\x8C\x80\x80\x80\0\x01\x0A\0A\0A\x07:\0\x80\x08\x0B\0\xAF\x80\x80\x80\0\x07linking\x02\x08\x86\x80\x80\x80\0\x01\0\x02\0\x01g\x06\x85\x80\x80\x80\0\x01\xFF\xFF\x03\0\x07\x89\x80\x80\x80\0\x01\x03grp\0\x01\x01\0";
+
+/// A weak `f` that gives 2.
+const GIVING: &[u8; 46] =
+    b"\0asm\x01\0\0\0\x01\x05\x01`\0\x01\x7F\x03\x02\x01\0\x0A\x06\x01\x04\0A\x02\x0B\0\x11\x07linking\x02\x08\x06\x01\0\x01\0\x01f";
+
+/// `w` is weak and undefined: `f` calls it, `g` calls it through the table, and `h` adds its place there to its argument.
+const NULL: &[u8; 136] =
+    b"\0asm\x01\0\0\0\x01\x06\x01`\x01\x7F\x01\x7F\x02\x09\x01\x03env\x01w\0\0\x03\x04\x03\0\0\0\x0A*\x03\x0A\0 \0\x10\x80\x80\x80\x80\0\x0B\x11\0 \0A\x80\x80\x80\x80\0\x11\x80\x80\x80\x80\0\0\x0B\x0B\0 \0A\x80\x80\x80\x80\0j\x0B\0\x1E\x07linking\x02\x08\x13\x04\0\x11\0\0\0\x01\x01f\0\0\x02\x01g\0\0\x03\x01h\0\x19\x0Areloc.CODE\x03\x04\0\x06\0\x01\x11\0\x06\x17\0\x01#\0";
+
+/// Init functions `p` of priority 200 and `q` of priority 100, which ask the host for `P` and `Q`.
+const LATE_AND_EARLY: &[u8; 122] =
+    b"\0asm\x01\0\0\0\x01\x04\x01`\0\0\x02\x11\x02\x03env\x01P\0\0\x03env\x01Q\0\0\x03\x03\x02\0\0\x0A\x13\x02\x08\0\x10\x80\x80\x80\x80\0\x0B\x08\0\x10\x80\x80\x80\x80\0\x0B\0(\x07linking\x02\x08\x15\x04\0P\0\x01P\0P\x01\x01Q\0\x04\x02\x01p\0\x04\x03\x01q\x06\x06\x02\xC8\x01\x02d\x03\0\x13\x0Areloc.CODE\x03\x02\0\x04\0\0\x0D\x01";
+
+/// An init function of priority 100, which asks the host for `R`.
+const EARLY: &[u8; 88] =
+    b"\0asm\x01\0\0\0\x01\x04\x01`\0\0\x02\x09\x01\x03env\x01R\0\0\x03\x02\x01\0\x0A\x0A\x01\x08\0\x10\x80\x80\x80\x80\0\x0B\0\x1B\x07linking\x02\x08\x0B\x02\0P\0\x01R\0\x04\x01\x01r\x06\x03\x01d\x01\0\x10\x0Areloc.CODE\x03\x01\0\x04\0";
 
 /// `--no-entry` and `--export=f` of one input.
 const ONE: [&str; 5] = ["a.o", "-o", "out", "--no-entry", "--export=f"];
@@ -235,6 +255,100 @@ fn dead_functions_are_told(rt: HostRuntime) -> Result<(), Fail> {
             &calls
         )
     );
+    Ok(())
+}
+
+#[test]
+fn dead_calls_of_dropped_functions_are_told(rt: HostRuntime) -> Result<(), Fail> {
+    let alloc = rt.alloc();
+    let calls = [case(
+        b"call f i32:0".as_slice(),
+        b"returned i32:3\nmemory 2\nend\n".as_slice(),
+    )];
+    let objects = [STUB.as_slice(), GROUP.as_slice(), GROUP_DEAD.as_slice()];
+    assert!(rt; hold(&rt, alloc, &THREE, &objects, &calls));
+    Ok(())
+}
+
+/// `f` that gives this number, by a symbol of these flags.
+fn giving(number: u8, flags: u8) -> [u8; 46] {
+    let mut bytes = *GIVING;
+    bytes[25] = number;
+    bytes[42] = flags;
+    bytes
+}
+
+#[test]
+fn a_name_is_told_of_its_winner(rt: HostRuntime) -> Result<(), Fail> {
+    let alloc = rt.alloc();
+    let one = [case(
+        b"call f".as_slice(),
+        b"returned i32:1\nmemory 2\nend\n".as_slice(),
+    )];
+    let two = [case(
+        b"call f".as_slice(),
+        b"returned i32:2\nmemory 2\nend\n".as_slice(),
+    )];
+    let (strong, weak, other) = (giving(1, 0), giving(2, 1), giving(3, 1));
+    assert!(rt;
+        hold(
+            &rt,
+            alloc,
+            &TWO,
+            &[weak.as_slice(), strong.as_slice()],
+            &one
+        )
+    );
+    assert!(rt;
+        hold(
+            &rt,
+            alloc,
+            &TWO,
+            &[strong.as_slice(), weak.as_slice()],
+            &one
+        )
+    );
+    assert!(rt; hold(&rt, alloc, &TWO, &[weak.as_slice(), other.as_slice()], &two));
+    Ok(())
+}
+
+#[test]
+fn null_functions_are_told(rt: HostRuntime) -> Result<(), Fail> {
+    let alloc = rt.alloc();
+    let words = [
+        "a.o",
+        "-o",
+        "out",
+        "--no-entry",
+        "--export=f",
+        "--export=g",
+        "--export=h",
+    ];
+    let calls = [case(
+        b"call f i32:1\ncall g i32:1\ncall h i32:6".as_slice(),
+        b"trapped Unreachable\ntrapped NullEntry\nreturned i32:6\nmemory 2\nend\n".as_slice(),
+    )];
+    assert!(rt; hold(&rt, alloc, &words, &[NULL.as_slice()], &calls));
+    Ok(())
+}
+
+#[test]
+fn constructors_are_told_by_priority(rt: HostRuntime) -> Result<(), Fail> {
+    let alloc = rt.alloc();
+    let words = [
+        "a.o",
+        "b.o",
+        "-o",
+        "out",
+        "--no-entry",
+        "--export=__wasm_call_ctors",
+    ];
+    let order = [case(
+        b"call __wasm_call_ctors\nanswer\nanswer\nanswer".as_slice(),
+        b"asked env Q\nasked env R\nasked env P\nreturned\nmemory 2\nend\n".as_slice(),
+    )];
+    let objects = [LATE_AND_EARLY.as_slice(), EARLY.as_slice()];
+    assert!(rt; hold(&rt, alloc, &words, &objects, &order));
     Ok(())
 }
 

@@ -19,6 +19,9 @@ pub use files::{file, roomy_shelf, shelf_of, texts};
 pub use hold::Hold;
 pub use meeting::Meeting;
 pub use metadata::{group, member, reloc, segment_info, silent, symbol};
-pub use objects::{calling_module, calling_object, defines_a, library, needs_a, part_of_cut};
+pub use objects::{
+    begun_object, calling_module, calling_object, calls_a_otherwise, defines_a, library, needs_a,
+    part_of_cut,
+};
 pub use tally::Tally;
 pub use types::{func_type, import};

@@ -12,6 +12,17 @@ pub fn defines_a() -> &'static [u8] {
     b"\0asm\x01\0\0\0\x01\x04\x01`\0\0\x03\x02\x01\0\n\x04\x01\x02\0\x0b\0\x15\x07linking\x02\x08\n\x02\0\0\0\x01a\x01\x10\x01b".as_slice()
 }
 
+/// An object that calls `a` as if it gave an integer, in a function `f`: a type, the import of `a`, the function and its body, the symbols,
+/// and the relocation of the call.
+pub fn calls_a_otherwise() -> &'static [u8] {
+    b"\0asm\x01\0\0\0\x01\x05\x01`\0\x01\x7f\x02\x09\x01\x03env\x01a\0\0\x03\x02\x01\0\x0a\x0a\x01\x08\0\x10\x80\x80\x80\x80\0\x0b\0\x14\x07linking\x02\x08\x09\x02\0\x10\0\0\0\x01\x01f\0\x10\x0areloc.CODE\x03\x01\0\x04\0".as_slice()
+}
+
+/// An object with a function `f` and an init function `i`.
+pub fn begun_object() -> &'static [u8] {
+    b"\0asm\x01\0\0\0\x01\x04\x01`\0\0\x03\x03\x02\0\0\x0a\x07\x02\x02\0\x0b\x02\0\x0b\0\x1d\x07linking\x02\x08\x0b\x02\0\0\0\x01f\0\0\x01\x01i\x06\x05\x01\xff\xff\x03\x01".as_slice()
+}
+
 /// A library of two members: the first defines `a` and refers to `b`, the second the other way round.
 pub fn library() -> &'static [u8] {
     b"!<arch>\n/                                               16        `\n\0\0\0\x02\0\0\0T\0\0\0\xc0a\0b\0m/                                              47        `\n\0asm\x01\0\0\0\x01\x04\x01`\0\0\x03\x02\x01\0\n\x04\x01\x02\0\x0b\0\x15\x07linking\x02\x08\n\x02\0\0\0\x01a\x01\x10\x01b\nm/                                              47        `\n\0asm\x01\0\0\0\x01\x04\x01`\0\0\x03\x02\x01\0\n\x04\x01\x02\0\x0b\0\x15\x07linking\x02\x08\n\x02\0\0\0\x01b\x01\x10\x01a\n".as_slice()

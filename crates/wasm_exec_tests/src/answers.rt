@@ -94,9 +94,9 @@ fn what_isnt_run_is_refused(rt: HostRuntime) -> Result<(), Fail> {
 #[test]
 fn a_script_says_what_is_imported_and_answered(rt: HostRuntime) -> Result<(), Fail> {
     let script =
-        b"# all\n\nmemory 2\ntable 3\nglobal m g i32:9\ncall f i32:3\nanswer 16=05 i32:10\ncall get\ncall slot i32:2\ncall slot i32:0\ncall slot i32:3\ncall size\ncall grow i32:1\ngrow yes\ncall grow i32:1\ngrow no\ncall f i32:3\ntrap\n".as_slice();
+        b"# all\n\nmemory 2\ntable 3\nglobal m g i32:9\ncall f i32:3\nanswer 16=05 i32:10\ncall get\ncall slot i32:2\ncall slot i32:0\ncall slot i32:3\ncall size\ncall grow i32:1\ngrow yes\ncall grow i32:1\ngrow no\ncall f i32:3\ntrap\ncall f i32:4\nanswer i32:10\n".as_slice();
     let text =
-        b"asked m h i32:3\nreturned i32:15\nreturned i32:9\nreturned i32:9\ntrapped NullEntry\ntrapped TableBounds\nreturned i32:2\nreturned i32:2\nreturned i32:4294967295\nasked m h i32:3\ntrapped HostTrap\nmemory 3\n00000010 05000000000000000000000000000000\n00010000 41000000000000000000000000000000\nglobal x i32:9\nend\n".as_slice();
+        b"asked m h i32:3\nreturned i32:15\nreturned i32:9\nreturned i32:9\ntrapped NullEntry\ntrapped TableBounds\nreturned i32:2\nreturned i32:2\nreturned i32:4294967295\nasked m h i32:3\ntrapped HostTrap\nasked m h i32:4\nreturned i32:15\nmemory 3\n00000010 05000000000000000000000000000000\n00010000 41000000000000000000000000000000\nglobal x i32:9\nend\n".as_slice();
     let case = Case {
         bytes: &ASKING,
         script,

@@ -22,7 +22,7 @@ Empty lines and lines that begin with # say nothing.
                        with these results
   answer ADDRESS=HEX.. VALUE..
                        and first writes bytes to memory, two digits each
-  trap                 the host ends that call, and each later one, by a trap
+  trap                 the host ends that call by a trap
   grow yes, grow no    whether memory may grow, when that is asked
   global MODULE FIELD VALUE
                        the first value of an imported global, by default 0

@@ -5,7 +5,7 @@
 mod inputs;
 
 pub use inputs::inputs_rise;
-pub use name_cases::{first_clash, first_duplicate};
+pub use name_cases::{first_clash, first_duplicate, first_loose_clash};
 pub use name_entries::{Entries, EntryTable, Meaning, Names, PairCase};
 pub use name_jobs::{GroupJobs, NameJobs, group_winners, laws, name_winners};
 pub use name_meanings::{Resolution, resolve};

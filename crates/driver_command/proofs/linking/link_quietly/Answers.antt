@@ -2,11 +2,11 @@ use Rattle.driver_command.proofs.linking.link_quietly.Goals as goal
 
 pub returns-clause-shows : goal.returns-clause-shows
 returns-clause-shows g c = record {
-  usage = c.link_command.ensures.usage;
-  cause = c.link_command.ensures.cause;
-  memory = c.link_command.ensures.memory;
-  runs = c.link_command.ensures.runs;
-  is_usage = c.link_command.ensures.is_usage;
-  is_refused = c.link_command.ensures.is_refused;
-  is_linked = c.link_command.ensures.is_linked;
+  usage = c.link_like_lld.ensures.usage;
+  cause = c.link_like_lld.ensures.cause;
+  memory = c.link_like_lld.ensures.memory;
+  runs = c.link_like_lld.ensures.runs;
+  is_usage = c.link_like_lld.ensures.is_usage;
+  is_refused = c.link_like_lld.ensures.is_refused;
+  is_linked = c.link_like_lld.ensures.is_linked;
 }

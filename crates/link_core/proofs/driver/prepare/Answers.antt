@@ -30,8 +30,10 @@ choose-requires g c κs within =
     c.args.inputs.now.homes c.in_ok-found.found c.program-program.result c.view-entries.result c.requires.1.1.1.1.0 c.requires.1.1.1.1.1.1.0 c.requires.1.1.1.1.1.1.1.1 c.parts_stand.ensures c.in_ok-found.ensures.1
     c.program-program.ensures.is c.view-entries.ensures.fits c.view-entries.ensures.objects c.program-program.ensures.objects c.view-entries.ensures.names c.program-program.ensures.names in
     let program = is.program in
+    let fits = is.fits in
+    let objects = is.objects in
     let stand = is.stand in
-    search (rules, program, stand)
+    search (rules, program, fits, objects, stand)
 
 pub returns-in_err-chosen-clause-exact : goal.returns-in_err-chosen-clause-exact
 returns-in_err-chosen-clause-exact g c =

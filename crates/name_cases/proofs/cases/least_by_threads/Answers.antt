@@ -7,7 +7,7 @@ use Rattle.rayon.proofs.ToStd.{answers-by_ref, filter_by_mask-find}
 use Rattle.name_entries.specs.name_rules.declared.case.PairCase.{PairCase}
 use Rattle.name_cases.specs.Rows.{entries_in, names_shown, rows_shown}
 use Rattle.name_cases.specs.Least.{row_case}
-use Rattle.name_cases.specs.Search.{case_in}
+use Rattle.name_cases.specs.Search.{case_in, compared}
 use Rattle.name_cases.proofs.Search.{first_answer, by_places}
 use Rattle.name_cases.proofs.cases.least_by_threads.Goals as goal
 
@@ -15,7 +15,7 @@ pub returns : goal.returns
 returns g c =
     let s = c.args.comparison.now in
     let rows = rows_shown s.rows in
-    let f = case_in s.question (names_shown s.rows) (entries_in rows) in
+    let f = case_in s.question (names_shown s.rows) (compared s.question (entries_in rows)) in
     let found = c.find_first.ensures in
     let chain = found.2 in
     let ends = c.into_par_iter.ensures in

@@ -1,7 +1,7 @@
-use Rattle.std.proofs.Common.{rules, subst, sym}
+use Rattle.std.proofs.Common.{rules, ap, Ok}
 use Rattle.link_program.specs.made_symbols.declared.mode.Mode.TheVariants as modes
-use Rattle.link_program.specs.Loaded.{IsLoaded, Origin}
-use Rattle.program_build.specs.Steps.{Numbered}
+use Rattle.link_program.specs.Loaded.{Origin}
+use Rattle.program_build.specs.Steps.{AreMeant}
 use Rattle.program_build.proofs.Finding.{names_refused, meanings_refused, all_found, seen_meanings}
 use Rattle.program_build.proofs.building.find.Goals as goal
 
@@ -13,20 +13,28 @@ returns-in_err-names g c =
 pub meanings_of-requires : goal.meanings_of-requires
 meanings_of-requires g c κs within =
     let fits = c.view-view.ensures.fits modes.Plain c.in_ok-names.ensures.2 c.requires.1.1.1.1.1.1.rise c.in_ok-entries.ensures in
-    let loaded = subst (λ os. IsLoaded g.origin.files g.origin.all os c.args.homes.now) (sym c.view-view.ensures.objects) c.requires.1.1.1.1.1.1 in
     let same = c.requires.1.1.1.1.1.0 in
-    search (rules, fits, loaded, same)
+    search (rules, fits, same)
 
-pub returns-in_err-ranks : goal.returns-in_err-ranks
-returns-in_err-ranks g c =
+pub returns-in_err-meanings : goal.returns-in_err-meanings
+returns-in_err-meanings g c =
     let origin : Origin = record { plan = c.args.plan.now; files = g.origin.files; all = g.origin.all } in
     let told = seen_meanings modes.Plain g.origin c.args.plan.now c.args.objects.now c.view-view.result.objects.now c.in_ok-names.names.names c.view-view.result.names.now.names c.meanings_of.result
-    c.requires.1.1.1.1.1.0 c.view-view.ensures.objects (Rattle.std.proofs.Common.ap (λ n. n.names) c.view-view.ensures.names) c.meanings_of.ensures in
-    meanings_refused modes.Plain origin c.args.objects.now c.in_ok-names.names c.from_residual-in_err-ranks.result c.in_err-ranks.field-0.0 c.meanings_of.result c.in_ok-names.ensures c.in_err-ranks.was told c.from_residual-in_err-ranks.ensures
+    c.requires.1.1.1.1.1.0 c.view-view.ensures.objects (ap (λ n. n.names) c.view-view.ensures.names) c.meanings_of.ensures in
+    meanings_refused modes.Plain origin c.args.objects.now c.in_ok-names.names c.from_residual-in_err-meanings.result c.in_err-meanings.field-0.0 c.meanings_of.result c.in_ok-names.ensures c.in_err-meanings.was told c.from_residual-in_err-meanings.ensures
+
+pub found_by-requires : goal.found_by-requires
+found_by-requires g c κs within =
+    let origin : Origin = record { plan = c.args.plan.now; files = g.origin.files; all = g.origin.all } in
+    let told = seen_meanings modes.Plain g.origin c.args.plan.now c.args.objects.now c.view-view.result.objects.now c.in_ok-names.names.names c.view-view.result.names.now.names (Ok c.in_ok-meanings.meanings)
+    c.requires.1.1.1.1.1.0 c.view-view.ensures.objects (ap (λ n. n.names) c.view-view.ensures.names) c.in_ok-meanings.ensures in
+    let loaded = c.requires.1.1.1.1.1.1 in
+    let meant : AreMeant origin c.args.objects.now c.in_ok-names.names c.in_ok-entries.entries c.in_ok-meanings.meanings = record { numbered = c.in_ok-names.ensures; looked_up = c.in_ok-entries.ensures; meanings = told.1 } in
+    search (rules, loaded, meant)
 
 pub returns : goal.returns
 returns g c =
     let origin : Origin = record { plan = c.args.plan.now; files = g.origin.files; all = g.origin.all } in
-    let told = seen_meanings modes.Plain g.origin c.args.plan.now c.args.objects.now c.view-view.result.objects.now c.in_ok-names.names.names c.view-view.result.names.now.names (Rattle.std.proofs.Common.Ok c.in_ok-ranks.field-0)
-    c.requires.1.1.1.1.1.0 c.view-view.ensures.objects (Rattle.std.proofs.Common.ap (λ n. n.names) c.view-view.ensures.names) c.in_ok-ranks.ensures in
-    all_found modes.Plain origin c.args.objects.now c.args.homes.now c.in_ok-names.names c.in_ok-entries.entries c.in_ok-ranks.field-0 c.requires.1.1.1.1.1.1 c.in_ok-names.ensures told c.in_ok-entries.ensures
+    let told = seen_meanings modes.Plain g.origin c.args.plan.now c.args.objects.now c.view-view.result.objects.now c.in_ok-names.names.names c.view-view.result.names.now.names (Ok c.in_ok-meanings.meanings)
+    c.requires.1.1.1.1.1.0 c.view-view.ensures.objects (ap (λ n. n.names) c.view-view.ensures.names) c.in_ok-meanings.ensures in
+    all_found modes.Plain origin c.args.objects.now c.in_ok-names.names c.in_ok-meanings.meanings c.in_ok-found.found c.in_ok-names.ensures told c.in_ok-found.ensures

@@ -1,4 +1,4 @@
-use Rattle.std.proofs.Common.{arith, take, [], length, ap, ◌∙◌, ◌<◌, ◌≡◌, ◌≤◌}
+use Rattle.std.proofs.Common.{arith, take, [], length, ap, ◌∙◌, ◌<◌, ◌≡◌, ◌≤◌, ◌++◌}
 use Rattle.std.specs.Prelude.{flat_map, map}
 use Rattle.std.proofs.lemmas.List.{length-map, take_all}
 use Rattle.link_program.specs.name_rules.Entries.{symbols_of}
@@ -26,7 +26,7 @@ returns-clause-symbols c =
     let rows = rows_of objects in
     let counted : length rows ≡ length objects = length-map objects (symbols_of objects) in
     let past : length rows ≤ c.loop-object.object = omega (arith, counted, c.count-object-end.ensures, c.loop-object-test.false) in
-    c.loop-object.invariant.symbols ∙ ap (flat_map (λ row. map (symbol_of c.args.sources) row)) (take_all c.loop-object.object rows past)
+    c.in_ok-extend_from_slice.ensures.ok ∙ ap (λ l. l ++ c.args.variants.now) (c.loop-object.invariant.symbols ∙ ap (flat_map (λ row. map (symbol_of c.args.sources) row)) (take_all c.loop-object.object rows past))
 
 pub returns-clause-firsts : goal.returns-clause-firsts
 returns-clause-firsts c =

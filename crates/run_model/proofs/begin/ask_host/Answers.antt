@@ -12,26 +12,26 @@ pub returns-in-Goes : goal.returns-in-Goes
 returns-in-Goes c =
     subst (λ (s : Step). IfOk c.finish.result (λ how. Steps s how c.finish.new.state))
     (sym
-    (host_gives c.args.session.now c.args.state.now.cells.items c.args.state.now.inner c.reply.new.inner c.args.kind.now c.args.event c.blank.result c.push.new.self c.in_ok-reply.field-0 c.blank.ensures c.in_ok-push.ensures.ok c.in_ok-reply.ensures c.in_ok-values-in-Goes.values c.into_seq.result c.in-Goes.is c.in_ok-values-in-Goes.ensures.taken c.into_seq.ensures))
+    (host_gives c.args.session.now c.args.state.now.cells.items c.args.state.now.inner c.ask.new.inner c.reply.new.inner c.args.kind.now c.args.event c.blank.result c.in_ok-place.place c.in_ok-reply.field-0 c.blank.ensures c.in_ok-place.ensures.place c.in_ok-place.ensures.told c.in_ok-reply.ensures c.in_ok-values-in-Goes.values c.into_seq.result c.in-Goes.is c.in_ok-values-in-Goes.ensures.taken c.into_seq.ensures))
     c.finish.ensures
 
 pub returns-in-Leaves : goal.returns-in-Leaves
 returns-in-Leaves c =
     subst (λ (s : Step). Steps s c.end.result c.end.new.state)
     (sym
-    (host_leaves c.args.session.now c.args.state.now.cells.items c.args.state.now.inner c.reply.new.inner c.args.kind.now c.args.event c.blank.result c.push.new.self c.in_ok-reply.field-0 c.blank.ensures c.in_ok-push.ensures.ok c.in_ok-reply.ensures _ c.in-Leaves.is))
+    (host_leaves c.args.session.now c.args.state.now.cells.items c.args.state.now.inner c.ask.new.inner c.reply.new.inner c.args.kind.now c.args.event c.blank.result c.in_ok-place.place c.in_ok-reply.field-0 c.blank.ensures c.in_ok-place.ensures.place c.in_ok-place.ensures.told c.in_ok-reply.ensures _ c.in-Leaves.is))
     c.end.ensures
 
 pub returns-in-Traps : goal.returns-in-Traps
 returns-in-Traps c =
     subst (λ (s : Step). IfOk c.finish-in-Traps.result (λ how. Steps s how c.finish-in-Traps.new.state))
     (sym
-    (host_traps c.args.session.now c.args.state.now.cells.items c.args.state.now.inner c.reply.new.inner c.args.kind.now c.args.event c.blank.result c.push.new.self c.in_ok-reply.field-0 c.blank.ensures c.in_ok-push.ensures.ok c.in_ok-reply.ensures c.in-Traps.kind c.in-Traps.is))
+    (host_traps c.args.session.now c.args.state.now.cells.items c.args.state.now.inner c.ask.new.inner c.reply.new.inner c.args.kind.now c.args.event c.blank.result c.in_ok-place.place c.in_ok-reply.field-0 c.blank.ensures c.in_ok-place.ensures.place c.in_ok-place.ensures.told c.in_ok-reply.ensures c.in-Traps.kind c.in-Traps.is))
     c.finish-in-Traps.ensures
 
 pub returns : goal.returns
 returns c =
     subst (λ (s : Step). Steps s c.end-in-Ends.result c.end-in-Ends.new.state)
     (sym
-    (host_ends c.args.session.now c.args.state.now.cells.items c.args.state.now.inner c.reply.new.inner c.args.kind.now c.args.event c.blank.result c.push.new.self c.in_ok-reply.field-0 c.blank.ensures c.in_ok-push.ensures.ok c.in_ok-reply.ensures c.in-Ends.event c.in-Ends.is))
+    (host_ends c.args.session.now c.args.state.now.cells.items c.args.state.now.inner c.ask.new.inner c.reply.new.inner c.args.kind.now c.args.event c.blank.result c.in_ok-place.place c.in_ok-reply.field-0 c.blank.ensures c.in_ok-place.ensures.place c.in_ok-place.ensures.told c.in_ok-reply.ensures c.in-Ends.event c.in-Ends.is))
     c.end-in-Ends.ensures

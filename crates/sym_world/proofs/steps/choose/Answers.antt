@@ -2,7 +2,7 @@ use Rattle.std.proofs.Common.{rules, ◌∙◌}
 use Rattle.std.proofs.lemmas.Result.{err_from_is_err_and}
 use Rattle.link_program.specs.made_symbols.declared.mode.Mode.TheVariants.{Plain}
 use Rattle.link_program.specs.link_rules.Marks as marks
-use Rattle.sym_world.proofs.SymAnswering.{exports_are_winners, export_repeats, name_left_open, all_closed}
+use Rattle.sym_world.proofs.SymAnswering.{exports_are_winners, export_repeats, name_left_open, ctors_lost, all_closed}
 use Rattle.sym_world.proofs.steps.choose.Goals as goal
 
 pub repeated_export-requires : goal.repeated_export-requires
@@ -31,14 +31,27 @@ returns-in_err-unresolved g c =
     let p = err_from_is_err_and c.from_residual-in_err-unresolved.result c.from_residual-in_err-unresolved.ensures.1 in
     rw (p.1) (name_left_open g.p (marks.exported Plain g.p) c.in_err-unresolved.field-0.0 p.0 p.2 c.in_ok-repeated_export.ensures c.in_err-unresolved.ensures)
 
+pub uncalled-requires : goal.uncalled-requires
+uncalled-requires g c =
+    let program = c.requires.1.1.1.1.0 in
+    let fits = c.requires.1.1.1.1.1.0 in
+    let objects = c.requires.1.1.1.1.1.1.0 in
+    let live = c.in_ok-live.ensures in
+    search (rules, program, fits, objects, live)
+
+pub returns-in_err-uncalled : goal.returns-in_err-uncalled
+returns-in_err-uncalled g c =
+    let p = err_from_is_err_and c.from_residual-in_err-uncalled.result c.from_residual-in_err-uncalled.ensures.1 in
+    rw (p.1) (ctors_lost g.p (marks.exported Plain g.p) c.in_err-uncalled.field-0.0 p.0 p.2 c.in_ok-repeated_export.ensures c.in_ok-unresolved.ensures c.in_err-uncalled.ensures)
+
 pub returns : goal.returns
 returns g c =
     let parts = marks.live g.p (marks.exported Plain g.p) in (
-      all_closed g.p (marks.exported Plain g.p) c.in_ok-repeated_export.ensures c.in_ok-unresolved.ensures,
+      all_closed g.p (marks.exported Plain g.p) c.in_ok-repeated_export.ensures c.in_ok-unresolved.ensures c.in_ok-uncalled.ensures,
       record {
         exports = c.in_ok-exports.ensures;
         among = exports_are_winners g.p;
         live = c.in_ok-live.ensures.are;
-        meant = c.all_are_meant.ensures g.p c.in_ok-live.live.numbers parts c.requires.1.1.1.1.1 c.in_ok-live.ensures.are c.in_ok-unresolved.ensures;
+        meant = c.all_are_meant.ensures g.p c.in_ok-live.live.numbers parts c.requires.1.1.1.1.1.1.1 c.in_ok-live.ensures.are c.in_ok-unresolved.ensures;
       },
     )

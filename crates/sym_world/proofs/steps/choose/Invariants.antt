@@ -13,3 +13,6 @@ ghost-live_parts g a = record { program = g.p; exports = exported Plain g.p }
 
 abbrev pub ghost-unresolved : goal.ghost-unresolved
 ghost-unresolved g a = record { program = g.p; parts = live g.p (exported Plain g.p) }
+
+abbrev pub ghost-uncalled : goal.ghost-uncalled
+ghost-uncalled g a = record { program = g.p; parts = live g.p (exported Plain g.p) }

@@ -1,6 +1,5 @@
 use Rattle.std.proofs.Common.{rules, refl, sym, subst}
 use Rattle.std.proofs.lemmas.Result.{err_from_is_err_and}
-use Rattle.link_program.specs.made_symbols.declared.mode.Mode.TheVariants.{Plain}
 use Rattle.link_program.specs.Loaded.{IsLoaded}
 use Rattle.link_core.specs.Chosen.{stage_of, IsChosen}
 use Rattle.link_core.specs.Linking.{IsLinking}
@@ -31,8 +30,10 @@ choose-requires g c κs within =
     c.args.inputs.now.homes c.in_ok-found.found c.program-program.result c.view-entries.result c.requires.1.1.1.1.0 c.requires.1.1.1.1.1.1.0 c.requires.1.1.1.1.1.1.1.1 c.parts_stand.ensures c.in_ok-found.ensures.1
     c.program-program.ensures.is c.view-entries.ensures.fits c.view-entries.ensures.objects c.program-program.ensures.objects c.view-entries.ensures.names c.program-program.ensures.names in
     let program = is.program in
+    let fits = is.fits in
+    let objects = is.objects in
     let stand = is.stand in
-    search (rules, program, stand)
+    search (rules, program, fits, objects, stand)
 
 pub returns-in_err-chosen : goal.returns-in_err-chosen
 returns-in_err-chosen g c =

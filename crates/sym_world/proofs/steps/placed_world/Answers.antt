@@ -1,4 +1,4 @@
-use Rattle.std.proofs.Common.{ℕ, Ok, rules, ap, sym, ◌∙◌}
+use Rattle.std.proofs.Common.{ℕ, Ok, rules, ap, sym}
 use Rattle.std.proofs.lemmas.Result.{err_from_is_err_and}
 use Rattle.link_core.specs.Chosen.{IsChosen}
 use Rattle.link_core.specs.Linking.{IsLinking}

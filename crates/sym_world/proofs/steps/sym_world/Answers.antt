@@ -1,4 +1,3 @@
-use Rattle.std.proofs.Common.{◌∙◌, Ok, Err, ap, sym}
 use Rattle.std.proofs.lemmas.Result.{err_from_is_err_and}
 use Rattle.link_program.specs.Loaded.{the_candidates}
 use Rattle.sym_world.proofs.SymAnswering.{load_failed, goes_on_loaded}

@@ -1,7 +1,7 @@
-use Rattle.std.proofs.Common.{◌≡◌, ◌&&◌, map, fold, take, drop, length, slice_get, slice_index_or, None}
-use Rattle.link_keys.specs.Types.{with_numbered, kept_type, own_types, first_type, window_type, with_windows, type_number_in}
-use Rattle.link_keys.specs.Lists.{numbers_below, flag_at, is_function_import}
+use Rattle.std.proofs.Common.{◌≡◌, map, fold}
+use Rattle.link_keys.specs.Types.{with_numbered, stub_type, stubs_seen}
+use Rattle.link_keys.specs.Lists.{numbers_below, flag_at}
 use Rattle.link_keys.proofs.types.TypeNumbers.push_stubs.Given as goal
 
 abbrev pub invariant-loop-number : goal.invariant-loop-number
-invariant-loop-number l = l.self ≡ fold with_numbered l.fn.self (map (λ n. first_type l.entries.objects.now (slice_index_or l.firsts n None)) (numbers_below (flag_at l.flags) l.number))
+invariant-loop-number l = l.self ≡ fold with_numbered l.fn.self (map (stub_type (stubs_seen l.entries.objects.now l.stubs) l.names) (numbers_below (flag_at l.flags) l.number))

@@ -1,0 +1,157 @@
+//! Marks and words that are told of, and words that end the translation.
+
+use crate::cases::{File, NONE, Want, all_stand_for};
+use driver_words::What;
+use std::test::Fail;
+
+#[test]
+fn marks_and_words_that_are_told_of(rt: HostRuntime) -> Result<(), Fail> {
+    let cases: [(&[File], &'static str, Want); 20] = [
+        (
+            NONE,
+            "m.o --export-memory=memory -o o",
+            Want::Own("-o o --stack-first m.o"),
+        ),
+        (
+            NONE,
+            "m.o --export-memory=mem -o o",
+            Want::Line("--export-memory=mem is not supported: the memory is exported as memory"),
+        ),
+        (
+            NONE,
+            "m.o --export-table -o o",
+            Want::Own("-o o --export-table --stack-first m.o"),
+        ),
+        (
+            NONE,
+            "m.o --start-lib a.o -o o",
+            Want::Own("-o o --stack-first m.o --start-lib a.o --end-lib"),
+        ),
+        (NONE, "m.o --end-lib -o o", Want::Line("stray --end-lib")),
+        (
+            NONE,
+            "m.o --start-lib a.o --start-lib -o o",
+            Want::Line("nested --start-lib"),
+        ),
+        (
+            NONE,
+            "m.o --whole-archive a.a --no-whole-archive b.a -o o",
+            Want::Own("-o o --stack-first m.o --whole-archive a.a --no-whole-archive b.a"),
+        ),
+        (
+            NONE,
+            "m.o --table-base=1 -o o",
+            Want::Own("-o o --stack-first m.o"),
+        ),
+        (
+            NONE,
+            "m.o --table-base=2 -o o",
+            Want::Line("--table-base=2 is not supported: the table begins at 1"),
+        ),
+        (
+            NONE,
+            "m.o --initial-heap=0 -o o",
+            Want::Own("-o o --stack-first m.o"),
+        ),
+        (
+            NONE,
+            "m.o --initial-heap=65536 -o o",
+            Want::Line("--initial-heap=65536 is not supported: use --initial-memory"),
+        ),
+        (
+            NONE,
+            "m.o --page-size=65536 -o o",
+            Want::Own("-o o --stack-first m.o"),
+        ),
+        (
+            NONE,
+            "m.o --page-size=1 -o o",
+            Want::Line("--page-size=1 is not supported: pages have 65536 bytes"),
+        ),
+        (
+            NONE,
+            "m.o --Map=m.txt -M -t -y f --trace-symbol=g --build-id=sha1 --why-extract=w --reproduce=r.tar --print-gc-sections -o o",
+            Want::Warned(
+                "-o o --stack-first m.o",
+                "ignored: --Map=m.txt\nignored: -M\nignored: -t\nignored: -y\nignored: --trace-symbol=g\nignored: --build-id=sha1\nignored: --why-extract=w\nignored: --reproduce=r.tar\nignored: --print-gc-sections\n",
+            ),
+        ),
+        (
+            NONE,
+            "m.o --allow-undefined-file=syms.txt -o o",
+            Want::Warned(
+                "-o o --stack-first m.o",
+                "ignored: --allow-undefined-file=syms.txt\n",
+            ),
+        ),
+        (
+            NONE,
+            "m.o --export-all -o o",
+            Want::Line("--export-all is not supported"),
+        ),
+        (
+            NONE,
+            "m.o --growable-table -o o",
+            Want::Line("--growable-table is not supported"),
+        ),
+        (
+            NONE,
+            "m.o --import-table -o o",
+            Want::Line("--import-table is not supported"),
+        ),
+        (
+            NONE,
+            "m.o --wrap=f -o o",
+            Want::Line("--wrap=f is not supported"),
+        ),
+        (
+            NONE,
+            "m.o --emit-relocs -o o",
+            Want::Line("--emit-relocs is not supported"),
+        ),
+    ];
+    assert!(rt; all_stand_for(rt.alloc(), &cases));
+    Ok(())
+}
+
+#[test]
+fn words_that_end_the_translation(rt: HostRuntime) -> Result<(), Fail> {
+    let cases: [(&[File], &'static str, Want); 14] = [
+        (NONE, "m.o -pie -o o", Want::Line("-pie is not supported")),
+        (
+            NONE,
+            "m.o --frob -o o",
+            Want::Line("unknown argument: --frob"),
+        ),
+        (NONE, "m.o -- -o o", Want::Line("unknown argument: --")),
+        (
+            NONE,
+            "m.o -m elf32 -o o",
+            Want::Line("invalid target architecture: elf32"),
+        ),
+        (NONE, "m.o", Want::Line("no output file specified")),
+        (NONE, "-o o", Want::Line("no input files")),
+        (NONE, "m.o -o", Want::Line("-o: missing argument")),
+        (NONE, "m.o -o -", Want::Line("-o - is not supported")),
+        (
+            NONE,
+            "m.o --unresolved-symbols=x -o o",
+            Want::Line("unknown --unresolved-symbols value: x"),
+        ),
+        (NONE, "--version", Want::Said(What::Version)),
+        (NONE, "m.o -v -o o", Want::Said(What::Version)),
+        (NONE, "--help", Want::Said(What::Help)),
+        (
+            NONE,
+            "-flavor gnu m.o -o o",
+            Want::Line("unknown flavor: gnu"),
+        ),
+        (
+            NONE,
+            "m.o -O2 -O 0 --lto-O3 --lto-CGO2 --lto-partitions=4 --thinlto-jobs=2 --thinlto-cache-dir=c --thinlto-cache-policy p -mllvm -x --mllvm=-y --save-temps --disable-verify --color-diagnostics --color-diagnostics=always --no-demangle --error-limit=0 --features=a,b --extra-features=c --no-check-features --compress-relocations --keep-section=k --soname=s --rpath=r -Bsymbolic --no-pie --verbose -S -s -o o",
+            Want::Own("-o o --stack-first m.o"),
+        ),
+    ];
+    assert!(rt; all_stand_for(rt.alloc(), &cases));
+    Ok(())
+}

@@ -1,0 +1,5 @@
+pub mod Growing
+pub mod Asked
+pub mod Behind
+pub mod Whole
+pub mod Marked

@@ -1,0 +1,12 @@
+//! Calls of functions by another type than their definition has, in a link that is like lld's: what declarations without a prototype make.
+//! Each is a call of the variant of the function for this type, which is null, so that it traps: one symbol more for each symbol that is
+//! called so, with a name of its own for each function and type. A link without such calls has none of this.
+#![tactic(auto)]
+
+mod finding;
+mod interning;
+mod loosening;
+mod naming;
+mod variant;
+
+pub use loosening::loosened;

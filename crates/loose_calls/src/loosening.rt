@@ -1,0 +1,54 @@
+//! What calls name in a link, by whether it is like lld's.
+ghost use Rattle.std.specs.Prelude.{◌≡◌, ◌++◌, ◌<◌, ◌^◌, false, Bool, IfOk, OnOk, All, bytes_eq, length};
+ghost use Rattle.std.specs.List.{list_any};
+ghost use Rattle.link_program.specs.made_symbols.declared.mode.Mode.TheVariants as modes;
+ghost use Rattle.link_program.specs.link_names.Numbered.{AreNumbers};
+ghost use Rattle.link_program.specs.name_rules.Entries.{entries as all_entries, name_of};
+ghost use Rattle.link_program.specs.name_rules.Meanings.{resolve};
+ghost use Rattle.link_program.specs.name_entries.View.{InputsRise};
+ghost use Rattle.link_program.specs.name_entries.Fits.{IsTable};
+ghost use Rattle.link_program.specs.name_meanings.Means.{IsResolution};
+ghost use Rattle.link_program.specs.Program.{variant_names};
+ghost use Rattle.program_tables.specs.Loose.{IsLoose, variants_in};
+ghost use Rattle.loose_calls.specs.Interned.{Stays};
+
+use crate::finding::calls_in;
+use crate::interning::intern_all;
+use link_program::{EntryTable, Names, Object, Resolution};
+use program_tables::Loose;
+use std::alloc::Global;
+use wl_base::OutOfMemory;
+
+/// What calls of the symbols of all objects name. In a link that is like lld's a call of a function by another type than its definition
+/// has names a variant, whose name goes behind all others.
+pub fn loosened(
+    alloc: Global,
+    names: &mut Names,
+    entries: &EntryTable,
+    objects: &[Object],
+    resolution: &Resolution,
+    like_lld: bool,
+) -> Result<Loose, OutOfMemory>
+    ghost allow: { Bool }
+    requires numbers { AreNumbers modes.Plain objects.now names.old }
+    requires rise { InputsRise 0 objects.now }
+    requires table { IsTable objects.now names.old entries.now }
+    requires resolution { IsResolution resolution.now (resolve modes.Plain allow (all_entries modes.Plain objects.now) objects.now) }
+    ensures loose { IfOk result (IsLoose like_lld allow names.new.names resolution.now.imports objects.now) }
+    ensures names { OnOk result (names.new.names ≡ names.old.names ++ variant_names (variants_in like_lld allow objects.now)) }
+    ensures stays { OnOk result (Stays names.old names.new) }
+    ensures few { OnOk result (length names.new.names < 2 ^ 32) }
+    ensures apart { OnOk result (All (λ v. list_any (bytes_eq (name_of v)) names.old.names ≡ false) (variants_in like_lld allow objects.now)) }
+{
+    if !like_lld {
+        names.count();
+        return Ok(Loose::none(alloc));
+    }
+    let calls = calls_in(alloc, entries.view(objects, names), resolution)?;
+    let named = intern_all(alloc, names, calls.variants.as_slice())?;
+    Ok(Loose {
+        called: calls.called,
+        symbols: named.symbols,
+        types: named.types,
+    })
+}

@@ -1,0 +1,6 @@
+mod Summed
+mod Numbers
+mod LostInits
+mod AtExit
+mod Naming
+mod Whole

@@ -1,0 +1,3 @@
+pub mod Alive
+pub mod Inits
+pub mod Exits

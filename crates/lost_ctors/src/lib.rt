@@ -1,0 +1,11 @@
+//! Whether constructors would be lost, or what is to be done at exit, in a link that is like lld's: where no object names the linker's
+//! function that calls the init functions, lld would wrap each exported function in one that calls it.
+#![tactic(auto)]
+
+mod alive;
+mod exits;
+mod inits;
+mod lost;
+mod words;
+
+pub use lost::uncalled;

@@ -1,4 +1,0 @@
-use Rattle.program_build.proofs.meanings.meanings_of.Given as goal
-
-abbrev pub ghost-tables_of : goal.ghost-tables_of
-ghost-tables_of g a = g.origin

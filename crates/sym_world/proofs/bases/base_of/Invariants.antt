@@ -1,4 +1,0 @@
-use Rattle.sym_world.proofs.bases.base_of.Given as goal
-
-abbrev pub ghost-address : goal.ghost-address
-ghost-address g a = g.s
