@@ -1,5 +1,5 @@
 -- The first values of cells, and what the memory holds at first, are those of the objects.
-use Rattle.std.proofs.Common.{◌≡◌, ℕ, zero, ◌+◌, ◌==◌, Bool, true, false, not, ◌&&◌, ◌||◌, List, [], ◌∷◌, ◌++◌, map, filter, filter_map, slice_get, get_or, Option, Some, None, option_map, refl, sym, ap, subst, ◌∙◌}
+use Rattle.std.proofs.Common.{◌≡◌, ℕ, ◌==◌, Bool, true, false, not, ◌&&◌, ◌||◌, List, [], ◌∷◌, ◌++◌, map, filter, filter_map, slice_get, get_or, Option, Some, None, option_map, refl, sym, ap, subst, ◌∙◌}
 use Rattle.std.specs.Prelude.{if◌then◌else◌, slice_index_or, option_and_then}
 use Rattle.std.specs.List.{list_any, All}
 use Rattle.std.proofs.lemmas.Bool.{eqb-true}
@@ -26,7 +26,6 @@ use Rattle.link_program.specs.declared.named.Named.{Named}
 use Rattle.link_program.specs.declared.named.Named.TheVariants as items
 use Rattle.link_program.specs.declared.part.Content.{Content}
 use Rattle.link_program.specs.declared.part.Content.TheVariants as contents
-use Rattle.link_program.specs.declared.part.Part.{Part}
 use Rattle.link_program.specs.Keys.{told_global}
 use Rattle.link_program.specs.Seen.{SeenRef, seen_named, told_named, seen_content, told_content}
 use Rattle.link_program.specs.Look.{part_at, row_at, chunk_number}

@@ -10,7 +10,6 @@ use Rattle.link_program.specs.link_rules.Keys as keys
 use Rattle.link_program.specs.link_rules.Values as values
 use Rattle.link_program.specs.Told.{told_definition}
 use Rattle.link_program.specs.Keys.{same_function_key}
-use Rattle.link_program.specs.Meant.{function_of}
 use Rattle.link_layout.specs.declared.values.Layout.{Layout}
 use Rattle.link_layout.specs.Layout.{IsLayout}
 use Rattle.link_layout.proofs.KeysTold.{function_told, function_known}
