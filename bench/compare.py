@@ -12,6 +12,7 @@ Made inputs and outputs stand in memory (/dev/shm, where there is one), and the 
 pages of the one before. wasm-ld strips names, since wasmld writes none. A time is the least of the runs. It is no part of the gate.
 """
 import os
+import re
 import resource
 import shutil
 import subprocess
@@ -54,9 +55,18 @@ class Run:
             sys.exit(f"compare.py: {' '.join(words[:4])} ..: {said.decode(errors='replace')[:400]}")
 
 
+def tunables():
+    """What the script that starts wasmld asks of the C library: memory in large pages."""
+    with open(f"{TOP}/tools/start.bash") as file:
+        return re.search(r"GLIBC_TUNABLES:-([^}]*)", file.read())[1]
+
+
+TUNABLES = tunables()
+
+
 def around(name):
-    """The variables of a run. Those of wasmld are as the script that starts it sets them: memory in large pages."""
-    return {"GLIBC_TUNABLES": "glibc.malloc.hugetlb=1", **os.environ} if name == "wasmld" else dict(os.environ)
+    """The variables of a run. Those of wasmld are as the script that starts it sets them."""
+    return {"GLIBC_TUNABLES": TUNABLES, **os.environ} if name == "wasmld" else dict(os.environ)
 
 
 def peak(words, folder, around):

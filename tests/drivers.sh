@@ -192,6 +192,19 @@ refusals() {
   expect "a warning is told" test "$("$linker" --Map=m.txt --no-entry library_add.o -o warned.wasm 2>&1)" = "wasm-ld: warning: ignored: --Map=m.txt"
 }
 
+# Takes words of a link, and compares what is told with what LLVM's linker tells, whose warnings of several names have no order.
+tells_as_lld_does() {
+  command -v wasm-ld >/dev/null || return 0
+  "$linker" "$@" -o told.wasm 2>told.txt
+  wasm-ld "$@" -o theirs.wasm 2>theirs.txt
+  diff <(by_message told.txt) <(by_message theirs.txt)
+}
+
+# The messages of a file, which empty lines divide, in an order of their own.
+by_message() {
+  awk -v RS= '{ gsub("\n", "|"); print }' "$1" | LC_ALL=C sort
+}
+
 # Functions that are declared by other types than they are defined by, as the probes of configure scripts and old headers do.
 other_types() {
   printf 'char strlen(void);\nint main(void) { return strlen(); }\n' >probe.c
@@ -204,7 +217,23 @@ other_types() {
   expect "and one of a function that isn't there doesn't" test "$(cc no_probe.c -o no.wasm 2>&1 | grep -c 'undefined symbol: no_such_function')" -eq 1
   expect "the address of a function that is declared otherwise is taken" cc address.c twice.c once.c -o address.wasm
   expect "and is that of its definition" prints address.wasm '42\n'
-  clang --target=wasm32-wasi -c address.c twice_too.c twice.c
+  printf 'int f(int, double);\nvoid g(void);\nvoid h(int);\nvoid run(void) { f(1, 2); g(); h(3); }\n' >calls.c
+  printf 'void f(void) {}\nlong long g(float a) { return 1; }\n' >fg.c
+  printf 'float h(long long a) { return 2; }\n' >h.c
+  printf 'int nowhere(void);\nint lost(void) { return nowhere(); }\n' >lost.c
+  clang --target=wasm32-wasi -c address.c twice_too.c twice.c once.c calls.c fg.c h.c lost.c
+  llvm-ar rcs mine.a fg.o h.o
+  expect "it is told by which types it is called and defined" tells_as_lld_does once.o twice.o --no-entry --export=once
+  expect "also from within a library, and of two functions" tells_as_lld_does calls.o mine.a --no-entry --export=run
+  expect "and before an error" tells_as_lld_does once.o twice.o lost.o --no-entry --export=once --export=lost
+  expect "with --fatal-warnings it is an error" is_refused_as no.wasm "$(printf 'wasm-ld: error: function signature mismatch: twice
+>>> defined as (i64) -> void in once.o
+>>> defined as (i32) -> i32 in twice.o')" \
+    --fatal-warnings once.o twice.o --no-entry --export=once -o no.wasm
+  expect "of several functions each" tells_as_lld_does --fatal-warnings calls.o mine.a --no-entry --export=run
+  expect "and before others the only one" tells_as_lld_does --fatal-warnings once.o twice.o lost.o --no-entry --export=once --export=lost
+  expect "where there is none it links" cc -Wl,--fatal-warnings "$real/hello.c" -o fatal.wasm
+  expect "to a module that runs" runs_as fatal.wasm "$real/hello.txt"
   expect "a function isn't a datum" is_refused address.o twice_too.o --no-entry -o no.wasm
   expect "own words let no other type through" is_refused_by_own_words no.wasm address.o twice.o --no-entry --allow-undefined -o no.wasm
 }

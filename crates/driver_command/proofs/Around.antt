@@ -1,5 +1,5 @@
 -- A link shows what it shows whatever was asked of the shelf before it or is asked behind it.
-use Rattle.std.proofs.Common.{◌≡◌, ◌⊎◌, inl, inr, ℕ, true, List, Option, Some, None, IsTrue, Result, Ok, Err, refl, sym, ap, subst, ◌∙◌, arith}
+use Rattle.std.proofs.Common.{◌≡◌, ◌⊎◌, inl, inr, ℕ, Bool, true, false, List, [], Option, Some, None, IsTrue, Result, Ok, Err, refl, sym, ap, subst, ◌∙◌, arith}
 use Rattle.std.specs.Prelude.{IfOk, IfSome, IsSomeAnd}
 use Rattle.wl_base.specs.declared.fault.Fault.{Fault}
 use Rattle.wl_base.specs.declared.usage.Usage.{Usage as UsageFault}
@@ -9,12 +9,14 @@ use Rattle.link_words.specs.Words.{word}
 use Rattle.link_command.specs.declared.status.Status.{Status}
 use Rattle.link_command.specs.declared.status.Status.TheVariants.{Linked, Refused, Usage, ReadFault, WriteFault, NoMemory}
 use Rattle.link_command.specs.Command.{planned, Shows, LinkIs, IsTold, LoadsWork, SaveWorks, Saved, SavedRuns, Cut, contents, input_names, files_of}
-use Rattle.driver_command.specs.Linked.{LinksBy}
+use Rattle.link_command.specs.Telling.{AreMismatches, TellsBy, Tells, WouldTell}
+use Rattle.mismatch_rules.specs.declared.mismatch.Mismatch.{Mismatch}
+use Rattle.driver_command.specs.Linked.{LinksBy, LinksAs}
 
 pub tells_on : (old new : Shown) → Grows old new → IsTrue old.tells → IsTrue new.tells
 tells_on old new grows told = subst IsTrue (sym grows.tells) told
 
-tells_back : (old new : Shown) → Grows old new → IsTrue new.tells → IsTrue old.tells
+pub tells_back : (old new : Shown) → Grows old new → IsTrue new.tells → IsTrue old.tells
 tells_back old new grows told = subst IsTrue grows.tells told
 
 pub held_same : (old new : Shown) → Same old new → IsTrue old.tells → new.held ≡ old.held
@@ -38,11 +40,11 @@ on_ok P Q (Err e) f p = p
 -- ---- before the link
 
 module _ (before mid after : Shown) (grows : Grows before mid) (same : Same before mid) (own : List (List ℕ)) where
-  told_in : (case : Option ℕ) → IsTold case before → IsTold case mid
+  pub told_in : (case : Option ℕ) → IsTold case before → IsTold case mid
   told_in (Some n) told = told
   told_in None told = tells_on before mid grows told
 
-  files_in : (case : Option ℕ) (plan : Plan) → IsTold case before → files_of case mid own plan ≡ files_of case before own plan
+  pub files_in : (case : Option ℕ) (plan : Plan) → IsTold case before → files_of case mid own plan ≡ files_of case before own plan
   files_in (Some n) plan told = refl
   files_in None plan told = ap (λ (held : List ℕ → Option (List ℕ)). contents held (input_names own plan)) (held_same before mid same told)
 
@@ -98,6 +100,22 @@ module _ (before mid after : Shown) (grows : Grows before mid) (same : Same befo
     runs = h.runs;
   }
 
+  mismatches_back : (plan : Plan) (told : List Mismatch) → (IsTold plan.make_case mid → AreMismatches mid own plan told) → IsTold plan.make_case before → AreMismatches before own plan told
+  mismatches_back plan told are t =
+      let h = are (told_in plan.make_case t) in record { files = h.files; held = sym (files_in plan.make_case plan t) ∙ h.held; are = h.are }
+
+  tells_back_by : (status : Status) (plan : Plan) (told : List Mismatch) → TellsBy status mid own plan told → TellsBy status before own plan told
+  tells_back_by Linked plan told h = mismatches_back plan told h
+  tells_back_by (Refused fault) plan told h = mismatches_back plan told h
+  tells_back_by (Usage u) plan told h = h
+  tells_back_by (ReadFault k) plan told h = h
+  tells_back_by WriteFault plan told h = mismatches_back plan told h
+  tells_back_by NoMemory plan told h = h
+
+  pub tells_after : (said : Result Plan UsageFault) (status : Status) (told : List Mismatch) → Tells said status mid own told → Tells said status before own told
+  tells_after (Ok plan) status told h = tells_back_by status plan told h
+  tells_after (Err u) status told h = h
+
   loads_in : (plan : Plan) → LoadsWork before after own plan → LoadsWork mid after own plan
   loads_in plan work = λ k among failed. work k among (load_back (word own k) failed)
 
@@ -105,10 +123,10 @@ module _ (before mid after : Shown) (grows : Grows before mid) (same : Same befo
   save_in None work = work
   save_in (Some output) work = λ failed. work (save_back output failed)
 
-  pub links_after : (status : Status) → LinksBy status mid after own → LinksBy status before after own
-  links_after status h = record {
+  pub links_after : (loose : Bool) (status : Status) → LinksBy loose status mid after own → LinksBy loose status before after own
+  links_after loose status h = record {
     usage = λ u is. let p = h.usage u is in (p.0, same_all before mid after grows same p.1);
-    cause = on_ok (λ plan. Shows status mid after own plan) (λ plan. Shows status before after own plan) (planned true own) (shows_back status) h.cause;
+    cause = on_ok (λ plan. Shows status mid after own plan) (λ plan. Shows status before after own plan) (planned true loose own) (shows_back status) h.cause;
     memory = λ is. same_all before mid after grows same (h.memory is);
     runs = λ plan is linked told. runs_back plan told (h.runs plan is linked (told_in plan.make_case told));
     is_usage = h.is_usage;
@@ -117,6 +135,19 @@ module _ (before mid after : Shown) (grows : Grows before mid) (same : Same befo
     is_linked = λ plan bytes is told link work save.
         h.is_linked plan bytes is (told_in plan.make_case told) (link_in plan (Ok bytes) told link) (loads_in plan work) (save_in plan.output save);
   }
+
+  would_back_by : (said : Result Plan UsageFault) (told : List Mismatch) → IfOk said (λ plan. IsTold plan.make_case mid → AreMismatches mid own plan told)
+      → IfOk said (λ plan. IsTold plan.make_case before → AreMismatches before own plan told)
+  would_back_by (Ok plan) told h = mismatches_back plan told h
+  would_back_by (Err u) told h = tt
+
+  pub would_back : (told : List Mismatch) → WouldTell mid own told → WouldTell before own told
+  would_back told h = would_back_by (planned true true own) told h
+
+  pub links_as_after : (fatal : Bool) (status : Status) → LinksAs fatal status mid after own → LinksAs fatal status before after own
+  links_as_after false status h = links_after true status h
+  links_as_after true status h =
+      elim h [ inl strict ↦ inl (links_after false status strict) | inr loose ↦ inr (would_back [] loose.0, links_after true status loose.1) ]
 
 -- ---- behind the link
 
@@ -171,13 +202,17 @@ module _ (before mid after : Shown) (first : Grows before mid) (grows : Grows mi
   save_so_far None work = work
   save_so_far (Some output) work = λ failed. work (save_on output failed)
 
-  pub links_before : (status : Status) → LinksBy status before mid own → LinksBy status before after own
-  links_before status h = record {
+  pub links_before : (loose : Bool) (status : Status) → LinksBy loose status before mid own → LinksBy loose status before after own
+  links_before loose status h = record {
     usage = λ u is. let p = h.usage u is in (p.0, same_on p.1);
-    cause = on_ok (λ plan. Shows status before mid own plan) (λ plan. Shows status before after own plan) (planned true own) (shows_on status) h.cause;
+    cause = on_ok (λ plan. Shows status before mid own plan) (λ plan. Shows status before after own plan) (planned true loose own) (shows_on status) h.cause;
     memory = λ is. same_on (h.memory is);
     runs = λ plan is linked told. runs_on plan (h.runs plan is linked told);
     is_usage = h.is_usage;
     is_refused = λ plan fault is told link work. h.is_refused plan fault is told link (loads_so_far plan work);
     is_linked = λ plan bytes is told link work save. h.is_linked plan bytes is told link (loads_so_far plan work) (save_so_far plan.output save);
   }
+
+  pub links_as_before : (fatal : Bool) (status : Status) → LinksAs fatal status before mid own → LinksAs fatal status before after own
+  links_as_before false status h = links_before true status h
+  links_as_before true status h = elim h [ inl strict ↦ inl (links_before false status strict) | inr loose ↦ inr (loose.0, links_before true status loose.1) ]

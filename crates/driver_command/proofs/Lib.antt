@@ -1,4 +1,5 @@
 mod Around
+mod Causes
 mod Due
 mod Lines
 mod Sayings

@@ -1,5 +1,5 @@
 -- What each outcome says of drivers' words and of the shelf before and after, and its exit status.
-use Rattle.std.specs.Prelude.{◌≡◌, ℕ, List, IsTrue, min}
+use Rattle.std.specs.Prelude.{◌≡◌, ℕ, Bool, List, IsTrue, min}
 use Rattle.wl_outside.specs.Shelf.{Shown, Same}
 use Rattle.link_command.specs.declared.status.Status.{Status}
 use Rattle.link_command.specs.Status.{code_of as status_code}
@@ -9,7 +9,7 @@ use Rattle.driver_words.specs.Expand.{Blames}
 use Rattle.driver_words.specs.Translated.{translated}
 use Rattle.driver_command.specs.declared.outcome.Outcome.{Outcome}
 use Rattle.driver_command.specs.declared.outcome.Outcome.TheVariants.{Said, Unsaid, Refused, Stopped, Linked}
-use Rattle.driver_command.specs.Linked.{LinksBy}
+use Rattle.driver_command.specs.Linked.{LinksAs}
 
 abbrev pub code_of : Outcome → ℕ
 code_of (Said what) = 0
@@ -26,8 +26,9 @@ Means before words answer = IsTrue before.tells → translated before.held words
 pub record IsLink (status : Status) (before after : Shown) (words : List (List ℕ)) : Type 0 where
   pub own : List (List ℕ)
   pub warnings : List (List ℕ)
-  pub means : Means before words (Links own warnings)
-  pub shows : LinksBy status before after own
+  pub fatal : Bool
+  pub means : Means before words (Links own warnings fatal)
+  pub shows : LinksAs fatal status before after own
 
 -- outcome by outcome
 abbrev pub Ends : Outcome → Shown → Shown → List (List ℕ) → Type 0
@@ -41,7 +42,7 @@ Ends (Linked status) before after words = IsLink status before after words
 -- refuses them, or the text that is asked for. It fails to come only where there is no answer to the words.
 abbrev pub IsDue : Outcome → Shown → Shown → Answer → Type 0
 IsDue (Stopped stop) before after answer = Blames stop before after
-IsDue (Linked status) before after (Links own warnings) = LinksBy status before after own
+IsDue (Linked status) before after (Links own warnings fatal) = LinksAs fatal status before after own
 IsDue (Refused line) before after (Refuses due) = line ≡ due
 IsDue (Said what) before after (Says due) = what ≡ due
 IsDue (Unsaid what) before after (Says due) = what ≡ due

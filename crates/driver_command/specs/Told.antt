@@ -1,5 +1,5 @@
 -- The lines of each outcome, as users of LLVM's linker know them.
-use Rattle.std.specs.Prelude.{◌≡◌, ◌⊎◌, ℕ, List, [], ◌∷◌, ◌++◌, Bool, true, false, Option, Some, None, IsTrue, Ok, IfOk, IfSome, codes, slice_get, take}
+use Rattle.std.specs.Prelude.{◌≡◌, ◌⊎◌, ℕ, ◌==◌, List, [], ◌∷◌, ◌++◌, length, Bool, true, false, not, ◌&&◌, Option, Some, None, IsTrue, Ok, IfOk, IfSome, codes, slice_get, take}
 use Rattle.std.specs.List.{flat_map}
 use Rattle.wl_base.specs.declared.fault.Fault.{Fault}
 use Rattle.wl_outside.specs.Shelf.{Shown}
@@ -20,6 +20,9 @@ use Rattle.driver_command.specs.declared.outcome.Outcome.{Outcome}
 use Rattle.driver_command.specs.declared.outcome.Outcome.TheVariants.{Said, Unsaid, Refused, Stopped, Linked}
 use Rattle.driver_command.specs.Ends.{Means}
 use Rattle.driver_command.specs.Manual.{text_of}
+use Rattle.mismatch_rules.specs.declared.mismatch.Mismatch.{Mismatch}
+use Rattle.driver_command.specs.Causes.{TellsOf}
+use Rattle.driver_command.specs.Mismatched.{severity, gap, AreTold}
 use Rattle.driver_command.specs.Named.{AreNames}
 
 -- an error of a file between two texts
@@ -79,13 +82,33 @@ IsStatusLine (ReadFault k) program shelf own line = IsUnread (slice_get own k) p
 IsStatusLine WriteFault program shelf own line = IsUnwritten program own line
 IsStatusLine NoMemory program shelf own line = line ≡ no_memory_line program
 
--- The warnings, and then the line behind the link.
+-- What is told of calls says why the link is refused.
+abbrev pub says_why : Bool → List Mismatch → Bool
+says_why fatal told = fatal && not (length told == 0)
+
+abbrev pub IsLast : Bool → Status → List ℕ → Shown → List (List ℕ) → List ℕ → Type 0
+IsLast true status program shelf own line = line ≡ []
+IsLast false status program shelf own line = IsStatusLine status program shelf own line
+
+-- The lines of functions that are called by another type than their definition has; and then the line behind the link, where these don't
+-- say why it is refused.
+pub record IsEnd (fatal : Bool) (status : Status) (told : List Mismatch) (program : List ℕ) (shelf : Shown) (own : List (List ℕ)) (line : List ℕ) : Type 0 where
+  pub first : List ℕ
+  pub rest : List ℕ
+  pub is : line ≡ first ++ rest
+  pub warned : AreTold told program (severity fatal) (gap fatal status) shelf own first
+  pub ends : IsLast (says_why fatal told) status program shelf own rest
+
+-- The warnings of the words, what is told of calls, and then the line behind the link.
 pub record LinkTold (status : Status) (program : List ℕ) (before after : Shown) (words : List (List ℕ)) (old new : Told) : Type 0 where
   pub own : List (List ℕ)
   pub warnings : List (List ℕ)
+  pub fatal : Bool
+  pub told : List Mismatch
   pub line : List ℕ
-  pub means : Means before words (Links own warnings)
-  pub ends : IsStatusLine status program after own line
+  pub means : Means before words (Links own warnings fatal)
+  pub mismatches : TellsOf fatal status before after own told
+  pub ends : IsEnd fatal status told program after own line
   pub written : Written (warning_lines program warnings ++ line) old new
 
 -- What the sink of lines has behind each outcome.

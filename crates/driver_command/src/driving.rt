@@ -3,16 +3,18 @@
 ghost use Rattle.std.specs.Prelude.{◌≡◌, ◌<◌, ◌^◌, ◌++◌, ℕ, List, IsTrue, length};
 ghost use Rattle.wl_outside.specs.Shelf.{Grows};
 ghost use Rattle.link_command.specs.Said.{Said as Written};
+ghost use Rattle.mismatch_rules.specs.declared.mismatch.Mismatch.{Mismatch};
 ghost use Rattle.driver_command.specs.declared.outcome.Outcome.TheVariants.{Stopped};
 ghost use Rattle.driver_words.specs.Translated.{translated};
+ghost use Rattle.driver_command.specs.Causes.{TellsOf};
 ghost use Rattle.driver_command.specs.Ends.{Ends, IsDue};
-ghost use Rattle.driver_command.specs.Linked.{LinksBy};
-ghost use Rattle.driver_command.specs.Told.{IsTold, IsStatusLine, Printed, SaidOf, stop_line, warning_lines};
+ghost use Rattle.driver_command.specs.Linked.{LinksAs};
+ghost use Rattle.driver_command.specs.Told.{IsTold, IsEnd, Printed, SaidOf, stop_line, warning_lines};
 
-use crate::linking::link_quietly;
+use crate::linking::{Quiet, link_quietly};
 use crate::manual::text_of;
 use crate::outcome::Outcome;
-use crate::saying::{say_status, say_stop, say_warnings};
+use crate::saying::{say_ending, say_stop, say_warnings};
 use driver_lines::say_error;
 use driver_words::{Answer, Finder, Stop, What, translate};
 use link_command::Status;
@@ -69,12 +71,18 @@ fn answer<R: Threads + Sync, F: Finder, O: Sink, E: Sink, G: Gate>(
     ensures counts { Grows (F.shown shelf.old) (F.shown shelf.new) }
 {
     match translate(alloc, shelf, words) {
-        Ok(Answer::Links { own, warnings }) => {
+        Ok(
+            Answer::Links {
+                own,
+                warnings,
+                fatal,
+            },
+        ) => {
             let (own, warnings) = (own.as_slice(), warnings.as_slice());
             if own.len() > MOST_WORDS {
                 return stopped(program, Stop::OutOfMemory, say);
             }
-            let status = link_told(rt, alloc, program, own, warnings, shelf, say, gate);
+            let status = link_told(rt, alloc, program, own, warnings, fatal, shelf, say, gate);
             Outcome::Linked(status)
         }
         Ok(Answer::Says(what)) => say_text(what, out),
@@ -106,27 +114,31 @@ fn stopped<E: Sink>(program: &str, stop: Stop, say: &mut E) -> Outcome
     Outcome::Stopped(stop)
 }
 
-// The link by the linker's own words, the warnings before it, and the line behind it.
+// The link by the linker's own words, the warnings before it, and the lines behind it; with whether warnings are errors.
 fn link_told<R: Threads + Sync, F: Finder, E: Sink, G: Gate>(
     rt: &R,
     alloc: Global,
     program: &str,
     own: &[Text],
     warnings: &[Text],
+    fatal: bool,
     shelf: &mut F,
     say: &mut E,
     gate: &G,
 ) -> Status
     requires { length own.now < 2 ^ 32 }
-    ensures shows { LinksBy result (F.shown shelf.old) (F.shown shelf.new) own.now }
-    ensures told { (line : List ℕ) × IsStatusLine result program.now (F.shown shelf.new) own.now line
+    ensures shows { LinksAs fatal result (F.shown shelf.old) (F.shown shelf.new) own.now }
+    ensures told { (told : List Mismatch) × (line : List ℕ) × TellsOf fatal result (F.shown shelf.old) (F.shown shelf.new) own.now told
+        × IsEnd fatal result told program.now (F.shown shelf.new) own.now line
         × Written (warning_lines program.now warnings.now ++ line) (E.told say.old) (E.told say.new) }
     ensures counts { Grows (F.shown shelf.old) (F.shown shelf.new) }
 {
     let heard = say_warnings(program, warnings, say);
-    let status = link_quietly(rt, alloc, own, shelf, gate);
-    if heard.is_ok() {
-        let _ = say_status(alloc, program, own, &status, shelf, say);
+    let Quiet { status, told } = link_quietly(rt, alloc, own, fatal, shelf, gate);
+    if heard.is_err() {
+        return status;
     }
+    let told = told.as_slice();
+    let _ = say_ending(alloc, program, own, fatal, told, &status, shelf, say);
     status
 }

@@ -4,6 +4,7 @@
 mod driving;
 mod linking;
 mod manual;
+mod mismatches;
 mod names;
 mod outcome;
 mod saying;

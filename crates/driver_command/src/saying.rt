@@ -6,14 +6,16 @@ ghost use Rattle.wl_outside.specs.Shelf.{Same, Grows};
 ghost use Rattle.wl_outside.specs.Sink.{Wrote};
 ghost use Rattle.driver_lines.specs.Lines.{refusal_line};
 ghost use Rattle.driver_words.specs.Search.{holds};
-ghost use Rattle.driver_command.specs.Told.{warning_lines, file_line, stop_line, unread_end as unread_end_of, unread_line, unwritten_line, IsRefusal, IsUnread, IsUnwritten, IsStatusLine};
+ghost use Rattle.driver_command.specs.Told.{warning_lines, file_line, stop_line, unread_end as unread_end_of, unread_line, unwritten_line, IsRefusal, IsUnread, IsUnwritten, IsStatusLine, says_why as says_why_of, IsEnd};
 
+use crate::mismatches::{gap, say_mismatches, severity};
 use crate::names::{entry_of, names_again};
 use driver_lines::{Naming, say_error, say_refusal, say_warning};
 use driver_words::{Finder, Stop};
 use link_command::Status;
 use link_lines::{Piece, print};
 use link_words::read_words;
+use mismatch_rules::Mismatch;
 use std::alloc::Global;
 use wl_base::{Fault, Seq, Text};
 use wl_outside::{Failed, Sink};
@@ -189,7 +191,7 @@ fn say_unwritten<E: Sink>(
 }
 
 /// Says how a link by the linker's own words ended.
-pub fn say_status<F: Finder, E: Sink>(
+fn say_status<F: Finder, E: Sink>(
     alloc: Global,
     program: &str,
     own: &[Text],
@@ -210,4 +212,36 @@ pub fn say_status<F: Finder, E: Sink>(
         Status::WriteFault => say_unwritten(alloc, program, own, say),
         Status::NoMemory => say_error(program, "out of memory", say),
     }
+}
+
+// Whether what is told of calls says why the link is refused.
+fn says_why(fatal: bool, told: &[Mismatch]) -> bool
+    ensures { result ≡ says_why_of fatal told.now }
+{
+    fatal && !told.is_empty()
+}
+
+/// Says what is to be told of calls, and then how the link ended. Where warnings are errors, calls that are told of refuse it.
+pub fn say_ending<F: Finder, E: Sink>(
+    alloc: Global,
+    program: &str,
+    own: &[Text],
+    fatal: bool,
+    told: &[Mismatch],
+    status: &Status,
+    shelf: &mut F,
+    say: &mut E,
+) -> Result<(), Failed>
+    requires { length own.now < 2 ^ 32 }
+    ensures told { (line : List ℕ) × IsEnd fatal status.now told.now program.now (F.shown shelf.new) own.now line × Wrote result line (E.told say.old) (E.told say.new) }
+    ensures same { Same (F.shown shelf.old) (F.shown shelf.new) }
+    ensures counts { Grows (F.shown shelf.old) (F.shown shelf.new) }
+{
+    let word = severity(fatal);
+    let end = gap(fatal, status);
+    say_mismatches(alloc, program, own, word, told, end, shelf, say)?;
+    if says_why(fatal, told) {
+        return Ok(());
+    }
+    say_status(alloc, program, own, status, shelf, say)
 }

@@ -104,6 +104,14 @@ fn words_of_drivers_are_linked(rt: HostRuntime) -> Result<(), Fail> {
     Ok(())
 }
 
+// What is told of `a`, which `other.o` calls as if it gave an integer.
+const MISMATCH: &str =
+    "wasm-ld: warning: function signature mismatch: a\n>>> defined as () -> i32 in other.o\n>>> defined as () -> void in a.o\n";
+
+// The same where warnings are errors.
+const REFUSAL: &str =
+    "wasm-ld: error: function signature mismatch: a\n>>> defined as () -> i32 in other.o\n>>> defined as () -> void in a.o\n";
+
 // Whether a call by these words over objects that LLVM's linker knows how to take links anything, or else says this.
 fn ends_as<R: Threads + Sync>(
     rt: &R,
@@ -128,12 +136,30 @@ fn ends_as<R: Threads + Sync>(
 }
 
 #[test]
+fn an_error_stands_behind_what_is_told(rt: HostRuntime) -> Result<(), Fail> {
+    let alloc = rt.alloc();
+    let line = "other.o a.o --Map=m -o out --no-entry --export=zz";
+    let said =
+        "wasm-ld: warning: ignored: --Map=m\nwasm-ld: warning: function signature mismatch: a\n>>> defined as () -> i32 in other.o\n>>> defined as () -> void in a.o\n\nwasm-ld: error: symbol exported via --export not found: zz\n";
+    assert!(rt; ends_as(&rt, alloc, line, 1, said)?);
+    Ok(())
+}
+
+#[test]
 fn a_link_is_as_lld_does_it(rt: HostRuntime) -> Result<(), Fail> {
     let alloc = rt.alloc();
     let cases = [
-        // a call by another type traps
-        ("other.o a.o -o out --no-entry --export=f", 0u8, ""),
-        ("a.o other.o -o out --no-entry --export=f", 0, ""),
+        // a call by another type traps, and is told
+        ("other.o a.o -o out --no-entry --export=f", 0u8, MISMATCH),
+        ("a.o other.o -o out --no-entry --export=f", 0, MISMATCH),
+        ("other.o -o out --no-entry --allow-undefined", 0, ""),
+        // and where warnings are errors it refuses the link
+        (
+            "other.o a.o --fatal-warnings -o out --no-entry --export=f",
+            1,
+            REFUSAL,
+        ),
+        ("a.o --fatal-warnings -o out --no-entry", 0, ""),
         // an init function that nothing calls
         (
             "begun.o -o out --no-entry --export=f",

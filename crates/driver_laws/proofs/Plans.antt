@@ -224,16 +224,16 @@ options_look (p ∷ ps) more files all h front =
 
 -- ---- the translation, step by step
 
-record Answered (held : World) (items : List Said) (own told : List (List ℕ)) : Type 0 where
+record Answered (held : World) (items : List Said) (own told : List (List ℕ)) (f : Bool) : Type 0 where
   lacks : lacking items ≡ None
-  links : linked held items ≡ Links own told
+  links : linked held items ≡ Links own told f
 
-answered_by : (held : World) (items : List Said) (own told : List (List ℕ)) (a : Option What) (v l : Option (List ℕ)) → lacking items ≡ l → unless_said a (unless_refused v (unless_refused l (linked held items))) ≡ Links own told
-    → Answered held items own told
-answered_by held items own told (Some what) v l is e = absurd cc
-answered_by held items own told None (Some line) l is e = absurd cc
-answered_by held items own told None None (Some line) is e = absurd cc
-answered_by held items own told None None None is e = record { lacks = is; links = e }
+answered_by : (held : World) (items : List Said) (own told : List (List ℕ)) (f : Bool) (a : Option What) (v l : Option (List ℕ)) → lacking items ≡ l → unless_said a (unless_refused v (unless_refused l (linked held items))) ≡ Links own told f
+    → Answered held items own told f
+answered_by held items own told f (Some what) v l is e = absurd cc
+answered_by held items own told f None (Some line) l is e = absurd cc
+answered_by held items own told f None None (Some line) is e = absurd cc
+answered_by held items own told f None None None is e = record { lacks = is; links = e }
 
 record Linked (held : World) (items : List Said) (own : List (List ℕ)) : Type 0 where
   words : List (List ℕ)
@@ -241,27 +241,27 @@ record Linked (held : World) (items : List Said) (own : List (List ℕ)) : Type 
   own_is : own_words items ++ words ≡ own
   some : has_path words ≡ true
 
-links_own : (f : Bool) (words told own heard : List (List ℕ)) → links f words told ≡ Links own heard → words ≡ own
-links_own true words (line ∷ told) own heard e = absurd cc
-links_own true words [] own heard e = cc
-links_own false words told own heard e = cc
+links_own : (t : Bool) (words told own heard : List (List ℕ)) (f : Bool) → links t words told ≡ Links own heard f → words ≡ own
+links_own true words (line ∷ told) own heard f e = absurd cc
+links_own true words [] own heard f e = cc
+links_own false words told own heard f e = cc
 
 drop_front : (front words : List (List ℕ)) → drop (length front) (front ++ words) ≡ words
 drop_front [] words = refl
 drop_front (w ∷ front) words = drop_front front words
 
-linked_by : (held : World) (items : List Said) (own told : List (List ℕ)) (r : Result (List (List ℕ)) (List ℕ)) → inputs_of held items ≡ r
-    → then_answer (with_path (length (own_words items)) (behind (own_words items) r)) (λ all. links (fatal items) all (warnings items)) ≡ Links own told → Linked held items own
-linked_by held items own told (Err refusal) is e = absurd cc
-linked_by held items own told (Ok words) is e = by (has_path (drop (length (own_words items)) (own_words items ++ words))) refl e
+linked_by : (held : World) (items : List Said) (own told : List (List ℕ)) (f : Bool) (r : Result (List (List ℕ)) (List ℕ)) → inputs_of held items ≡ r
+    → then_answer (with_path (length (own_words items)) (behind (own_words items) r)) (λ all. links (fatal items) all (warnings items)) ≡ Links own told f → Linked held items own
+linked_by held items own told f (Err refusal) is e = absurd cc
+linked_by held items own told f (Ok words) is e = by (has_path (drop (length (own_words items)) (own_words items ++ words))) refl e
   where
     by : (t : Bool) → has_path (drop (length (own_words items)) (own_words items ++ words)) ≡ t
-        → then_answer (cond t (Ok (own_words items ++ words)) (Err (codes "no input files"))) (λ all. links (fatal items) all (warnings items)) ≡ Links own told → Linked held items own
+        → then_answer (cond t (Ok (own_words items ++ words)) (Err (codes "no input files"))) (λ all. links (fatal items) all (warnings items)) ≡ Links own told f → Linked held items own
     by false some e = absurd cc
     by true some e = record {
       words = words;
       inputs_are = is;
-      own_is = links_own (fatal items) (own_words items ++ words) (warnings items) own told e;
+      own_is = links_own (fatal items) (own_words items ++ words) (warnings items) own told f e;
       some = ap has_path (sym (drop_front (own_words items) words)) ∙ some;
     }
 
@@ -296,10 +296,10 @@ planned laws held items own lacks l =
           ∙ i.lists;
     }
 
-of_answer : PlansAreCuts → (held : World) (items : List Said) (own told : List (List ℕ)) → answered held items ≡ Links own told → Planned held items own
-of_answer laws held items own told e =
-    let a = answered_by held items own told (asked items) (values_fault items) (lacking items) refl e in
-    planned laws held items own a.lacks (linked_by held items own told (inputs_of held items) refl a.links)
+of_answer : PlansAreCuts → (held : World) (items : List Said) (own told : List (List ℕ)) (f : Bool) → answered held items ≡ Links own told f → Planned held items own
+of_answer laws held items own told f e =
+    let a = answered_by held items own told f (asked items) (values_fault items) (lacking items) refl e in
+    planned laws held items own a.lacks (linked_by held items own told f (inputs_of held items) refl a.links)
 
 is_plan : (r : Result Plan Usage) (plan : Plan) → r ≡ Ok plan → IsOk r
 is_plan (Ok plan) other e = refl
@@ -309,38 +309,38 @@ same_plan : (own : List (List ℕ)) (a b : Plan) → plan_of own ≡ Ok a → pl
 same_plan own a b one other = cc
 
 pub name_files : PlansAreCuts → PlansNameTheFiles
-name_files laws held items own told plan e is =
-    let p = of_answer laws held items own told e in
+name_files laws held items own told f plan e is =
+    let p = of_answer laws held items own told f e in
     ap (planned_files own) (same_plan own plan p.plan is p.is) ∙ p.names
 
 -- ---- from the words
 
-module _ (laws : PlansAreCuts) (held : World) (own told : List (List ℕ)) where
-  of_cut : (r : Result (List Said) (List ℕ)) → then_answer r (answered held) ≡ Links own told → IsOk (plan_of own)
+module _ (laws : PlansAreCuts) (held : World) (own told : List (List ℕ)) (f : Bool) where
+  of_cut : (r : Result (List Said) (List ℕ)) → then_answer r (answered held) ≡ Links own told f → IsOk (plan_of own)
   of_cut (Err refusal) e = absurd cc
-  of_cut (Ok items) e = let p = of_answer laws held items own told e in is_plan (plan_of own) p.plan p.is
+  of_cut (Ok items) e = let p = of_answer laws held items own told f e in is_plan (plan_of own) p.plan p.is
 
-  of_expanded : (r : Result (List (List ℕ)) (List ℕ)) → then_answer (not_deeper r) (cut_and_answered held) ≡ Links own told → IsOk (plan_of own)
+  of_expanded : (r : Result (List (List ℕ)) (List ℕ)) → then_answer (not_deeper r) (cut_and_answered held) ≡ Links own told f → IsOk (plan_of own)
   of_expanded (Err name) e = absurd cc
   of_expanded (Ok words) e = of_cut (cut_of words) e
 
-  of_words : (words : List (List ℕ)) → translated_words held words ≡ Links own told → IsOk (plan_of own)
+  of_words : (words : List (List ℕ)) → translated_words held words ≡ Links own told f → IsOk (plan_of own)
   of_words words e = of_expanded (expanded_to 20 held words) e
 
-  of_flavor : (name : List ℕ) (words : List (List ℕ)) → under_flavor held name words ≡ Links own told → IsOk (plan_of own)
+  of_flavor : (name : List ℕ) (words : List (List ℕ)) → under_flavor held name words ≡ Links own told f → IsOk (plan_of own)
   of_flavor name words e = by (is_flavor name) e
     where
-      by : (t : Bool) → cond t (translated_words held words) (Refuses (line (codes "unknown flavor: ") name [] [])) ≡ Links own told → IsOk (plan_of own)
+      by : (t : Bool) → cond t (translated_words held words) (Refuses (line (codes "unknown flavor: ") name [] [])) ≡ Links own told f → IsOk (plan_of own)
       by true e = of_words words e
       by false e = absurd cc
 
-  of_flavored : (p : Option (List ℕ × List (List ℕ))) → flavored_by held p ≡ Links own told → IsOk (plan_of own)
+  of_flavored : (p : Option (List ℕ × List (List ℕ))) → flavored_by held p ≡ Links own told f → IsOk (plan_of own)
   of_flavored None e = absurd cc
   of_flavored (Some p) e = of_flavor p.0 p.1 e
 
-  of_translated : (words : List (List ℕ)) (flavor : Option (List (List ℕ))) → translated_by held words flavor ≡ Links own told → IsOk (plan_of own)
+  of_translated : (words : List (List ℕ)) (flavor : Option (List (List ℕ))) → translated_by held words flavor ≡ Links own told f → IsOk (plan_of own)
   of_translated words None e = of_words words e
   of_translated words (Some flavor) e = of_flavored (first_and_rest flavor) e
 
 pub have_plans : PlansAreCuts → OwnWordsHavePlans
-have_plans laws held words own told e = of_translated laws held own told words (behind_flavor words) e
+have_plans laws held words own told f e = of_translated laws held own told f words (behind_flavor words) e

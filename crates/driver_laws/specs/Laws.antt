@@ -49,9 +49,9 @@ planned_files own plan = map (λ i. file i.lazy i.whole (word own i.place)) plan
 
 -- The linker's own words have a plan.
 abbrev pub OwnWordsHavePlans : Type 0
-OwnWordsHavePlans = (held : World) (words own warnings : List (List ℕ)) → translated held words ≡ Links own warnings → IsOk (plan_of own)
+OwnWordsHavePlans = (held : World) (words own warnings : List (List ℕ)) (fatal : Bool) → translated held words ≡ Links own warnings fatal → IsOk (plan_of own)
 
 -- Its inputs are the files that are named and found.
 abbrev pub PlansNameTheFiles : Type 0
-PlansNameTheFiles = (held : World) (items : List Said) (own warnings : List (List ℕ)) (plan : Plan) → answered held items ≡ Links own warnings → plan_of own ≡ Ok plan
+PlansNameTheFiles = (held : World) (items : List Said) (own warnings : List (List ℕ)) (fatal : Bool) (plan : Plan) → answered held items ≡ Links own warnings fatal → plan_of own ≡ Ok plan
     → planned_files own plan ≡ named_files held items

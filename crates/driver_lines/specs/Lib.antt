@@ -3,3 +3,4 @@ pub mod Lines
 pub mod Members
 pub mod Rows
 pub mod Words
+pub mod Mismatch

@@ -8,6 +8,8 @@ use Rattle.wl_base.specs.declared.fault.LibFault.TheVariants.{BadHeader, NoIndex
 use Rattle.wl_base.specs.declared.fault.What.TheVariants.{MaxMemory, TableSize}
 use Rattle.wl_base.specs.declared.fault.InvalidAt.TheVariants.{Body}
 use Rattle.wl_base.specs.declared.item.Item.TheVariants.{LimitsFlag}
+use Rattle.wasm_types.specs.declared.value.ValType.TheVariants.{I32, I64, F32, F64}
+use Rattle.driver_lines.specs.Mismatch.{mismatch_line}
 use Rattle.driver_lines.specs.Lines.{error_line, warning_line, refusal_line, plain_line, about_line, pair_line, item_line, relocation_line}
 use Rattle.driver_lines.specs.Members.{long_names, member_name, name_field, input_names}
 
@@ -177,3 +179,17 @@ a_name_without_slash = refl
 
 pub objects_by_their_files : input_names (codes "main.o" ∷ codes "g2.o" ∷ []) (codes "one" ∷ codes "two" ∷ []) ≡ codes "main.o" ∷ codes "g2.o" ∷ []
 objects_by_their_files = refl
+
+-- ---- a function that is called by another type than its definition has
+
+pub a_mismatch :
+    mismatch_line (codes "wasm-ld") (codes "warning") inputs (codes "f") (record { params = I32 ∷ F64 ∷ I64 ∷ []; results = F32 ∷ I32 ∷ [] }) 2 (record { params = []; results = [] }) 3
+    ≡ codes "wasm-ld: warning: function signature mismatch: f\n>>> defined as (i32, f64, i64) -> f32 in ./libx.a(m.o)\n>>> defined as () -> void in g2.o\n"
+unfolding mismatch_line
+a_mismatch = refl
+
+pub a_mismatch_of_lacking_names :
+    mismatch_line (codes "wasm-ld") (codes "error") [] (codes "f") (record { params = I32 ∷ []; results = I64 ∷ [] }) 3 (record { params = []; results = [] }) 0
+    ≡ codes "wasm-ld: error: function signature mismatch: f\n>>> defined as (i32) -> i64 in input 3\n>>> defined as () -> void in <internal>\n"
+unfolding mismatch_line digits
+a_mismatch_of_lacking_names = refl

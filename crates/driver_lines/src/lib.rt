@@ -7,11 +7,13 @@ mod archive;
 mod called;
 mod forms;
 mod inputs;
+mod mismatch;
 mod refusal;
 mod told;
 mod words;
 
 pub use called::Naming;
 pub use inputs::input_names;
+pub use mismatch::say_mismatch;
 pub use refusal::say_refusal;
 pub use told::{say_error, say_warning};

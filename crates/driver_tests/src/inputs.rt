@@ -103,6 +103,7 @@ fn plan_of(alloc: Global, inputs: Seq<InputWord>, case: Option<u32>, threads: u3
         validate: false,
         keep_debug: false,
         like_lld: false,
+        loose_calls: false,
     }
 }
 

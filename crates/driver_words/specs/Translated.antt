@@ -32,10 +32,10 @@ abbrev pub unless_refused : Option (List ℕ) → Answer → Answer
 unless_refused (Some refusal) answer = Refuses refusal
 unless_refused None answer = answer
 
--- Warnings are errors where words say so: the first is told.
+-- Warnings are errors where words say so: the first is told. It is kept for what the link itself warns of.
 abbrev pub links : Bool → List (List ℕ) → List (List ℕ) → Answer
 links true own (warning ∷ more) = Refuses warning
-links fatal own told = Links own told
+links fatal own told = Links own told fatal
 
 -- What is said in place of a link, by the first item that asks for it.
 abbrev pub asked : List Said → Option What

@@ -14,8 +14,12 @@ pub enum What {
 /// What drivers' words stand for.
 #[derive(Debug, Drop)]
 pub enum Answer {
-    /// The linker's own words, and what is told before it links, a line each.
-    Links { own: Seq<Text>, warnings: Seq<Text> },
+    /// The linker's own words, what is told before it links, a line each, and whether warnings are errors.
+    Links {
+        own: Seq<Text>,
+        warnings: Seq<Text>,
+        fatal: bool,
+    },
     /// A text on standard output, and no link.
     Says(What),
     /// The line that refuses the words.

@@ -44,7 +44,11 @@ fn links(
             return Ok(Answer::Refuses(Text::new(alloc, warning.as_str())?));
         }
     }
-    Ok(Answer::Links { own, warnings })
+    Ok(Answer::Links {
+        own,
+        warnings,
+        fatal,
+    })
 }
 
 // Whether there is an input behind so many words.

@@ -11,6 +11,8 @@ use wl_outside::{Held, MemShelf, names_differ};
 pub enum Want {
     /// These own words.
     Own(&'static str),
+    /// These own words, of a link whose warnings are errors.
+    Strict(&'static str),
     /// These own words, with these lines of warnings.
     Warned(&'static str, &'static str),
     /// A refusal by this line.
@@ -71,12 +73,32 @@ fn lines(alloc: Global, texts: &[Text]) -> Result<Text, OutOfMemory> {
 
 fn is_wanted(alloc: Global, answer: &Answer, want: Want) -> Option<bool> {
     match (answer, want) {
-        (Answer::Links { own, warnings }, Want::Own(line)) => {
-            Some(warnings.is_empty() && are(alloc, own.as_slice(), line)?)
-        }
-        (Answer::Links { own, warnings }, Want::Warned(line, told)) => {
+        (
+            Answer::Links {
+                own,
+                warnings,
+                fatal,
+            },
+            Want::Own(line),
+        ) => { Some(!*fatal && warnings.is_empty() && are(alloc, own.as_slice(), line)?) }
+        (
+            Answer::Links {
+                own,
+                warnings,
+                fatal,
+            },
+            Want::Strict(line),
+        ) => { Some(*fatal && warnings.is_empty() && are(alloc, own.as_slice(), line)?) }
+        (
+            Answer::Links {
+                own,
+                warnings,
+                fatal,
+            },
+            Want::Warned(line, told),
+        ) => {
             let told_lines = lines(alloc, warnings.as_slice()).ok()?;
-            Some(told_lines.as_str() == told && are(alloc, own.as_slice(), line)?)
+            Some(!*fatal && told_lines.as_str() == told && are(alloc, own.as_slice(), line)?)
         }
         (Answer::Refuses(text), Want::Line(line)) => Some(text.as_str() == line),
         (Answer::Says(what), Want::Said(said)) => Some(*what == said),

@@ -172,14 +172,14 @@ fn words_of_rustc_with_std(rt: HostRuntime) -> Result<(), Fail> {
         (
             RUST_AND_SYSROOT,
             "-flavor wasm --rsp-quoting=posix --export main -z stack-size=1048576 --stack-first --allow-undefined --fatal-warnings --no-demangle RS/self-contained/crt1-command.o out.0.rcgu.o -L RS -l c -L RS/self-contained -LSR -o out.wasm --gc-sections -O2",
-            Want::Own(
+            Want::Strict(
                 "-o out.wasm -u main --export-if-defined=main --allow-undefined --stack-first -z stack-size=1048576 SR/crt1.o out.0.rcgu.o RS/self-contained/libc.a",
             ),
         ),
         (
             NONE,
             "-flavor wasm --rsp-quoting=posix --export triple --export=__heap_base --export=__data_end -z stack-size=1048576 --stack-first --allow-undefined --fatal-warnings --no-demangle --no-entry --export-dynamic out.lib.0.rcgu.o -L r/lib r/lib/libstd-9.rlib -o out.wasm --gc-sections --no-entry -O2 --strip-all",
-            Want::Own(
+            Want::Strict(
                 "-o out.wasm --no-entry -u triple --export-if-defined=triple -u __heap_base --export-if-defined=__heap_base -u __data_end --export-if-defined=__data_end --export-dynamic --allow-undefined --stack-first -z stack-size=1048576 out.lib.0.rcgu.o r/lib/libstd-9.rlib",
             ),
         ),

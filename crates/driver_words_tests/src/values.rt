@@ -112,7 +112,7 @@ fn names_and_switches(rt: HostRuntime) -> Result<(), Fail> {
 
 #[test]
 fn numbers_and_the_memory(rt: HostRuntime) -> Result<(), Fail> {
-    let cases: [(&[File], &'static str, Want); 20] = [
+    let cases: [(&[File], &'static str, Want); 22] = [
         (
             NONE,
             "m.o --global-base=0 --max-memory=0 --initial-memory=0 -o o",
@@ -172,6 +172,16 @@ fn numbers_and_the_memory(rt: HostRuntime) -> Result<(), Fail> {
             NONE,
             "m.o -z now --fatal-warnings -o o",
             Want::Line("unknown -z value: now"),
+        ),
+        (
+            NONE,
+            "m.o --no-fatal-warnings --fatal-warnings -o o",
+            Want::Strict("-o o --stack-first m.o"),
+        ),
+        (
+            NONE,
+            "m.o --fatal-warnings --no-fatal-warnings -o o",
+            Want::Own("-o o --stack-first m.o"),
         ),
         (
             NONE,

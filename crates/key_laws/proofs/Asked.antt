@@ -80,7 +80,7 @@ cell_names Table t g = absurd (grind arith)
 
 -- ---- references of the program
 
-module _ (plan : Plan) (files : List (List ℕ)) (all : List Candidate) (objects : List Object) (loaded : AreLoaded objects) (clear : clash_by plan.like_lld (entries Plain objects) ≡ None) where
+module _ (plan : Plan) (files : List (List ℕ)) (all : List Candidate) (objects : List Object) (loaded : AreLoaded objects) (clear : clash_by plan.loose_calls (entries Plain objects) ≡ None) where
   abbrev p : Program
   p = strict_program Plain plan files all objects
 
@@ -98,7 +98,7 @@ module _ (plan : Plan) (files : List (List ℕ)) (all : List Candidate) (objects
     means_by m q = subst (Means es ref.entry) (sym s.names.is.meant ∙ q) (means plan.allow_undefined es ref.entry)
 
     same_by : (e : InputSymbol) → Means es ref.entry (here e) → e.symbol.kind ≡ ref.entry.symbol.kind
-    same_by e (inl x) = one_kind plan.like_lld es e ref.entry clear (listed x.0) x.1.0
+    same_by e (inl x) = one_kind plan.loose_calls es e ref.entry clear (listed x.0) x.1.0
     same_by e (inr (inl x)) = ap (λ (w : InputSymbol). w.symbol.kind) (here_is e ref.entry x.0)
       where
         here_is : (a b : InputSymbol) → here a ≡ here b → a ≡ b
@@ -109,7 +109,7 @@ module _ (plan : Plan) (files : List (List ℕ)) (all : List Candidate) (objects
     import_by k (inl x) =
         let r = x.1.0 in
         let known = entry_known objects r (has_filter (is_named (name_of ref.entry)) es r x.1.1).0 in
-        let t = import_type plan files all objects loaded clear r known k x.1.2 ref.entry.symbol.kind (one_kind plan.like_lld es r ref.entry clear (listed x.0) x.1.1) in
+        let t = import_type plan files all objects loaded clear r known k x.1.2 ref.entry.symbol.kind (one_kind plan.loose_calls es r ref.entry clear (listed x.0) x.1.1) in
         (t.0, t.2)
     import_by k (inr (inl x)) = absurd (let z = x.0 in grind arith)
     import_by k (inr (inr x)) = absurd (grind arith)
@@ -153,12 +153,12 @@ module _ (plan : Plan) (files : List (List ℕ)) (all : List Candidate) (objects
       let symbols = names_symbol plan files all objects loaded clear in
       let x = came p refl symbols part h in
       let y = ref_came p refl symbols x.0 ref (subst (λ (w : Part). Has (refs w) ref) (sym x.2) r) in
-      subst IsAsked y.2 (changed y.0 (asked x.0 y.0 x.1 y.1) plan.like_lld)
+      subst IsAsked y.2 (changed y.0 (asked x.0 y.0 x.1 y.1) plan.loose_calls)
 
   pub loose_calls : (part : Part) (ref : Ref) → Has (loosened p).parts part → part.chunk.input ≡ 0 → Has (refs part) ref → ref.kind ≡ 0
   loose_calls part ref h z r =
       let symbols = names_symbol plan files all objects loaded clear in
       let x = came p refl symbols part h in
       let y = ref_came p refl symbols x.0 ref (subst (λ (w : Part). Has (refs w) ref) (sym x.2) r) in
-      let k = ap (λ (w : Part). w.chunk) (sym x.2) ∙ chunk_is es plan.like_lld x.0 in
-      ap (λ (w : Ref). w.kind) (sym y.2) ∙ loose_kind es plan.like_lld y.0 ∙ calls x.0 y.0 x.1 (ap (λ (c : Chunk). c.input) (sym k) ∙ z) y.1
+      let k = ap (λ (w : Part). w.chunk) (sym x.2) ∙ chunk_is es plan.loose_calls x.0 in
+      ap (λ (w : Ref). w.kind) (sym y.2) ∙ loose_kind es plan.loose_calls y.0 ∙ calls x.0 y.0 x.1 (ap (λ (c : Chunk). c.input) (sym k) ∙ z) y.1

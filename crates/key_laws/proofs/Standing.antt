@@ -112,7 +112,7 @@ pub keys_stand : ReachedLaw → ProgramsAreSound → KeysStand
 unfolding program_of exported
 keys_stand law sound plan files all objects loaded clear open' =
     let p = strict_program Plain plan files all objects in
-    let clear' = ap (clash_by plan.like_lld) (sym (entries_are plan files all objects)) ∙ clear in
+    let clear' = ap (clash_by plan.loose_calls) (sym (entries_are plan files all objects)) ∙ clear in
     let s = sound plan files all objects loaded clear' in
     let symbols = names_symbol plan files all objects loaded clear' in
     all_stand law (loosened p) (exported Plain p) (loose_sound p refl symbols s.0) (loose_exports p refl symbols (exported Plain p) s.1) open'

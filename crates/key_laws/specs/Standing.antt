@@ -118,7 +118,7 @@ pub record AllStand (p : Program) (parts : List Part) (exports : List InputSymbo
 -- Where no names of loaded objects clash, and nothing stays unresolved.
 abbrev pub KeysStand : Type 0
 KeysStand = (plan : Plan) (files : List (List ℕ)) (all : List Candidate) (objects : List Object) → AreLoaded objects
-    → clash_by plan.like_lld (program_of Plain plan files all objects).entries ≡ None
+    → clash_by plan.loose_calls (program_of Plain plan files all objects).entries ≡ None
     → unresolved (program_of Plain plan files all objects) (live (program_of Plain plan files all objects) (exported Plain (program_of Plain plan files all objects))) ≡ None
     → AllStand (program_of Plain plan files all objects) (live (program_of Plain plan files all objects) (exported Plain (program_of Plain plan files all objects)))
     (exported Plain (program_of Plain plan files all objects)) (layout_of (program_of Plain plan files all objects) (exported Plain (program_of Plain plan files all objects)))

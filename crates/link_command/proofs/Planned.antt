@@ -8,17 +8,17 @@ use Rattle.link_words.specs.declared.error.WordError.TheVariants.{Usage, OutOfMe
 use Rattle.link_words.specs.Words.{Reads}
 use Rattle.link_command.specs.Command.{as_lld, plan_for, said_for}
 
-pub given : (like : Bool) (said : Result Plan UsageFault) (plan : Plan) → said ≡ Ok plan → said_for like said ≡ Ok (plan_for like plan)
-given true said plan is = ap as_lld is
-given false said plan is = is
+pub given : (like loose : Bool) (said : Result Plan UsageFault) (plan : Plan) → said ≡ Ok plan → said_for like loose said ≡ Ok (plan_for like loose plan)
+given true loose said plan is = ap (as_lld loose) is
+given false loose said plan is = is
 
-pub refused : (like : Bool) (said : Result Plan UsageFault) (e : WordError) → Reads (Err e) said → Reads (Err e) (said_for like said)
-refused true said (Usage u) is = ap as_lld is
-refused false said (Usage u) is = is
-refused like said OutOfMemory is = tt
+pub refused : (like loose : Bool) (said : Result Plan UsageFault) (e : WordError) → Reads (Err e) said → Reads (Err e) (said_for like loose said)
+refused true loose said (Usage u) is = ap (as_lld loose) is
+refused false loose said (Usage u) is = is
+refused like loose said OutOfMemory is = tt
 
-pub sound : (like : Bool) (plan : Plan) → IsPlan plan → IsPlan (plan_for like plan)
-sound true plan is = record {
+pub sound : (like loose : Bool) (plan : Plan) → IsPlan plan → IsPlan (plan_for like loose plan)
+sound true loose plan is = record {
   stack = is.stack;
   stack_small = is.stack_small;
   initial = is.initial;
@@ -29,8 +29,8 @@ sound true plan is = record {
   cases = is.cases;
   inputs = is.inputs;
 }
-sound false plan is = is
+sound false loose plan is = is
 
-pub same_inputs : (like : Bool) (plan : Plan) → (plan_for like plan).inputs ≡ plan.inputs
-same_inputs true plan = refl
-same_inputs false plan = refl
+pub same_inputs : (like loose : Bool) (plan : Plan) → (plan_for like loose plan).inputs ≡ plan.inputs
+same_inputs true loose plan = refl
+same_inputs false loose plan = refl

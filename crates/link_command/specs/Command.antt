@@ -11,21 +11,21 @@ use Rattle.case_objects.specs.Objects.{objects}
 use Rattle.link_command.specs.declared.status.Status.{Status}
 use Rattle.link_command.specs.declared.status.Status.TheVariants.{Linked, Refused, Usage, ReadFault, WriteFault, NoMemory}
 
--- The plan of the words, in a link that is like lld's or not. No own word asks for one.
-abbrev pub as_lld : Result Plan UsageFault → Result Plan UsageFault
-as_lld (Ok plan) = Ok (record plan { like_lld = true })
-as_lld (Err usage) = Err usage
+-- The plan of the words, in a link that is like lld's, with loose calls or with strict ones, or that isn't. No own word asks for one.
+abbrev pub as_lld : Bool → Result Plan UsageFault → Result Plan UsageFault
+as_lld loose (Ok plan) = Ok (record plan { like_lld = true; loose_calls = loose })
+as_lld loose (Err usage) = Err usage
 
-abbrev pub plan_for : Bool → Plan → Plan
-plan_for true plan = record plan { like_lld = true }
-plan_for false plan = plan
+abbrev pub plan_for : Bool → Bool → Plan → Plan
+plan_for true loose plan = record plan { like_lld = true; loose_calls = loose }
+plan_for false loose plan = plan
 
-abbrev pub said_for : Bool → Result Plan UsageFault → Result Plan UsageFault
-said_for true said = as_lld said
-said_for false said = said
+abbrev pub said_for : Bool → Bool → Result Plan UsageFault → Result Plan UsageFault
+said_for true loose said = as_lld loose said
+said_for false loose said = said
 
-abbrev pub planned : Bool → List (List ℕ) → Result Plan UsageFault
-planned like_lld words = said_for like_lld (plan_of words)
+abbrev pub planned : Bool → Bool → List (List ℕ) → Result Plan UsageFault
+planned like_lld loose words = said_for like_lld loose (plan_of words)
 
 -- the contents of the names, where each holds any
 abbrev pub with_first : Option (List ℕ) → Option (List (List ℕ)) → Option (List (List ℕ))

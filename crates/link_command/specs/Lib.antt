@@ -4,3 +4,4 @@ pub mod Line
 pub mod ReadCause
 pub mod Said
 pub mod Status
+pub mod Telling

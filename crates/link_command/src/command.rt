@@ -1,5 +1,5 @@
 //! The top call: all that the program does.
-ghost use Rattle.std.specs.Prelude.{true, ◌≡◌, ◌⊎◌, ◌<◌, ◌^◌, List, ℕ, IsSomeAnd, IfOk, IfErr, All, Ok, Err, length};
+ghost use Rattle.std.specs.Prelude.{true, [], ◌≡◌, ◌⊎◌, ◌<◌, ◌^◌, List, ℕ, IsSomeAnd, IfOk, IfErr, All, Ok, Err, length};
 ghost use Rattle.wl_base.specs.declared.fault.Fault.{Fault};
 ghost use Rattle.wl_base.specs.declared.usage.Usage.{Usage as UsageFault};
 ghost use Rattle.wl_outside.specs.Shelf.{Same, Grows, SaveFailed};
@@ -10,12 +10,14 @@ ghost use Rattle.link_command.specs.Command.{planned, plan_for, Shows, LinkIs, I
 ghost use Rattle.link_command.specs.Ending.{ending_line};
 ghost use Rattle.link_command.specs.Line.{status_line};
 ghost use Rattle.link_command.specs.Said.{Said};
+ghost use Rattle.link_command.specs.Telling.{TellsBy, Tells};
 
 use crate::ending::{Ending, case_of};
 use crate::inputs::{ReadError, files};
 use crate::status::Status;
-use link_core::{LinkError, link};
+use link_core::{LinkError, link_telling};
 use link_words::{Plan, WordError, read_words};
+use mismatch_rules::Mismatch;
 use std::alloc::Global;
 use std::thread::Threads;
 use wl_base::{Seq, Text};
@@ -62,100 +64,114 @@ pub fn link_command<R: Threads + Sync, F: Shelf, E: Sink, G: Gate>(
     // The sink has the line of the answer, or where its count of faults rose a prefix of it.
     ensures said { Said (status_line (plan_of words.now) result) (E.told say.old) (E.told say.new) }
 {
-    let ending = answer(rt, alloc, words, false, shelf, gate);
+    let mut told = Seq::new(alloc);
+    let ending = answer(rt, alloc, words, false, false, shelf, gate, &mut told);
     // A line that can't be written changes no status.
     let _ = ending.say(say);
     ending.status
 }
 
-/// The same by words that LLVM's linker was given otherwise: functions may be called by other types than their definitions have, and a link
-/// that would lose constructors is refused. It writes no line.
+/// The same by words that LLVM's linker was given otherwise: a link that would lose constructors is refused, and with `loose_calls` a function
+/// may be called by another type than its definition has, which `told` then lists; without them such a call is a clash, as it is in our own
+/// links. It writes no line.
 pub fn link_like_lld<R: Threads + Sync, F: Shelf, G: Gate>(
     rt: &R,
     alloc: Global,
     words: &[Text],
+    loose_calls: bool,
     shelf: &mut F,
     gate: &G,
+    told: &mut Seq<Mismatch>,
 ) -> Status
     requires { length words.now < 2 ^ 32 }
-    ensures usage { (u : UsageFault) → result ≡ Status.Usage u → (planned true words.now ≡ Err u) × Same (F.shown shelf.old) (F.shown shelf.new) }
-    ensures cause { IfOk (planned true words.now) (λ plan. Shows result (F.shown shelf.old) (F.shown shelf.new) words.now plan) }
+    ensures usage { (u : UsageFault) → result ≡ Status.Usage u → (planned true loose_calls words.now ≡ Err u) × Same (F.shown shelf.old) (F.shown shelf.new) }
+    ensures cause { IfOk (planned true loose_calls words.now) (λ plan. Shows result (F.shown shelf.old) (F.shown shelf.new) words.now plan) }
     ensures memory { result ≡ Status.NoMemory → Same (F.shown shelf.old) (F.shown shelf.new) }
-    ensures runs { (plan : ThePlan) → planned true words.now ≡ Ok plan → result ≡ Status.Linked → IsTold plan.make_case (F.shown shelf.old)
+    ensures runs { (plan : ThePlan) → planned true loose_calls words.now ≡ Ok plan → result ≡ Status.Linked → IsTold plan.make_case (F.shown shelf.old)
         → SavedRuns (F.shown shelf.old) (F.shown shelf.new) words.now plan }
     ensures counts { Grows (F.shown shelf.old) (F.shown shelf.new) }
-    ensures is_usage { IfErr (planned true words.now) (λ u. IsUnlessMemory result (Status.Usage u)) }
-    ensures is_refused { (plan : ThePlan) (fault : Fault) → planned true words.now ≡ Ok plan
+    ensures is_usage { IfErr (planned true loose_calls words.now) (λ u. IsUnlessMemory result (Status.Usage u)) }
+    ensures is_refused { (plan : ThePlan) (fault : Fault) → planned true loose_calls words.now ≡ Ok plan
         → IsTold plan.make_case (F.shown shelf.old) → LinkIs (F.shown shelf.old) words.now plan (Err fault)
         → LoadsWork (F.shown shelf.old) (F.shown shelf.new) words.now plan → IsUnlessMemory result (Status.Refused fault) }
-    ensures is_linked { (plan : ThePlan) (bytes : List ℕ) → planned true words.now ≡ Ok plan
+    ensures is_linked { (plan : ThePlan) (bytes : List ℕ) → planned true loose_calls words.now ≡ Ok plan
         → IsTold plan.make_case (F.shown shelf.old) → LinkIs (F.shown shelf.old) words.now plan (Ok bytes)
         → LoadsWork (F.shown shelf.old) (F.shown shelf.new) words.now plan
         → SaveWorks (F.shown shelf.old) (F.shown shelf.new) plan → IsUnlessMemory result Status.Linked }
+    ensures told { told.old ≡ [] → Tells (planned true loose_calls words.now) result (F.shown shelf.old) words.now told.new }
 {
-    let ending = answer(rt, alloc, words, true, shelf, gate);
+    let ending = answer(rt, alloc, words, true, loose_calls, shelf, gate, told);
     ending.status
 }
 
 // How the work ends. The sink has no part in it.
-#[tactic(auto, using(crate::proofs::Saves::grows_not))]
+#[tactic(auto, using(crate::proofs::Saves::grows_not, crate::proofs::Telling::usage_tells, crate::proofs::Telling::no_memory_tells))]
 fn answer<R: Threads + Sync, F: Shelf, G: Gate>(
     rt: &R,
     alloc: Global,
     words: &[Text],
     like_lld: bool,
+    loose_calls: bool,
     shelf: &mut F,
     gate: &G,
+    told: &mut Seq<Mismatch>,
 ) -> Ending
     requires { length words.now < 2 ^ 32 }
-    ensures usage { (u : UsageFault) → result.status ≡ Status.Usage u → (planned like_lld words.now ≡ Err u) × Same (F.shown shelf.old) (F.shown shelf.new) }
-    ensures cause { IfOk (planned like_lld words.now) (λ plan. Shows result.status (F.shown shelf.old) (F.shown shelf.new) words.now plan) }
+    ensures usage { (u : UsageFault) → result.status ≡ Status.Usage u → (planned like_lld loose_calls words.now ≡ Err u) × Same (F.shown shelf.old) (F.shown shelf.new) }
+    ensures cause { IfOk (planned like_lld loose_calls words.now) (λ plan. Shows result.status (F.shown shelf.old) (F.shown shelf.new) words.now plan) }
     ensures memory { result.status ≡ Status.NoMemory → Same (F.shown shelf.old) (F.shown shelf.new) }
-    ensures runs { (plan : ThePlan) → planned like_lld words.now ≡ Ok plan → result.status ≡ Status.Linked → IsTold plan.make_case (F.shown shelf.old)
+    ensures runs { (plan : ThePlan) → planned like_lld loose_calls words.now ≡ Ok plan → result.status ≡ Status.Linked → IsTold plan.make_case (F.shown shelf.old)
         → SavedRuns (F.shown shelf.old) (F.shown shelf.new) words.now plan }
     ensures counts { Grows (F.shown shelf.old) (F.shown shelf.new) }
-    ensures is_usage { IfErr (planned like_lld words.now) (λ u. IsUnlessMemory result.status (Status.Usage u)) }
-    ensures is_refused { (plan : ThePlan) (fault : Fault) → planned like_lld words.now ≡ Ok plan
+    ensures is_usage { IfErr (planned like_lld loose_calls words.now) (λ u. IsUnlessMemory result.status (Status.Usage u)) }
+    ensures is_refused { (plan : ThePlan) (fault : Fault) → planned like_lld loose_calls words.now ≡ Ok plan
         → IsTold plan.make_case (F.shown shelf.old) → LinkIs (F.shown shelf.old) words.now plan (Err fault)
         → LoadsWork (F.shown shelf.old) (F.shown shelf.new) words.now plan → IsUnlessMemory result.status (Status.Refused fault) }
-    ensures is_linked { (plan : ThePlan) (bytes : List ℕ) → planned like_lld words.now ≡ Ok plan
+    ensures is_linked { (plan : ThePlan) (bytes : List ℕ) → planned like_lld loose_calls words.now ≡ Ok plan
         → IsTold plan.make_case (F.shown shelf.old) → LinkIs (F.shown shelf.old) words.now plan (Ok bytes)
         → LoadsWork (F.shown shelf.old) (F.shown shelf.new) words.now plan
         → SaveWorks (F.shown shelf.old) (F.shown shelf.new) plan → IsUnlessMemory result.status Status.Linked }
-    ensures line { ending_line result.status result.case ≡ status_line (planned like_lld words.now) result.status }
+    ensures told { told.old ≡ [] → Tells (planned like_lld loose_calls words.now) result.status (F.shown shelf.old) words.now told.new }
+    ensures line { ending_line result.status result.case ≡ status_line (planned like_lld loose_calls words.now) result.status }
 {
-    match read_plan(alloc, words, like_lld) {
-        Ok(plan) => run_plan(rt, alloc, &plan, words, shelf, gate),
+    match read_plan(alloc, words, like_lld, loose_calls) {
+        Ok(plan) => run_plan(rt, alloc, &plan, words, shelf, gate, told),
         Err(WordError::Usage(usage)) => Ending::plain(Status::Usage(usage)),
         Err(WordError::OutOfMemory) => Ending::plain(Status::NoMemory),
     }
 }
 
 // The same plan, for a link that is like lld's or not.
-fn plan_for(mut plan: Plan, like_lld: bool) -> Plan
-    ensures { result ≡ plan_for like_lld plan }
+fn plan_for(mut plan: Plan, like_lld: bool, loose_calls: bool) -> Plan
+    ensures { result ≡ plan_for like_lld loose_calls plan }
 {
     if like_lld {
         plan.like_lld = true;
+        plan.loose_calls = loose_calls;
     }
     plan
 }
 
 // The plan of the words, in a link that is like lld's or not.
-fn read_plan(alloc: Global, words: &[Text], like_lld: bool) -> Result<Plan, WordError>
+pub(crate) fn read_plan(
+    alloc: Global,
+    words: &[Text],
+    like_lld: bool,
+    loose_calls: bool,
+) -> Result<Plan, WordError>
     requires { length words.now < 2 ^ 32 }
-    ensures plan { Reads result (planned like_lld words.now) }
+    ensures plan { Reads result (planned like_lld loose_calls words.now) }
     ensures numbers { IfOk result IsPlan }
     ensures places { IfOk result (λ plan. All (λ i. i.place < length words.now) plan.inputs) }
 {
     match read_words(alloc, words) {
-        Ok(plan) => Ok(plan_for(plan, like_lld)),
+        Ok(plan) => Ok(plan_for(plan, like_lld, loose_calls)),
         Err(error) => Err(error),
     }
 }
 
 // Does what the plan asks for.
-#[tactic(auto, using(crate::proofs::Saves::grows_on))]
+#[tactic(auto, using(crate::proofs::Saves::grows_on, crate::proofs::Telling::all_told))]
 fn run_plan<R: Threads + Sync, F: Shelf, G: Gate>(
     rt: &R,
     alloc: Global,
@@ -163,6 +179,7 @@ fn run_plan<R: Threads + Sync, F: Shelf, G: Gate>(
     words: &[Text],
     shelf: &mut F,
     gate: &G,
+    told: &mut Seq<Mismatch>,
 ) -> Ending
     requires places { All (λ i. i.place < length words.now) plan.now.inputs }
     requires plan { IsPlan plan.now }
@@ -174,6 +191,7 @@ fn run_plan<R: Threads + Sync, F: Shelf, G: Gate>(
     ensures is_linked { (bytes : List ℕ) → IsTold plan.now.make_case (F.shown shelf.old) → LinkIs (F.shown shelf.old) words.now plan.now (Ok bytes)
         → LoadsWork (F.shown shelf.old) (F.shown shelf.new) words.now plan.now
         → SaveWorks (F.shown shelf.old) (F.shown shelf.new) plan.now → IsUnlessMemory result.status Status.Linked }
+    ensures told { told.old ≡ [] → TellsBy result.status (F.shown shelf.old) words.now plan.now told.new }
     ensures line { ending_line result.status result.case ≡ status_line (Ok plan.now) result.status }
 {
     let files = match files(alloc, plan, words, shelf) {
@@ -181,7 +199,7 @@ fn run_plan<R: Threads + Sync, F: Shelf, G: Gate>(
         Err(ReadError::Failed(place)) => return Ending::plain(Status::ReadFault(place)),
         Err(ReadError::OutOfMemory) => return Ending::plain(Status::NoMemory),
     };
-    let bytes = match link(rt, alloc, plan, files.as_slice(), gate) {
+    let bytes = match link_telling(rt, alloc, plan, files.as_slice(), gate, told) {
         Ok(bytes) => bytes,
         Err(LinkError::Refused(fault)) => return Ending::plain(Status::Refused(fault)),
         Err(LinkError::OutOfMemory) => return Ending::plain(Status::NoMemory),

@@ -2,10 +2,12 @@
 //! output, and says how it ended.
 #![tactic(auto)]
 
+mod calls;
 mod command;
 mod ending;
 mod inputs;
 mod status;
 
+pub use calls::tell_calls;
 pub use command::{link_command, link_like_lld};
 pub use status::Status;

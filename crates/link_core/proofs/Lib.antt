@@ -2,3 +2,4 @@ pub mod Steps
 pub mod Answering
 pub mod Loading
 pub mod Running
+pub mod Listing

@@ -16,6 +16,7 @@ use Rattle.link_program.specs.declared.error.LinkError.{LinkError}
 use Rattle.link_program.specs.declared.program.Program.{Program as Data}
 use Rattle.link_program.specs.Loaded.{IsLoaded}
 use Rattle.link_program.specs.Program.{IsProgram}
+use Rattle.mismatch_rules.specs.Mismatches.{standing, told_of}
 use Rattle.program_build.specs.Found.{Finds, IsFound, found_of}
 use Rattle.program_build.specs.declared.found.Found.{Found}
 use Rattle.program_build.specs.Standing.{LoadedPartsStand}
@@ -36,6 +37,9 @@ module _ (l : Loading) (plan : Plan) (loaded objects : List Object) (same : l.or
 
   pub find_stops : (e x : LinkError) → x ≡ e → Finds Plain (Err e) plan objects found_program → Answers (Err x) (link_program Plain (program_in l))
   find_stops e x is finds = subst (λ p. Answers (Err x) (link_program Plain p)) program_is (find_failed plan objects found_program e x is finds)
+
+  pub due_is : told_of (standing found_program) ≡ told_of (standing (program_in l))
+  due_is = ap (λ p. told_of (standing p)) program_is
 
   pub all_found : found_of found_program ≡ Ok found_program → found_of (program_in l) ≡ Ok (program_in l)
   all_found found = subst (λ p. found_of p ≡ Ok p) program_is found

@@ -4,3 +4,4 @@ pub mod Linking
 pub mod Chosen
 pub mod Prepared
 pub mod Making
+pub mod Telling

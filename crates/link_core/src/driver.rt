@@ -1,6 +1,6 @@
 //! The whole link, as a list of steps in the order of its definition (`link_of` in link_rules/specs/LinkOf.antt): load, find, exports,
 //! mark, unresolved, place, number, image, measure, patches, write. Each gives what the next ones need, or a fault that ends the link.
-ghost use Rattle.std.specs.Prelude.{◌≡◌, length, unwrap_or, IfOk};
+ghost use Rattle.std.specs.Prelude.{◌≡◌, [], length, unwrap_or, IfOk};
 ghost use Rattle.link_program.specs.made_symbols.declared.mode.Mode.TheVariants as modes;
 ghost use Rattle.link_program.specs.link_plan.Plan.{IsPlan};
 ghost use Rattle.link_program.specs.link_rules.Program as rules;
@@ -17,10 +17,13 @@ ghost use Rattle.link_core.specs.Linking.{IsLinking};
 ghost use Rattle.link_core.specs.Loading.{Loading, program_in};
 ghost use Rattle.link_core.specs.Making.{the_image, the_windows};
 ghost use Rattle.link_core.specs.Prepared.{outputs, IsReady};
+ghost use Rattle.link_core.specs.Telling.{Tells};
+ghost use Rattle.mismatch_rules.specs.Mismatches.{mismatches_of, standing, told_of};
 ghost use Rattle.link_runs.specs.Links.{Runs};
 
 use crate::chosen::Chosen;
 use crate::prepared::Prepared;
+use crate::telling::find_telling;
 use link_image::image;
 use link_inputs::{Inputs, load_inputs};
 use link_layout::{Layout, place_segments};
@@ -34,8 +37,9 @@ use link_plan::Plan;
 use link_program::{Entries, LinkError, Program, Winner};
 use link_runs::links_run;
 use lost_ctors::uncalled;
+use mismatch_rules::Mismatch;
+use program_build::Found;
 use program_build::laws::parts_stand;
-use program_build::{Found, find};
 use std::alloc::Global;
 use std::mem::forget;
 use std::thread::Threads;
@@ -75,8 +79,30 @@ pub fn link<R: Threads + Sync, G: Gate>(
     // The module has fewer than 2^31 bytes.
     ensures short { IsShort result }
 {
+    let mut told = Seq::new(alloc);
+    let answer = link_telling(rt, alloc, plan, files, gate, &mut told);
+    answer
+}
+
+/// The same, and what is told of functions that are called by another type than their definition has, in a list that begins empty: but for
+/// want of memory all that is to be told, whether the link is refused or not.
+pub fn link_telling<R: Threads + Sync, G: Gate>(
+    rt: &R,
+    alloc: Global,
+    plan: &Plan,
+    files: &[Seq<u8>],
+    gate: &G,
+    told: &mut Seq<Mismatch>,
+) -> Result<Seq<u8>, LinkError>
+    requires plan { IsPlan plan.now }
+    requires files { length files.now ≡ unwrap_or plan.now.make_case (length plan.now.inputs) }
+    ensures exact { Answers result (link_of plan.now files.now) }
+    ensures runs { IfOk result (λ bytes. Runs plan.now files.now bytes) }
+    ensures short { IsShort result }
+    ensures told { told.old ≡ [] → Tells result told.new (mismatches_of plan.now files.now) }
+{
     links_run();
-    let answer = link_files(rt, alloc, plan, files, gate);
+    let answer = link_files(rt, alloc, plan, files, gate, told);
     answer
 }
 
@@ -87,15 +113,17 @@ fn link_files<R: Threads + Sync, G: Gate>(
     plan: &Plan,
     files: &[Seq<u8>],
     gate: &G,
+    told: &mut Seq<Mismatch>,
 ) -> Result<Seq<u8>, LinkError>
     requires plan { IsPlan plan.now }
     requires files { length files.now ≡ unwrap_or plan.now.make_case (length plan.now.inputs) }
     ensures exact { Answers result (link_of plan.now files.now) }
     ensures short { IsShort result }
+    ensures told { told.old ≡ [] → Tells result told.new (mismatches_of plan.now files.now) }
 {
     let workers = workers_of(plan, files, gate);
     let inputs = load_inputs(rt, alloc, plan, files, workers, gate)?;
-    let prepared = prepare(rt, alloc, plan, files, &inputs, workers, gate);
+    let prepared = prepare(rt, alloc, plan, files, &inputs, workers, gate, told);
     forget(inputs);
     let ready = prepared?;
     let bytes = write(
@@ -121,6 +149,7 @@ fn prepare<R: Threads + Sync, G: Gate>(
     inputs: &Inputs,
     workers: Workers,
     gate: &G,
+    told: &mut Seq<Mismatch>,
 ) -> Result<Prepared, LinkError>
     ghost l: { Loading }
     requires plan { IsPlan plan.now }
@@ -130,9 +159,19 @@ fn prepare<R: Threads + Sync, G: Gate>(
     requires loaded { IsLoaded l.origin.files l.origin.all inputs.now.loaded inputs.now.homes }
     ensures exact { Answers (outputs files.now result) (link_program modes.Plain (program_in l)) }
     ensures ready { IfOk result (IsReady files.now) }
+    ensures told { told.old ≡ [] → Tells result told.new (told_of (standing (program_in l))) }
 {
     let objects = inputs.objects();
-    let found = find(rt, alloc, plan, objects, inputs.homes(), workers, gate)?;
+    let found = find_telling(
+        rt,
+        alloc,
+        plan,
+        objects,
+        inputs.homes(),
+        workers,
+        gate,
+        told,
+    )?;
     parts_stand();
     let program = found.program(plan, objects);
     let entries = found.view(objects);

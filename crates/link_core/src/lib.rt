@@ -4,6 +4,8 @@
 mod chosen;
 mod driver;
 mod prepared;
+mod telling;
 
-pub use driver::link;
+pub use driver::{link, link_telling};
 pub use link_program::LinkError;
+pub use mismatch_rules::Mismatch;

@@ -51,7 +51,7 @@ AddressesLaw = (input : ℕ) (bytes : List ℕ) (object : Object) → IsObject i
 
 module _ (sound_law : SoundLaw) (bodies_law : BodiesLaw) (addresses_law : AddressesLaw) (stand_law : StrictPartsStand) (program_law : ProgramsAreSound)
     (plan : Plan) (files : List (List ℕ)) (all : List Candidate) (objects : List Object) (homes : List Home) (read : AreRead files all objects homes)
-    (clear : clash_by plan.like_lld (entries Plain objects) ≡ None) where
+    (clear : clash_by plan.loose_calls (entries Plain objects) ≡ None) where
   abbrev p : Program
   p = strict_program Plain plan files all objects
 

@@ -110,11 +110,11 @@ module _ (all : List InputSymbol) where
   is_function e nothing is = absurd (grind arith)
 
 module _ (q : Program) where
-  apart_loose : (ps : List Part) → Apart same_part ps → Apart same_part (map (part_by q.entries q.plan.like_lld) ps)
+  apart_loose : (ps : List Part) → Apart same_part ps → Apart same_part (map (part_by q.entries q.plan.loose_calls) ps)
   apart_loose [] a = tt
   apart_loose (x ∷ xs) a = (
     λ y h t.
-        let b = q.plan.like_lld in
+        let b = q.plan.loose_calls in
         let r = has_map (part_by q.entries b) xs y h in
         let chunks : same_chunk (part_by q.entries b x).chunk y.chunk ≡ same_chunk x.chunk r.0.chunk =
         ap (λ c. same_chunk c y.chunk) (chunk_is q.entries b x) ∙ ap (λ (w : Part). same_chunk x.chunk w.chunk) (sym r.2) ∙ ap (same_chunk x.chunk) (chunk_is q.entries b r.0) in
@@ -123,11 +123,11 @@ module _ (q : Program) where
   )
 
   pub loosened_apart : Apart same_part q.parts → Apart same_part (loosened q).parts
-  loosened_apart a = subst (Apart same_part) (sym (parts_by q.entries q.plan.like_lld q.parts)) (apart_loose q.parts a)
+  loosened_apart a = subst (Apart same_part) (sym (parts_by q.entries q.plan.loose_calls q.parts)) (apart_loose q.parts a)
 
 module _ (q : Program) (none : q.variants ≡ []) (symbol_of : (part : Part) (ref : Ref) → Has q.parts part → Has (refs part) ref → IsSymbolOf q.resolved ref.entry ref.meaning) where
   abbrev pub b : Bool
-  b = q.plan.like_lld
+  b = q.plan.loose_calls
 
   abbrev pub l : Program
   l = loosened q

@@ -185,7 +185,7 @@ last_none None (Some y) h = absurd (grind arith)
 last_none None None h = refl
 
 -- entries of a name have one kind
-pub one_kind : (like_lld : Bool) (all : List InputSymbol) (d e : InputSymbol) → clash_by like_lld all ≡ None → Has all e → Has (named all (name_of e)) d → d.symbol.kind ≡ e.symbol.kind
+pub one_kind : (loose_calls : Bool) (all : List InputSymbol) (d e : InputSymbol) → clash_by loose_calls all ≡ None → Has all e → Has (named all (name_of e)) d → d.symbol.kind ≡ e.symbol.kind
 unfolding clash loose_clash
 one_kind false all d e n he hd = kinds clashes_with (first_entry all) same_kind all d e n (some_named all d (name_of e) hd) he hd
 one_kind true all d e n he hd = kinds breaks (judge all) unbroken_kind all d e (last_none (other_import all) (broken all) n) (some_judge all d (name_of e) hd) he hd

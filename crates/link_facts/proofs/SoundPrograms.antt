@@ -40,7 +40,7 @@ import_some f None y h = absurd (grind arith)
 import_some f (Some x) y h = (x, some_is (f x) y h)
 
 module _ (plan : Plan) (files : List (List ℕ)) (all : List Candidate) (objects : List Object) (loaded : AreLoaded objects)
-    (clear : clash_by plan.like_lld (entries Plain objects) ≡ None) where
+    (clear : clash_by plan.loose_calls (entries Plain objects) ≡ None) where
   abbrev p : Program
   p = strict_program Plain plan files all objects
 
@@ -137,7 +137,7 @@ module _ (plan : Plan) (files : List (List ℕ)) (all : List Candidate) (objects
         no code b z h = grind arith
 
     pub meant : (m : Meaning) → meaning Plain no_uses plan.allow_undefined es ref.entry ≡ m → Means es ref.entry m → SoundMeaning p ref m
-    meant (here d) q (inl x) = let h = in_all d x.1.0 in definition d (entry_known objects d h) x.1.1 (one_kind plan.like_lld es d ref.entry clear (listed x.0) x.1.0)
+    meant (here d) q (inl x) = let h = in_all d x.1.0 in definition d (entry_known objects d h) x.1.1 (one_kind plan.loose_calls es d ref.entry clear (listed x.0) x.1.0)
     meant (here d) q (inr (inl x)) = let z : d ≡ ref.entry = here_is d ref.entry x.0 in definition d (subst (Known objects) (sym z) entry_is_known) (ap (λ (w : InputSymbol). w.defines) z ∙ x.1) (ap (λ (w : InputSymbol). w.symbol.kind) z)
       where
         here_is : (a b : InputSymbol) → here a ≡ here b → a ≡ b
@@ -145,7 +145,7 @@ module _ (plan : Plan) (files : List (List ℕ)) (all : List Candidate) (objects
     meant (here d) q (inr (inr x)) = absurd (grind arith)
     meant (imported k) q (inl x) =
         let r = x.1.0 in
-        let same = one_kind plan.like_lld es r ref.entry clear (listed x.0) x.1.1 in
+        let same = one_kind plan.loose_calls es r ref.entry clear (listed x.0) x.1.1 in
         let t = import_type r (entry_known objects r (in_all r x.1.1)) k x.1.2 ref.entry.symbol.kind same in
         record { listed = meaning_listed o ho ref.entry k n.is.listed q; function = λ z. t.0 (is_call z); global = λ z g. t.1 (is_global g) }
     meant (imported k) q (inr (inl x)) = absurd (let z = x.0 in grind arith)

@@ -61,11 +61,11 @@ module _ (p : Program) (exports : List InputSymbol) (bytes : List ℕ) where
       let l = is_laid u.1 in
       (record { resolved = b.0; memory = l.memory; table = l.table; references = l.rest.references }, l.rest.is, l.rest.output)
 
-pub is_linked : (p : Program) (bytes : List ℕ) → link_program Plain p ≡ Ok bytes → (clash_by p.plan.like_lld p.entries ≡ None) × (marked Plain p (exported Plain p) ≡ Ok bytes)
+pub is_linked : (p : Program) (bytes : List ℕ) → link_program Plain p ≡ Ok bytes → (clash_by p.plan.loose_calls p.entries ≡ None) × (marked Plain p (exported Plain p) ≡ Ok bytes)
 unfolding link_program
 is_linked p bytes e =
     let a = guard (too_many_names p) p _ bytes e in
-    let b = guard (clash_by p.plan.like_lld p.entries) p _ bytes a.1 in
+    let b = guard (clash_by p.plan.loose_calls p.entries) p _ bytes a.1 in
     let c = guard (duplicate p.entries) p _ bytes b.1 in
     let d = guard (repeated_export Plain p (exported Plain p)) (exported Plain p) _ bytes c.1 in
     (b.0, d.1)

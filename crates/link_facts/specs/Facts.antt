@@ -58,5 +58,5 @@ pub record Facts (p : Program) (exports : List InputSymbol) : Type 0 where
 
 abbrev pub FactsHold : Type 0
 FactsHold = (plan : Plan) (files : List (List ℕ)) (all : List Candidate) (objects : List Object) (homes : List Home) → AreRead files all objects homes
-    → clash_by plan.like_lld (program_of Plain plan files all objects).entries ≡ None
+    → clash_by plan.loose_calls (program_of Plain plan files all objects).entries ≡ None
     → Facts (program_of Plain plan files all objects) (exported Plain (program_of Plain plan files all objects))

@@ -21,5 +21,5 @@ pub record AreLoaded (objects : List Object) : Type 0 where
 -- Where no names clash, references and exports name what is there, before calls are loosened.
 abbrev pub ProgramsAreSound : Type 0
 ProgramsAreSound = (plan : Plan) (files : List (List ℕ)) (all : List Candidate) (objects : List Object) → AreLoaded objects
-    → clash_by plan.like_lld (entries Plain objects) ≡ None
+    → clash_by plan.loose_calls (entries Plain objects) ≡ None
     → (let p = strict_program Plain plan files all objects in Sound p × SoundExports p (exported Plain p))

@@ -160,7 +160,7 @@ made_named name place (m ∷ ms) is = by (bytes_eq m.name name) refl is (made_na
 
 module _ (p : rules.Program) (from : p.entries ≡ entries Plain p.objects) (means : p.resolved ≡ resolve Plain p.plan.allow_undefined p.entries p.objects)
     (first : List (List ℕ)) (made_first : (name : List ℕ) → list_any (bytes_eq name) (map (λ m. m.name) (made Plain)) ≡ true → list_any (bytes_eq name) first ≡ true)
-    (variants : p.variants ≡ loose_variants p.plan.like_lld p.entries p.resolved) (apart : All (λ v. list_any (bytes_eq (name_of v)) first ≡ false) p.variants) where
+    (variants : p.variants ≡ loose_variants p.plan.loose_calls p.entries p.resolved) (apart : All (λ v. list_any (bytes_eq (name_of v)) first ≡ false) p.variants) where
   symbol_known : (e : InputSymbol) (m : Meaning) → IsSymbolOf p.resolved e m → is_nothing m ≡ false → KnownMeaning (imports_in_order p) (callable p) e m
   unfolding imports_in_order
   symbol_known e (here d) there meant = tt
@@ -173,7 +173,7 @@ module _ (p : rules.Program) (from : p.entries ≡ entries Plain p.objects) (mea
 
   variant_known : (e : InputSymbol) (m : Meaning) → IsVariantOf p.variants e m → KnownMeaning (imports_in_order p) (callable p) e m
   variant_known e m there =
-      let v = variant_entry p.entries p.plan.like_lld p.resolved there.1 e (ap (λ vs. slice_get vs there.1) (sym variants) ∙ there.2) in
+      let v = variant_entry p.entries p.plan.loose_calls p.resolved there.1 e (ap (λ vs. slice_get vs there.1) (sym variants) ∙ there.2) in
       subst (KnownMeaning (imports_in_order p) (callable p) e) (sym there.0) (record {
         entry = v;
         named = ap (list_any (bytes_eq (name_of e))) (map-append name_of p.entries p.variants)

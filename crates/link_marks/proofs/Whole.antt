@@ -164,8 +164,8 @@ open_are d p l parts is live =
     fine_from allow objects rows imports objects (λ o h. h) (recursion_from_All (IsObject objects) objects (are_objects objects is.rise))
     (subst (AllByRecursion (λ (x : Resolved). AllZip (Means imports) (row_of rows x.object.input) x.meanings)) resolved (recursion_from_All _ p.resolved is.resolution.meanings)) in
     let agree : AllByRecursion (Agrees allow objects rows imports) p.parts =
-    subst (AllByRecursion (Agrees allow objects rows imports)) (sym (is.parts_are.1 ∙ ap (λ rs. loose_parts p.plan.like_lld p.entries (parts_of Plain is.parts_are.0 objects rs)) resolved))
-    (loose_agree allow objects rows imports p.entries p.plan.like_lld _ (parts_agree allow objects rows imports fine is.parts_are.0)) in
+    subst (AllByRecursion (Agrees allow objects rows imports)) (sym (is.parts_are.1 ∙ ap (λ rs. loose_parts p.plan.loose_calls p.entries (parts_of Plain is.parts_are.0 objects rs)) resolved))
+    (loose_agree allow objects rows imports p.entries p.plan.loose_calls _ (parts_agree allow objects rows imports fine is.parts_are.0)) in
     let parts_is = live_are p l parts live in
     let some_agree : AllByRecursion (Agrees allow objects rows imports) parts = subst (AllByRecursion (Agrees allow objects rows imports)) (sym parts_is) (picked_all l.set.words (Agrees allow objects rows imports) p.parts 0 p.parts agree) in
     let chunks : live_from l.set.words 0 d.tables.now.chunks ≡ map (λ (part : Part). part.chunk) parts =

@@ -54,6 +54,7 @@ fn plan(alloc: Global) -> Result<Plan, OutOfMemory> {
         validate: false,
         keep_debug: false,
         like_lld: false,
+        loose_calls: false,
     })
 }
 

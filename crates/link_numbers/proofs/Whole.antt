@@ -108,7 +108,7 @@ pub record Given (names words : List (List ℕ)) (imports : List ImportKey) (t :
   pub means : p.resolved ≡ resolve Plain p.plan.allow_undefined p.entries p.objects
   pub order : names ≡ different_names Plain words p.objects ++ variant_names p.variants
   pub apart : All (λ v. list_any (bytes_eq (name_of v)) (different_names Plain words p.objects) ≡ false) p.variants
-  pub variants : p.variants ≡ loose_variants p.plan.like_lld p.entries p.resolved
+  pub variants : p.variants ≡ loose_variants p.plan.loose_calls p.entries p.resolved
   pub all_imports : imports ≡ imports_in_order p
   pub numbers : symbols ≡ map (λ (o : Object). map (symbol_number names) o.symbols) p.objects
   pub are : map (slice_get p.parts) live ≡ map Some parts

@@ -58,6 +58,8 @@ pub struct Plan {
     pub validate: bool,
     /// The objects' debug sections are joined behind the module. No word sets it yet.
     pub keep_debug: bool,
-    /// The link is a compiler driver's: where the two differ it does as wasm-ld does. No word sets it.
+    /// The link is a compiler driver's: one that would lose constructors is refused. No word sets it.
     pub like_lld: bool,
+    /// A function may be called by another type than its definition has, as with wasm-ld: such a call traps. No word sets it.
+    pub loose_calls: bool,
 }

@@ -120,7 +120,7 @@ module _ (all : List InputSymbol) where
   ]
 
   -- A variant is an entry.
-  pub variant_entry : (like_lld : Bool) (rs : List Resolved) (k : ℕ) (v : InputSymbol) → slice_get (loose_variants like_lld all rs) k ≡ Some v → is_entry v ≡ true
+  pub variant_entry : (loose_calls : Bool) (rs : List Resolved) (k : ℕ) (v : InputSymbol) → slice_get (loose_variants loose_calls all rs) k ≡ Some v → is_entry v ≡ true
   variant_entry true rs k v at = among_all rs k v at
   variant_entry false rs k v at = absurd cc
 
@@ -154,8 +154,8 @@ module _ (p : Program) where
         subst (λ k. NamedStand k end (map (loose_named p.entries) ns)) (sym (λ i. at i + size i)) (loose_windows (named_place n + named_size n) end ns is.1),
       )
 
-  module _ (like : p.plan.like_lld ≡ true) where
-    variants_are : loose_variants p.plan.like_lld p.entries p.resolved ≡ variants_of p.entries p.resolved
+  module _ (like : p.plan.loose_calls ≡ true) where
+    variants_are : loose_variants p.plan.loose_calls p.entries p.resolved ≡ variants_of p.entries p.resolved
     variants_are = ap (λ b. loose_variants b p.entries p.resolved) like
 
     loose_meant : (ref : Ref) → IsMeant p ref → IsRefOf (loosened p) (loose_ref p.entries ref)
@@ -194,18 +194,18 @@ module _ (p : Program) where
       all_strict [] all = All-nil (IsRefOf (loosened p))
       all_strict (r ∷ rs) all = All-cons (IsRefOf (loosened p)) r rs (inl (All-head (IsMeant p) r rs all)) (all_strict rs (All-tail (IsMeant p) r rs all))
 
-  pub parts_stand : (parts : List Part) → All (PartStandsBy p (IsMeant p)) parts → All (PartStands (loosened p)) (loose_parts p.plan.like_lld p.entries parts)
-  parts_stand parts all = by p.plan.like_lld refl
+  pub parts_stand : (parts : List Part) → All (PartStandsBy p (IsMeant p)) parts → All (PartStands (loosened p)) (loose_parts p.plan.loose_calls p.entries parts)
+  parts_stand parts all = by p.plan.loose_calls refl
     where
       strict : (parts : List Part) → All (PartStandsBy p (IsMeant p)) parts → All (PartStands (loosened p)) parts
       strict [] all = All-nil (PartStands (loosened p))
       strict (x ∷ xs) all = All-cons (PartStands (loosened p)) x xs (same_part x (All-head (PartStandsBy p (IsMeant p)) x xs all)) (strict xs (All-tail (PartStandsBy p (IsMeant p)) x xs all))
 
-      loose : p.plan.like_lld ≡ true → (parts : List Part) → All (PartStandsBy p (IsMeant p)) parts → All (PartStands (loosened p)) (map (loose_part p.entries) parts)
+      loose : p.plan.loose_calls ≡ true → (parts : List Part) → All (PartStandsBy p (IsMeant p)) parts → All (PartStands (loosened p)) (map (loose_part p.entries) parts)
       loose like [] all = All-nil (PartStands (loosened p))
       loose like (x ∷ xs) all =
           All-cons (PartStands (loosened p)) (loose_part p.entries x) (map (loose_part p.entries) xs) (part_stands like x (All-head (PartStandsBy p (IsMeant p)) x xs all)) (loose like xs (All-tail (PartStandsBy p (IsMeant p)) x xs all))
 
-      by : (b : Bool) → p.plan.like_lld ≡ b → All (PartStands (loosened p)) (loose_parts b p.entries parts)
+      by : (b : Bool) → p.plan.loose_calls ≡ b → All (PartStands (loosened p)) (loose_parts b p.entries parts)
       by true like = loose like parts all
       by false like = strict parts all

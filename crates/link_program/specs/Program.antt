@@ -56,8 +56,8 @@ pub record IsProgram (mode : Mode) (d : Program) (p : rules.Program) : Type 0 wh
   pub entries : p.entries ≡ entries mode p.objects
   pub winners_are : p.winners ≡ winners_of p.entries
   pub resolved : p.resolved ≡ resolve mode p.plan.allow_undefined p.entries p.objects
-  pub parts_are : (all : List Candidate) × (p.parts ≡ loose_parts p.plan.like_lld p.entries (parts_of mode all p.objects p.resolved))
-  pub variants_are : p.variants ≡ loose_variants p.plan.like_lld p.entries p.resolved
+  pub parts_are : (all : List Candidate) × (p.parts ≡ loose_parts p.plan.loose_calls p.entries (parts_of mode all p.objects p.resolved))
+  pub variants_are : p.variants ≡ loose_variants p.plan.loose_calls p.entries p.resolved
   -- names, winners and meanings by number
   pub numbers : AreNumbers mode p.objects d.names.now
   pub order : d.names.now.names ≡ different_names mode (asked_names p.plan ++ p.plan.exports_if) p.objects ++ variant_names p.variants

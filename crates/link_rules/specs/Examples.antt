@@ -70,6 +70,7 @@ plan_of inputs = record {
   validate = false;
   keep_debug = false;
   like_lld = false;
+  loose_calls = false;
 }
 
 -- the same with `--export` of each of these names

@@ -109,7 +109,7 @@ exporting mode p exports = do
 unfoldable pub link_program : Mode → Program → Result (List ℕ) Fault
 link_program mode p = do
   p ← unless (too_many_names p) p
-  p ← unless (clash_by p.plan.like_lld p.entries) p
+  p ← unless (clash_by p.plan.loose_calls p.entries) p
   p ← unless (duplicate p.entries) p
   exporting mode p (exported mode p)
 

@@ -128,7 +128,7 @@ abbrev pub defining_g : Object
 defining_g = record (empty_object 2) { types = plain_type ∷ []; functions = body_at 0 (span 0 2) [] ∷ []; symbols = function_symbol 0 (codes "g") 0 ∷ [] }
 
 abbrev pub like_lld : List (List ℕ) → Plan
-like_lld exports = record (exporting 2 exports) { like_lld = true }
+like_lld exports = record (exporting 2 exports) { like_lld = true; loose_calls = true }
 
 abbrev pub called_otherwise : Row
 called_otherwise = record {

@@ -323,7 +323,7 @@ loose_variants true all resolved = variants_of all resolved
 loose_variants false all resolved = []
 
 abbrev pub loosened : Program → Program
-loosened p = record p { parts = loose_parts p.plan.like_lld p.entries p.parts; variants = loose_variants p.plan.like_lld p.entries p.resolved }
+loosened p = record p { parts = loose_parts p.plan.loose_calls p.entries p.parts; variants = loose_variants p.plan.loose_calls p.entries p.resolved }
 
 -- The program of the loaded objects.
 unfoldable pub program_of : Mode → Plan → List (List ℕ) → List Candidate → List Object → Program

@@ -94,7 +94,7 @@ import_named o n s Section i e = absurd (grind arith)
 import_named o n s Table i e = n.imports i (has_filter _ o.imports i (has_at _ s.index i e)).0
 
 module _ (plan : Plan) (files : List (List ℕ)) (all : List Candidate) (objects : List Object) (loaded : AreLoaded objects)
-    (clear : clash_by plan.like_lld (entries Plain objects) ≡ None) (are : (o : Object) → Has objects o → ObjectNamed o)
+    (clear : clash_by plan.loose_calls (entries Plain objects) ≡ None) (are : (o : Object) → Has objects o → ObjectNamed o)
     (fit : (o : Object) → Has objects o → (g : GlobalDef) → Has o.globals g → IsConstant g.value) where
   abbrev p : Program
   p = strict_program Plain plan files all objects
@@ -176,7 +176,7 @@ module _ (plan : Plan) (files : List (List ℕ)) (all : List Candidate) (objects
   -- the same of the program with its calls loosened
   pub loose_contents : (part : Part) → Has (program_of Plain plan files all objects).parts part → ContentFits part.content
   unfolding program_of
-  loose_contents part h = by plan.like_lld h
+  loose_contents part h = by plan.loose_calls h
     where
       by : (b : Bool) → Has (loose_parts b p.entries p.parts) part → ContentFits part.content
       by false h = contents part h

@@ -86,14 +86,14 @@ module _ (plan : Plan) (files : List (List ℕ)) (all : List Candidate) (objects
   entries_are = refl
 
   in_ranges : ((t : Tree) → entries t ≤ length (bytes_of_tree t)) → IsPlan plan → (loaded : IsLoaded files all objects (map home_of all)) → ((o : Object) → Has objects o → IsFrom files all o)
-      → clash_by plan.like_lld (program_of Plain plan files all objects).entries ≡ None
+      → clash_by plan.loose_calls (program_of Plain plan files all objects).entries ≡ None
       → (let p = program_of Plain plan files all objects in let x = exported Plain p in Facts p x → NoFault p x (layout_of p x)
       → output_fault p (image Plain p (live p x) x (layout_of p x)) ≡ None → IsRanged (linked_tree p (live p x) x (layout_of p x)))
   in_ranges law fit loaded from clear f n o =
       let p = program_of Plain plan files all objects in
       let x = exported Plain p in
       let are = are_loaded files all objects (map home_of all) loaded in
-      let clear' = ap (clash_by plan.like_lld) (sym entries_are) ∙ clear in
+      let clear' = ap (clash_by plan.loose_calls) (sym entries_are) ∙ clear in
       let named : (o : Object) → Has objects o → ObjectNamed o = λ o h. names_of o.input (bytes_of files (from o h).candidate) o (from o h).is in
       let fits : (o : Object) → Has objects o → (g : GlobalDef) → Has o.globals g → IsInRange g.value = λ o h g m. (constants_of o.input (bytes_of files (from o h).candidate) o (from o h).is g m).1 in
       let s = short p x f.measured.stand o in

@@ -45,4 +45,5 @@ output_law agree read taken fit hold p exports a =
       linked = r.linked;
       runs = λ s n e. agree s p exports n (linked taken fit p exports a) (hold s p exports a.sound a.measured a.no_fault e) ∙ sym (r.runs s n);
       fits = λ s e. fits_but_places s (linked_module p exports) r.is r.linked (linked_fits s p exports (hold s p exports a.sound a.measured a.no_fault e));
+      holds = λ s. hold s p exports a.sound a.measured a.no_fault;
     }

@@ -17,6 +17,7 @@ use Rattle.link_rules.specs.Output.{image, source_windows}
 use Rattle.link_rules.specs.LinkOf.{output_bytes}
 use Rattle.link_worlds.specs.Worlds.{layout_of, linked_module, linked_tree, plan_trace}
 use Rattle.link_worlds.specs.Sound.{Sound, SoundExports, IsGlobalPart}
+use Rattle.link_worlds.specs.Statements.{Holds}
 use Rattle.output_module.specs.Filled.{Reads, names_in}
 use Rattle.output_module.specs.Outputs.{IsCoded}
 use Rattle.link_facts.specs.Faults.{Measured, NoFault, Enough}
@@ -45,6 +46,7 @@ pub record IsAccepted (p : Program) (exports : List InputSymbol) : Type 0 where
 
 -- The bytes spell one module by the grammar of modules (Core 5.5): the live functions of the program with numbers for their references, and
 -- nothing dead (`linked_module`), but for places. It gives the traces of the plan and the files, and its segments fit its table and its memory.
+-- The memory holds each live segment of the objects, also those of zeros, of which the module has none.
 pub record Gives (p : Program) (exports : List InputSymbol) (bytes : List ℕ) : Type 0 where
   pub is : Module
   pub read : module_of bytes ≡ Ok is
@@ -53,6 +55,7 @@ pub record Gives (p : Program) (exports : List InputSymbol) (bytes : List ℕ) :
   pub linked : SameButPlaces (linked_module p exports) is
   pub runs : (s : Session) (n : ℕ) → Enough s (layout_of p exports) → plan_trace s p exports n ≡ module_trace s is n
   pub fits : (s : Session) → Enough s (layout_of p exports) → fits_session s is ≡ true
+  pub holds : (s : Session) → Enough s (layout_of p exports) → Holds s p exports (layout_of p exports)
 
 abbrev pub OutputRuns : Type 0
 OutputRuns = (p : Program) (exports : List InputSymbol) → IsAccepted p exports

@@ -103,6 +103,7 @@ case : plan_of (codes "--export=g" ∷ codes "-z" ∷ codes "stack-size=0x20" �
       validate = false;
       keep_debug = false;
       like_lld = false;
+      loose_calls = false;
     })
 unfolding plan_of plan_from first_fault
 case = refl
@@ -135,6 +136,7 @@ link : plan_of (codes "a.o" ∷ codes "--start-lib" ∷ codes "b.o" ∷ codes "-
       validate = false;
       keep_debug = false;
       like_lld = false;
+      loose_calls = false;
     })
 unfolding plan_of plan_from first_fault
 link = refl

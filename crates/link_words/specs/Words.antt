@@ -37,6 +37,7 @@ plan_from items = record {
   validate = false;
   keep_debug = false;
   like_lld = false;
+  loose_calls = false;
 }
 
 -- the plan of the words, or the first fault

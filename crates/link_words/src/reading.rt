@@ -75,6 +75,7 @@ fn plan(alloc: Global, items: &[Item<'_>]) -> Result<Plan, OutOfMemory>
         validate: false,
         keep_debug: false,
         like_lld: false,
+        loose_calls: false,
     })
 }
 

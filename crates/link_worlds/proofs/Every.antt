@@ -20,11 +20,11 @@ use Rattle.link_rules.specs.Marks.{live, unresolved, refs_of}
 use Rattle.link_rules.specs.Keys.{GlobalKey, GotKey, outside_global, linker_global, own_global, got, exported_datum, got_entry, got_import, got_null, same_global, same_got, globals, used_globals, made_global_key, own_global_key, got_entries, got_of, datum_key, ref_got, ref_global, ref_function, meant_global, needs_got, function_number, global_number}
 use Rattle.link_rules.specs.Values.{Layout, Asks, a_function, a_global, asks, form_of, target_by, addend_by, ref_window, got_value}
 use Rattle.link_rules.specs.Output.{layout}
-use Rattle.link_worlds.specs.Names.{renaming, constant_of, number_at, function_place, cell_place, FunctionGets, CellGets, RefGets}
+use Rattle.link_worlds.specs.Names.{renaming, constant_of, number_at, callee, cell_place, FunctionGets, CellGets, RefGets}
 use Rattle.link_worlds.specs.Sound.{Sound, SoundRef, meant_entry, meant_entries}
 use Rattle.link_worlds.proofs.Keys.{import_equal, gots_same}
 use Rattle.link_worlds.proofs.Live.{live_part, ref_listed}
-use Rattle.link_worlds.proofs.Refs.{distinct_has, function_pairs, cell_pairs}
+use Rattle.link_worlds.proofs.Refs.{distinct_has, callee_pairs, cell_pairs}
 
 -- the cells of addresses among all cells
 abbrev IfGot : (GotKey → Type 0) → GlobalKey → Type 0
@@ -192,7 +192,7 @@ module _ (p : Program) (exports : List InputSymbol) (part : Part) (ref : Ref) (s
 
   pub ref_gets : RefGets p lay ref
   ref_gets = record {
-    function = λ k. subst (λ n. FunctionGets (renaming p lay) (function_place p (ref_function ref)) n) (sym (function_number_is k)) (function_pairs law p exports sound part ref open' h r k);
+    function = λ k. subst (λ n. FunctionGets (renaming p lay) (callee p ref) n) (sym (function_number_is k)) (callee_pairs law p exports sound part ref open' h r k);
     cell = λ k b. subst (λ n. CellGets (renaming p lay) (cell_place p (ref_global Plain ref)) n) (sym (global_number_is k)) (cell_gets k b);
     held = λ k b. subst (λ n. (renaming p lay).constant n ≡ Some (got_value Plain lay (ref_got ref))) (sym (global_number_is k)) (held_gets k b);
     table = λ k. ap (λ a. bits32 (value (window_as lay ref a))) (ap asks k);

@@ -25,7 +25,7 @@ use Rattle.link_rules.specs.Marks.{live, refs_of, picked, targets, root_places}
 use Rattle.link_rules.specs.Keys.{FunctionKey, outside, linker_function, stub, own, same_function, functions, function_imports_of, made_function_key, own_function_key, stub_names, is_function_at, type_of, type_place, types, window_types, part_type, is_function_type, has_import, used_imports, imports_by, imports_in_order, function_number, ref_function}
 use Rattle.link_rules.specs.Values.{Layout}
 use Rattle.link_rules.specs.Output.{layout}
-use Rattle.link_worlds.specs.Names.{all_functions, renaming, function_place, number_at, FunctionGets, RefGets}
+use Rattle.link_worlds.specs.Names.{all_functions, renaming, callee, number_at, FunctionGets, RefGets}
 use Rattle.link_worlds.specs.Bodies.{to_name, call_of, plan_calls, plan_part, linked_calls, linked_part, linked_source}
 use Rattle.link_worlds.specs.Worlds.{plan_function}
 use Rattle.link_worlds.specs.Sound.{Sound, same_part, IsShaped}
@@ -157,7 +157,7 @@ module _ (p : Program) (exports : List InputSymbol) (sound : Sound p) (cell : �
   mod_function k = Some (record { kind = type_of p parts k; source = mod_source k })
 
   module _ (gets : (part : Part) (ref : Ref) → Has parts part → part.chunk.kind ≡ 0 → (part.chunk.input ≡ 0 → ⊥) → Has part.named (a_symbol ref) → RefGets p lay ref)
-      (called : (part : Part) (ref : Ref) → Has parts part → part.chunk.input ≡ 0 → Has (refs part) ref → FunctionGets ren (function_place p (ref_function ref)) (function_number lay.numbers (ref_function ref)))
+      (called : (part : Part) (ref : Ref) → Has parts part → part.chunk.input ≡ 0 → Has (refs part) ref → FunctionGets ren (callee p ref) (function_number lay.numbers (ref_function ref)))
       (numbered : (part : Part) (w : TypeWindow) → Has parts part → part.chunk.kind ≡ 0 → (part.chunk.input ≡ 0 → ⊥) → Has part.named (a_type w) → number_at lay (a_type w) ≡ type_place lay.numbers w.type)
       (shaped : (part : Part) → Has parts part → part.chunk.kind ≡ 0 → (part.chunk.input ≡ 0 → ⊥) → IsShaped p part) where
     typed : (part : Part) → Has parts part → part.chunk.kind ≡ 0 → (part.chunk.input ≡ 0 → ⊥) → (w : TypeWindow) → Has part.named (a_type w) → slice_get lay.numbers.types (number_at lay (a_type w)) ≡ Some w.type
@@ -171,10 +171,10 @@ module _ (p : Program) (exports : List InputSymbol) (sound : Sound p) (cell : �
     part_pairs : (part : Part) → Has parts part → part.chunk.kind ≡ 0 → (part.chunk.input ≡ 0 → ⊥) → IsShaped p part → SourcePairs ren (plan_part p lay (Some part)) (coded (op_of lay.numbers.types cell) (linked_part p lay (Some part)))
     part_pairs part h k z s = body_pairs p lay part.named lay.numbers.types cell straight (λ ref m. gets part ref h k z m) (λ w m. typed part h k z w m) _ s
 
-    calls_pair : (part : Part) → (rs : List Ref) → ((ref : Ref) → Has rs ref → FunctionGets ren (function_place p (ref_function ref)) (function_number lay.numbers (ref_function ref)))
+    calls_pair : (part : Part) → (rs : List Ref) → ((ref : Ref) → Has rs ref → FunctionGets ren (callee p ref) (function_number lay.numbers (ref_function ref)))
         → SourcePairs ren (Code [] (map (call_of p lay) rs ++ Own (instrs.Plain 0x0B) ∷ [])) (coded (op_of lay.numbers.types cell) (record { locals = []; code = map (λ ref. record { instr = instrs.Call (function_number lay.numbers (ref_function ref)); at = 0; mid = 0; end = 0 }) rs ++ record { instr = instrs.Plain 0x0B; at = 0; mid = 0; end = 0 } ∷ [] }))
     calls_pair part [] f = (refl, (refl, tt))
-    calls_pair part (ref ∷ rs) f = (refl, (to_call (function_place p (ref_function ref)) (function_number lay.numbers (ref_function ref)) (f ref (inl refl)), (calls_pair part rs (λ q h. f q (inr h))).1))
+    calls_pair part (ref ∷ rs) f = (refl, (to_call (callee p ref) (function_number lay.numbers (ref_function ref)) (f ref (inl refl)), (calls_pair part rs (λ q h. f q (inr h))).1))
       where
         to_call : (o : Option ℕ) (g : ℕ) → FunctionGets ren o g → OpPairs ren (to_name CallTo o) (CallTo g)
         to_call None g h = absurd h

@@ -19,9 +19,9 @@ use Rattle.run_rules.specs.Ops.{op_of, opening, calling, cell_op}
 use Rattle.run_rules.specs.Modules.{coded}
 use Rattle.sim_laws.specs.Pairs.{Renaming, OpPairs, Each, SourcePairs}
 use Rattle.link_rules.specs.Program.{Program, Ref, TypeWindow, Named, a_symbol, a_type}
-use Rattle.link_rules.specs.Keys.{ref_function, ref_global, ref_got}
+use Rattle.link_rules.specs.Keys.{ref_global, ref_got}
 use Rattle.link_rules.specs.Values.{Layout, got_value}
-use Rattle.link_worlds.specs.Names.{renaming, number_at, function_place, cell_place, FunctionGets, CellGets, RefGets}
+use Rattle.link_worlds.specs.Names.{renaming, number_at, callee, cell_place, FunctionGets, CellGets, RefGets}
 use Rattle.link_worlds.specs.Bodies.{place_of, named_at, first_place, to_name, called, called_through, opened, number_op, cell_by, at_cell, number_or, constant_or, op_at, plan_op, plan_body, linked_at, linked_placed, linked_body}
 use Rattle.link_worlds.specs.Sound.{NamesFunction, NamesType, NamesTable, NamesCell, TakesAt, Takes, Shaped}
 
@@ -45,7 +45,7 @@ module _ (p : Program) (l : Layout) (names : List Named) (types : List FuncType)
 
   call_pairs : (f place : ℕ) (o : Option Named) → named_at names place ≡ o → NamesFunction o → OpPairs r (called p l o) (op_of types cell (instrs.Call (number_or p l f o)))
   call_pairs f place None e h = absurd h
-  call_pairs f place (Some (a_symbol ref)) e h = to_function (function_place p (ref_function ref)) (number_at l (a_symbol ref)) ((gets ref (there place (a_symbol ref) e)).function h)
+  call_pairs f place (Some (a_symbol ref)) e h = to_function (callee p ref) (number_at l (a_symbol ref)) ((gets ref (there place (a_symbol ref) e)).function h)
   call_pairs f place (Some (a_type w)) e h = absurd h
 
   table_zero : (table place : ℕ) (o : Option Named) → named_at names place ≡ o → NamesTable table o → number_or p l table o ≡ 0

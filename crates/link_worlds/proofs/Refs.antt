@@ -15,7 +15,7 @@ use Rattle.made_symbols.specs.declared.mode.Mode.TheVariants.{Plain}
 use Rattle.link_rules.specs.Program.{Program, Part, Ref, refs, chunk_of, chunk_by, chunk_at, meant_chunk}
 use Rattle.link_rules.specs.Marks.{live, unresolved, refs_of}
 use Rattle.link_rules.specs.Keys.{FunctionKey, GlobalKey, outside, linker_function, stub, own, outside_global, linker_global, own_global, got, same_function, same_global, functions, globals, function_imports_of, used_globals, stub_names, calls_stub, made_function_key, own_function_key, made_global_key, own_global_key, ref_function, ref_global, ref_got, meant_function, meant_global, function_of, global_of, imports_in_order, is_function_type, is_global_type, has_import, used_imports, imports_by, import_of, is_null, got_entries, datum_key, function_number, global_number, callable}
-use Rattle.link_worlds.specs.Names.{all_functions, all_cells, null_name, renaming, FunctionGets, CellGets}
+use Rattle.link_worlds.specs.Names.{all_functions, all_cells, null_name, renaming, function_place, callee, FunctionGets, CellGets}
 use Rattle.link_rules.specs.Output.{layout}
 use Rattle.link_worlds.specs.Sound.{Sound, SoundRef, SoundHere, SoundImport, SoundNull, SoundMeaning, PartOf}
 use Rattle.link_worlds.proofs.Keys.{bytes_equal, bytes_itself, import_itself, functions_same, globals_same}
@@ -124,6 +124,12 @@ module _ (law : ReachedLaw) (p : Program) (exports : List InputSymbol) (sound : 
     not_nothing : ref.meaning ≡ nothing → ⊥
     not_nothing m = resolved p (live p exports) ref open' in_refs (said.known (ap is_nothing m)) m
 
+    leads : (m : Meaning) → ref.meaning ≡ m → is_nothing m ≡ false
+    leads (here e) m = refl
+    leads (imported k) m = refl
+    leads null m = refl
+    leads nothing m = absurd (not_nothing m)
+
     used : (k : ImportKey) → ref.meaning ≡ imported k → has_import (used_imports (filter (imports_by Plain) (refs_of (live p exports)))) k ≡ true
     used k m = any_has (same_import k) (used_imports (filter (imports_by Plain) (refs_of (live p exports)))) k
         (pick_has (λ (x : Ref). import_of x.meaning) (filter (imports_by Plain) (refs_of (live p exports))) ref k (filter_has (imports_by Plain) (refs_of (live p exports)) ref in_refs refl) (ap import_of m)) (import_itself k)
@@ -195,6 +201,12 @@ module _ (law : ReachedLaw) (p : Program) (exports : List InputSymbol) (sound : 
           let b = by_meaning ref.meaning refl said.meant in
           let n = number_pairs same_function functions_same (all_functions p) (functions Plain p (live p exports)) (ref_function ref) b.1.0 b.0.0 b.1.1 b.1.2 b.0.1 b.0.2 in
           subst (λ o. FunctionGets (renaming p (layout Plain p (live p exports) exports)) o (function_number (layout Plain p (live p exports) exports).numbers (ref_function ref))) (sym n.1) n.2
+
+      -- the same of the function that it calls
+      pub callee_pairs : FunctionGets (renaming p (layout Plain p (live p exports) exports)) (callee p ref) (function_number (layout Plain p (live p exports) exports).numbers (ref_function ref))
+      callee_pairs =
+          let same : callee p ref ≡ function_place p (ref_function ref) = cond-false (is_nothing ref.meaning) None (function_place p (ref_function ref)) (leads ref.meaning refl) in
+          subst (λ o. FunctionGets (renaming p (layout Plain p (live p exports) exports)) o (function_number (layout Plain p (live p exports) exports).numbers (ref_function ref))) (sym same) function_pairs
 
     -- cells
     module _ (seven : ref.kind ≡ 7) where

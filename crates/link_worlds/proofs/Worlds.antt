@@ -30,11 +30,11 @@ use Rattle.link_rules.specs.Marks.{live, refs_of}
 use Rattle.link_rules.specs.Keys.{GlobalKey, outside, outside_global, linker_global, own_global, got, exported_datum, globals, defined_globals, used_globals, made_global_key, own_global_key, got_entries, datum_key, is_function_type, is_global_type, has_import, used_imports, imports_by, imports_in_order, function_number, ref_function, type_place}
 use Rattle.link_rules.specs.Values.{Layout, solid_segments, windows}
 use Rattle.link_rules.specs.Output.{layout, image, source_windows, imports, memory, first_address, placed_source, body_of, body_windows, defined, global_for}
-use Rattle.link_worlds.specs.Names.{renaming, all_cells, function_place, number_at, FunctionGets, RefGets}
+use Rattle.link_worlds.specs.Names.{renaming, all_cells, callee, number_at, FunctionGets, RefGets}
 use Rattle.link_worlds.specs.Worlds.{layout_of, world_by, start_by, plan_world, plan_start, plan_trace, module_by, linked_module, segment_block, zero_segments, pages_at_first, plan_memory, cell_value}
 use Rattle.link_worlds.specs.Sound.{Sound}
 use Rattle.link_worlds.specs.Statements.{LinkedBy, Holds, WorldsPair, StartsPair, RunsAgree}
-use Rattle.link_worlds.proofs.Refs.{function_pairs}
+use Rattle.link_worlds.proofs.Refs.{callee_pairs}
 use Rattle.link_worlds.proofs.Cells.{cells_free}
 use Rattle.link_worlds.proofs.Apart.{imports_apart, cells_apart}
 use Rattle.link_worlds.proofs.Every.{in_range, ref_gets}
@@ -151,8 +151,8 @@ module _ (law : ReachedLaw) (s : Session) (p : Program) (exports : List InputSym
   gets : (part : Part) (ref : Ref) → Has parts' part → part.chunk.kind ≡ 0 → (part.chunk.input ≡ 0 → ⊥) → Has part.named (a_symbol ref) → RefGets p lay' ref
   gets part ref h k z m = ref_gets p exports part ref lk.sound lk.resolved h (listed part ref m) law (lk.in_range part (a_symbol ref) h k z m)
 
-  called : (part : Part) (ref : Ref) → Has parts' part → part.chunk.input ≡ 0 → Has (refs part) ref → FunctionGets (renaming p lay') (function_place p (ref_function ref)) (function_number lay'.numbers (ref_function ref))
-  called part ref h z r = function_pairs law p exports lk.sound part ref lk.resolved h r (lk.calls part ref h z r)
+  called : (part : Part) (ref : Ref) → Has parts' part → part.chunk.input ≡ 0 → Has (refs part) ref → FunctionGets (renaming p lay') (callee p ref) (function_number lay'.numbers (ref_function ref))
+  called part ref h z r = callee_pairs law p exports lk.sound part ref lk.resolved h r (lk.calls part ref h z r)
 
   numbered : (part : Part) (w : TypeWindow) → Has parts' part → part.chunk.kind ≡ 0 → (part.chunk.input ≡ 0 → ⊥) → Has part.named (a_type w) → number_at lay' (a_type w) ≡ type_place lay'.numbers w.type
   numbered part w h k z m = in_range w.place (type_place lay'.numbers w.type) Unsigned5 (lk.in_range part (a_type w) h k z m)

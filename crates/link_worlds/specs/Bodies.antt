@@ -21,7 +21,7 @@ use Rattle.run_rules.specs.Ops.{block_type, opening, cell_op}
 use Rattle.link_rules.specs.Program.{Program, Part, Ref, Named, a_symbol, a_type, refs}
 use Rattle.link_rules.specs.Keys.{FunctionKey, outside, linker_function, stub, own, is_function_at, function_number, ref_function, ref_global, ref_got}
 use Rattle.link_rules.specs.Values.{Layout, part_bytes, got_value}
-use Rattle.link_worlds.specs.Names.{function_place, cell_place, number_at}
+use Rattle.link_worlds.specs.Names.{callee, cell_place, number_at}
 
 -- ---- what stands at a place of a body
 
@@ -46,7 +46,7 @@ to_name f (Some k) = f k
 module _ (p : Program) (l : Layout) where
   abbrev pub called : Option Named → Op
   called None = Absent
-  called (Some (a_symbol ref)) = to_name CallTo (function_place p (ref_function ref))
+  called (Some (a_symbol ref)) = to_name CallTo (callee p ref)
   called (Some (a_type w)) = Absent
 
   abbrev pub called_through : Option Named → Op
@@ -104,7 +104,7 @@ module _ (p : Program) (l : Layout) where
 
   -- The linker's function that calls the init functions.
   abbrev pub call_of : Ref → Op
-  call_of ref = to_name CallTo (function_place p (ref_function ref))
+  call_of ref = to_name CallTo (callee p ref)
 
   abbrev pub plan_calls : Option Part → Source
   plan_calls None = Nowhere

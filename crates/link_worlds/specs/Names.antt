@@ -1,10 +1,11 @@
 -- The names of functions and cells in the program as it is before it is linked, and the numbers that the output has for them. A name is a
 -- key of the link's own definitions, so that nothing is named twice; its place in the list of all keys stands for it in a run.
-use Rattle.std.specs.Prelude.{◌≡◌, true, false, ℕ, ◌&&◌, List, ◌++◌, map, filter, filter_map, position, slice_get, Option, Some, None, option_and_then, bytes_eq}
+use Rattle.std.specs.Prelude.{◌≡◌, true, false, ℕ, ◌&&◌, List, ◌++◌, map, filter, filter_map, position, slice_get, if◌then◌else◌, Option, Some, None, option_and_then, bytes_eq}
 use Rattle.wl_base.specs.Choice.{given, distinct}
 use Rattle.linking_section.specs.declared.symbol.SymbolKind.TheVariants.{Function, GlobalVar}
 use Rattle.made_symbols.specs.declared.mode.Mode.TheVariants.{Plain}
 use Rattle.name_rules.specs.Entries.{is_kind, name_of}
+use Rattle.name_rules.specs.Meanings.{is_nothing}
 use Rattle.reloc_apply.specs.Windows.{bits32, value}
 use Rattle.sim_laws.specs.Pairs.{Renaming}
 use Rattle.link_rules.specs.Program.{Program, Ref, Named, a_symbol}
@@ -35,6 +36,10 @@ all_cells p =
 
 abbrev pub function_place : Program → FunctionKey → Option ℕ
 function_place p k = position (same_function k) (all_functions p)
+
+-- The function that a reference calls. One whose symbol leads nowhere, as that of a dropped part, calls none; no live reference is such.
+abbrev pub callee : Program → Ref → Option ℕ
+callee p ref = if is_nothing ref.meaning then None else function_place p (ref_function ref)
 
 abbrev pub cell_place : Program → GlobalKey → Option ℕ
 cell_place p k = position (same_global k) (all_cells p)
@@ -73,7 +78,7 @@ CellGets r (Some c) d = r.cell c ≡ Some d
 -- What the number in a reference's window is the number of, by what the reference names. A reference's kind is its relocation's type
 -- (Linking.md, "Relocation Sections"): 0 is a function's index, 7 a global's, 20 a table's.
 pub record RefGets (p : Program) (l : Layout) (ref : Ref) : Type 0 where
-  pub function : ref.kind ≡ 0 → FunctionGets (renaming p l) (function_place p (ref_function ref)) (number_at l (a_symbol ref))
+  pub function : ref.kind ≡ 0 → FunctionGets (renaming p l) (callee p ref) (number_at l (a_symbol ref))
   pub cell : ref.kind ≡ 7 → is_kind GlobalVar ref.entry ≡ true → CellGets (renaming p l) (cell_place p (ref_global Plain ref)) (number_at l (a_symbol ref))
   pub held : ref.kind ≡ 7 → is_kind GlobalVar ref.entry ≡ false → (renaming p l).constant (number_at l (a_symbol ref)) ≡ Some (got_value Plain l (ref_got ref))
   pub table : ref.kind ≡ 20 → number_at l (a_symbol ref) ≡ 0

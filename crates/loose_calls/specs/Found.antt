@@ -42,7 +42,7 @@ pub record Grows (test : InputSymbol → Bool) (count : ℕ) (es : List InputSym
   pub called : new.called ≡ old.called ++ called_onto test (count + length old.variants) (length old.called) es
   pub variants : new.variants ≡ old.variants ++ map variant_seen (filter test es)
 
--- They are those of the symbols of all objects, in a link that is like lld's.
+-- They are those of the symbols of all objects, in a link with loose calls.
 pub record AreCalls (allow : Bool) (objects : List Object) (c : Calls) : Type 0 where
   pub called : c.called ≡ called_onto (loosens true allow objects) (length (all_symbols objects)) 0 (all_symbols objects)
   pub variants : c.variants ≡ map variant_seen (filter (loosens true allow objects) (all_symbols objects))

@@ -29,12 +29,12 @@ pub(crate) struct Calls {
 
 /// What is asked of symbols.
 #[derive(Clone, Copy)]
-struct Asking<'a> {
-    entries: Entries<'a>,
-    resolution: &'a Resolution,
-    judges: &'a Judges,
+pub(crate) struct Asking<'a> {
+    pub(crate) entries: Entries<'a>,
+    pub(crate) resolution: &'a Resolution,
+    pub(crate) judges: &'a Judges,
     /// How many symbols all objects have.
-    count: u32,
+    pub(crate) count: u32,
 }
 
 /// Whether it is a definition.
@@ -73,7 +73,7 @@ fn few(count: usize) -> Result<u32, OutOfMemory>
 
 impl Asking<'_> {
     /// Whether the symbol at a place of an object means a definition of another type.
-    fn is_loose(self, object: u32, place: u32) -> bool
+    pub(crate) fn is_loose(self, object: u32, place: u32) -> bool
         ghost allow: { Bool }
         requires asked { CanAsk allow self }
         requires there { IsSome (entry_at self.entries.objects.now object place) }
@@ -172,7 +172,7 @@ impl Calls {
 }
 
 /// How many symbols all objects have.
-fn count_symbols(entries: Entries<'_>) -> Result<u32, OutOfMemory>
+pub(crate) fn count_symbols(entries: Entries<'_>) -> Result<u32, OutOfMemory>
     requires { FitsObjects entries }
     ensures { IfOk result (λ count. count ≡ length (all_symbols entries.entry.objects.now)) }
 {

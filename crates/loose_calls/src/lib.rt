@@ -1,4 +1,4 @@
-//! Calls of functions by another type than their definition has, in a link that is like lld's: what declarations without a prototype make.
+//! Calls of functions by another type than their definition has, in a link with loose calls: what declarations without a prototype make.
 //! Each is a call of the variant of the function for this type, which is null, so that it traps: one symbol more for each symbol that is
 //! called so, with a name of its own for each function and type. A link without such calls has none of this.
 #![tactic(auto)]
@@ -7,6 +7,8 @@ mod finding;
 mod interning;
 mod loosening;
 mod naming;
+mod telling;
 mod variant;
 
 pub use loosening::loosened;
+pub use telling::mismatches;

@@ -1,4 +1,4 @@
-//! What calls name in a link, by whether it is like lld's.
+//! What calls name in a link, by whether calls are loose.
 ghost use Rattle.std.specs.Prelude.{◌≡◌, ◌++◌, ◌<◌, ◌^◌, false, Bool, IfOk, OnOk, All, bytes_eq, length};
 ghost use Rattle.std.specs.List.{list_any};
 ghost use Rattle.link_program.specs.made_symbols.declared.mode.Mode.TheVariants as modes;
@@ -19,7 +19,7 @@ use program_tables::Loose;
 use std::alloc::Global;
 use wl_base::OutOfMemory;
 
-/// What calls of the symbols of all objects name. In a link that is like lld's a call of a function by another type than its definition
+/// What calls of the symbols of all objects name. In a link with loose calls a call of a function by another type than its definition
 /// has names a variant, whose name goes behind all others.
 pub fn loosened(
     alloc: Global,
@@ -27,20 +27,20 @@ pub fn loosened(
     entries: &EntryTable,
     objects: &[Object],
     resolution: &Resolution,
-    like_lld: bool,
+    loose_calls: bool,
 ) -> Result<Loose, OutOfMemory>
     ghost allow: { Bool }
     requires numbers { AreNumbers modes.Plain objects.now names.old }
     requires rise { InputsRise 0 objects.now }
     requires table { IsTable objects.now names.old entries.now }
     requires resolution { IsResolution resolution.now (resolve modes.Plain allow (all_entries modes.Plain objects.now) objects.now) }
-    ensures loose { IfOk result (IsLoose like_lld allow names.new.names resolution.now.imports objects.now) }
-    ensures names { OnOk result (names.new.names ≡ names.old.names ++ variant_names (variants_in like_lld allow objects.now)) }
+    ensures loose { IfOk result (IsLoose loose_calls allow names.new.names resolution.now.imports objects.now) }
+    ensures names { OnOk result (names.new.names ≡ names.old.names ++ variant_names (variants_in loose_calls allow objects.now)) }
     ensures stays { OnOk result (Stays names.old names.new) }
     ensures few { OnOk result (length names.new.names < 2 ^ 32) }
-    ensures apart { OnOk result (All (λ v. list_any (bytes_eq (name_of v)) names.old.names ≡ false) (variants_in like_lld allow objects.now)) }
+    ensures apart { OnOk result (All (λ v. list_any (bytes_eq (name_of v)) names.old.names ≡ false) (variants_in loose_calls allow objects.now)) }
 {
-    if !like_lld {
+    if !loose_calls {
         names.count();
         return Ok(Loose::none(alloc));
     }

@@ -45,7 +45,7 @@ fn renamed(alloc: Global, t: TypeRef<'_>, name: &[u8]) -> Result<Name, OutOfMemo
 }
 
 /// The type of a function.
-fn function_type(alloc: Global, t: TypeRef<'_>) -> Result<FuncType, OutOfMemory>
+pub(crate) fn function_type(alloc: Global, t: TypeRef<'_>) -> Result<FuncType, OutOfMemory>
     ensures { IfOk result (λ own. own ≡ function_type_of (type_seen t.entry)) }
 {
     match t {
@@ -58,7 +58,7 @@ fn function_type(alloc: Global, t: TypeRef<'_>) -> Result<FuncType, OutOfMemory>
 }
 
 /// The name of a symbol; empty where it has none.
-fn name_of<'a>(symbol: SymbolRef<'a>) -> &'a [u8]
+pub(crate) fn name_of<'a>(symbol: SymbolRef<'a>) -> &'a [u8]
     ensures { result.now ≡ unwrap_or (symbol_seen symbol.entry).name [] }
 {
     match symbol.name {
@@ -85,7 +85,7 @@ fn variant_by(
 }
 
 /// The type of the symbol at a place of an object.
-fn type_at<'a>(entries: Entries<'a>, object: u32, place: u32) -> TypeRef<'a>
+pub(crate) fn type_at<'a>(entries: Entries<'a>, object: u32, place: u32) -> TypeRef<'a>
     requires fits { FitsObjects entries }
     requires there { IsSome (entry_at entries.objects.now object place) }
     ensures { (e : InputSymbol) → entry_at entries.entry.objects.now object place ≡ Some e → type_seen result ≡ e.type }

@@ -1,4 +1,4 @@
-//! Objects, from their sections to the whole: what is told of spelled bytes, and the first rule that others break.
+//! Objects as they are kept and read whole: what is told of spelled bytes, and the first rule that others break.
 #![tactic(auto)]
 
 #[cfg(test)]
@@ -6,12 +6,4 @@ mod columns;
 #[cfg(test)]
 mod object;
 #[cfg(test)]
-mod parts;
-#[cfg(test)]
 mod refused;
-#[cfg(test)]
-mod rules;
-#[cfg(test)]
-mod short_forms;
-#[cfg(test)]
-mod windows;

@@ -39,6 +39,7 @@ bare plan = record {
   validate = false;
   keep_debug = false;
   like_lld = false;
+  loose_calls = false;
 }
 
 -- The first input from a place on that is a library or stands between `--start-lib` and `--end-lib`.

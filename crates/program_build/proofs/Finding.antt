@@ -72,7 +72,7 @@ module _ (mode : Mode) (origin : Origin) (objects : List Object) where
   names_many fault numbered =
       too_many (program mode origin objects) fault (many mode (program mode origin objects) entries_are numbered.1 ∙ ap (λ x. Some x) (sym numbered.0))
 
-  case_is : (n : names.Numbered) (o : Option Fault) → Numbered mode (Ok n) origin.plan objects → case_of origin.plan.like_lld (entries mode objects) ≡ o
+  case_is : (n : names.Numbered) (o : Option Fault) → Numbered mode (Ok n) origin.plan objects → case_of origin.plan.loose_calls (entries mode objects) ≡ o
       → found_of (program mode origin objects) ≡ unless o (program mode origin objects)
   unfolding program_of
   case_is n o numbered is = a_case (program mode origin objects) o (names_few n numbered) is
@@ -106,7 +106,7 @@ all_mapped P f (x ∷ xs) all = All-cons P (f x) (map f xs) (All-head (λ x. P (
 module _ (origin : Origin) (objects : List Object) (n m : names.Numbered) (table : EntryTable) (ms : Meanings) (homes : List Home) (loaded : IsLoaded origin.files origin.all objects homes)
     (meant : AreMeant origin objects n table ms) (stays : Stays n m) (few : length m.names < 2 ^ 32) where
   abbrev variants : List InputSymbol
-  variants = variants_in origin.plan.like_lld origin.plan.allow_undefined objects
+  variants = variants_in origin.plan.loose_calls origin.plan.allow_undefined objects
 
   module _ (behind : m.names ≡ n.names ++ variant_names variants) (apart : All (λ (v : InputSymbol). list_any (bytes_eq (name_of v)) n.names ≡ false) variants) where
     all_apart : All (IsNot n.names) (map name_of variants)

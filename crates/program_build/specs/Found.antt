@@ -26,7 +26,7 @@ use Rattle.program_build.specs.declared.found.Found.{Found}
 abbrev pub found_of : Program → Result Program Fault
 found_of p = do
   p ← unless (too_many_names p) p
-  p ← unless (clash_by p.plan.like_lld p.entries) p
+  p ← unless (clash_by p.plan.loose_calls p.entries) p
   unless (duplicate p.entries) p
 
 -- What was found by this plan of these objects is what the definition finds.
@@ -37,8 +37,8 @@ pub record IsFound (mode : Mode) (asked : Plan) (loaded : List Object) (f : Foun
   pub entries : p.entries ≡ entries mode p.objects
   pub winners_are : p.winners ≡ winners_of p.entries
   pub resolved : p.resolved ≡ resolve mode p.plan.allow_undefined p.entries p.objects
-  pub parts_are : (all : List Candidate) × (p.parts ≡ loose_parts p.plan.like_lld p.entries (parts_of mode all p.objects p.resolved))
-  pub variants_are : p.variants ≡ loose_variants p.plan.like_lld p.entries p.resolved
+  pub parts_are : (all : List Candidate) × (p.parts ≡ loose_parts p.plan.loose_calls p.entries (parts_of mode all p.objects p.resolved))
+  pub variants_are : p.variants ≡ loose_variants p.plan.loose_calls p.entries p.resolved
   -- names, winners and meanings by number
   pub numbers : AreNumbers mode p.objects f.names
   pub order : f.names.names ≡ different_names mode (asked_names p.plan ++ p.plan.exports_if) p.objects ++ variant_names p.variants

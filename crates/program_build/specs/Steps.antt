@@ -38,7 +38,7 @@ Numbered mode (Err OutOfMemory) plan objects = Unit {0}
 
 -- The least clash, else the least duplicate.
 abbrev pub case_of : Bool → List InputSymbol → Option Fault
-case_of like_lld es = first_some (clash_by like_lld es ∷ duplicate es ∷ [])
+case_of loose_calls es = first_some (clash_by loose_calls es ∷ duplicate es ∷ [])
 
 -- ---- meanings
 
@@ -49,8 +49,8 @@ pub record AreMeanings (mode : Mode) (m : Meanings) (origin : Origin) (objects :
   pub past : NonePast (length held) m.ranks
 
 abbrev pub MeansOrRefused : Mode → Result Meanings LinkError → Origin → List Object → List (List ℕ) → Type 0
-MeansOrRefused mode (Ok m) origin objects held = (case_of origin.plan.like_lld (entries mode objects) ≡ None) × AreMeanings mode m origin objects held
-MeansOrRefused mode (Err (Refused fault)) origin objects held = case_of origin.plan.like_lld (entries mode objects) ≡ Some fault
+MeansOrRefused mode (Ok m) origin objects held = (case_of origin.plan.loose_calls (entries mode objects) ≡ None) × AreMeanings mode m origin objects held
+MeansOrRefused mode (Err (Refused fault)) origin objects held = case_of origin.plan.loose_calls (entries mode objects) ≡ Some fault
 MeansOrRefused mode (Err OutOfMemory) origin objects held = Unit {0}
 
 -- The numbers of names, what is looked up of objects and what names mean, before variants have names.

@@ -48,7 +48,7 @@ fn found_by<R: Threads + Sync>(
         &entries,
         objects,
         &resolution,
-        plan.like_lld,
+        plan.loose_calls,
     )?;
     let view = entries.view(objects, &names);
     let tables = tables_of(rt, alloc, view, &ranks, &resolution, homes, &loose, workers)?;

@@ -40,19 +40,19 @@ fn duplicate_of(alloc: Global, names: &Names, case: PairCase) -> Result<Fault, O
     })
 }
 
-/// The least clash, for a link that is like lld's or not.
+/// The least clash, for a link with loose calls or without.
 fn clash_in<R: Threads + Sync>(
     rt: &R,
     alloc: Global,
     view: Entries<'_>,
-    like_lld: bool,
+    loose_calls: bool,
     workers: Workers,
 ) -> Result<Option<PairCase>, OutOfMemory>
     requires { Fits modes.Plain view }
-    ensures is { IfOk result (λ c. option_map (clash_told view.entry.names.now.names) c ≡ clash_by like_lld (entries modes.Plain view.entry.objects.now)) }
+    ensures is { IfOk result (λ c. option_map (clash_told view.entry.names.now.names) c ≡ clash_by loose_calls (entries modes.Plain view.entry.objects.now)) }
     ensures named { IfOk result (λ c. IsNamed view.entry.names.now.names c) }
 {
-    if like_lld {
+    if loose_calls {
         first_loose_clash(rt, alloc, view, Mode::Plain, workers)
     } else {
         first_clash(rt, alloc, view, Mode::Plain, workers)
@@ -64,13 +64,13 @@ pub(crate) fn refuse_cases<R: Threads + Sync>(
     rt: &R,
     alloc: Global,
     view: Entries<'_>,
-    like_lld: bool,
+    loose_calls: bool,
     workers: Workers,
 ) -> Result<(), LinkError>
     requires { Fits modes.Plain view }
-    ensures { Passes result (case_of like_lld (entries modes.Plain view.entry.objects.now)) }
+    ensures { Passes result (case_of loose_calls (entries modes.Plain view.entry.objects.now)) }
 {
-    if let Some(case) = clash_in(rt, alloc, view, like_lld, workers)? {
+    if let Some(case) = clash_in(rt, alloc, view, loose_calls, workers)? {
         return Err(LinkError::Refused(clash_of(alloc, view.names, case)?));
     }
     if let Some(case) = first_duplicate(rt, alloc, view, Mode::Plain, workers)? {

@@ -39,7 +39,7 @@ pub(crate) fn meanings_of<G: Gate, R: Threads + Sync>(
     ensures { MeansOrRefused modes.Plain result origin view.entry.objects.now view.entry.names.now.names }
 {
     let ranks = name_winners(rt, alloc, view, Mode::Plain, workers, gate)?;
-    refuse_cases(rt, alloc, view, plan.like_lld, workers)?;
+    refuse_cases(rt, alloc, view, plan.loose_calls, workers)?;
     let resolution = resolve(alloc, view, &ranks, plan.allow_undefined, Mode::Plain)?;
     Ok(Meanings { ranks, resolution })
 }

@@ -113,7 +113,7 @@ module _ (like : Bool) (es : List InputSymbol) (symbols : List Symbol) (types : 
 
 -- What the tables are made of.
 pub record AreMade (s : Sources) (origin : Origin) (ranks : List (Option ℕ)) (lo : Loose) (l : Lookups) (t : Tables) : Type 0 where
-  pub lookups : AreLookups s t.types origin.all origin.plan.like_lld origin.plan.allow_undefined lo l
+  pub lookups : AreLookups s t.types origin.all origin.plan.loose_calls origin.plan.allow_undefined lo l
   pub ranked : IsRanked s.entries.objects.now s.entries.names.now ranks
   pub symbols : t.symbols ≡ all_symbols s ++ lo.symbols
   pub few_symbols : length t.symbols < 2 ^ 32
@@ -132,7 +132,7 @@ tables_are s origin ranks lo l t made =
     let names = s.entries.names.now.names in
     let imports = s.resolution.now.imports in
     let objects = s.entries.objects.now in
-    let like = origin.plan.like_lld in
+    let like = origin.plan.loose_calls in
     let es = entries Plain objects in
     let rows = all_rows l in
     let resolved = resolve Plain origin.plan.allow_undefined es objects in

@@ -47,7 +47,7 @@ pub fn tables_of<R: Threads + Sync>(
     requires resolution { IsResolution resolution.now
         (resolve modes.Plain origin.plan.allow_undefined (all_entries modes.Plain entries.objects.now) entries.objects.now) }
     requires loaded { IsLoaded origin.files origin.all entries.objects.now homes.now }
-    requires loose { IsLoose origin.plan.like_lld origin.plan.allow_undefined entries.names.now.names resolution.now.imports entries.objects.now loose.now }
+    requires loose { IsLoose origin.plan.loose_calls origin.plan.allow_undefined entries.names.now.names resolution.now.imports entries.objects.now loose.now }
     ensures { IfOk result (λ tables. AreTables entries.entry.names.now.names resolution.now.imports tables
         (program_of modes.Plain origin.plan origin.files origin.all entries.entry.objects.now)) }
 {

@@ -1,4 +1,4 @@
--- Where a link gives bytes, the machine of modules gives the trace of the plan and the files, and the machine of objects no other.
+-- Where a link gives bytes, the machine of modules and the machine of objects both give the trace of the plan and the files.
 use Rattle.std.specs.Prelude.{◌≡◌, ℕ, List, length, unwrap_or, Ok}
 use Rattle.object_file.specs.declared.object.Object.{Object}
 use Rattle.round_rules.specs.Rounds.{Candidate, load}
@@ -7,7 +7,6 @@ use Rattle.link_plan.specs.Plan.{IsPlan}
 use Rattle.made_symbols.specs.declared.mode.Mode.TheVariants.{Plain}
 use Rattle.name_rules.specs.Entries.{InputSymbol}
 use Rattle.run_rules.specs.declared.session.Session.{Session}
-use Rattle.run_rules.specs.declared.trace.Trace.{Trace}
 use Rattle.link_rules.specs.Candidates.{candidates_of}
 use Rattle.link_rules.specs.LinkOf.{asked_names, the_readers, link_of}
 use Rattle.link_rules.specs.Marks.{exported}
@@ -23,10 +22,9 @@ use Rattle.run_laws.specs.Objects.{objects_of}
 abbrev pub ModuleRuns : Program → List InputSymbol → List ℕ → Type 0
 ModuleRuns p exports bytes = (s : Session) (n : ℕ) → Enough s (layout_of p exports) → run_of_bytes s bytes n ≡ Traced (plan_trace s p exports n)
 
--- What `run_sym` gives of the objects, `run_mod` gives of the bytes.
-abbrev pub SameTraces : Program → List InputSymbol → List ℕ → Type 0
-SameTraces p exports bytes = (s : Session) (n : ℕ) (trace : Trace) → Enough s (layout_of p exports)
-    → run_of_sym s (objects_of p exports) n ≡ Traced trace → run_of_bytes s bytes n ≡ Traced trace
+-- The segments of the objects fit, and `run_sym` gives this trace too.
+abbrev pub ObjectsRun : Program → List InputSymbol → Type 0
+ObjectsRun p exports = (s : Session) (n : ℕ) → Enough s (layout_of p exports) → run_of_sym s (objects_of p exports) n ≡ Traced (plan_trace s p exports n)
 
 -- The same of the objects that a link loads.
 pub record Agree (plan : Plan) (files : List (List ℕ)) (bytes : List ℕ) : Type 0 where
@@ -35,7 +33,7 @@ pub record Agree (plan : Plan) (files : List (List ℕ)) (bytes : List ℕ) : Ty
   pub found : candidates_of the_readers plan files ≡ Ok all
   pub loaded : load Plain (asked_names plan) all ≡ Ok objects
   pub runs : ModuleRuns (program_of Plain plan files all objects) (exported Plain (program_of Plain plan files all objects)) bytes
-  pub same : SameTraces (program_of Plain plan files all objects) (exported Plain (program_of Plain plan files all objects)) bytes
+  pub same : ObjectsRun (program_of Plain plan files all objects) (exported Plain (program_of Plain plan files all objects))
 
 -- So it is of each link that gives bytes.
 abbrev pub TracesAgree : Type 0

@@ -4,8 +4,8 @@
 
 ghost use Rattle.run_laws.specs.Agree.{TracesAgree};
 
-/// Where `link_of` gives bytes, `run_mod` on them comes to the trace of the plan and the files, for each session that gives an imported
-/// memory enough pages, and each number of steps; and the trace of `run_sym` on the objects that it loads is the same.
+/// Where `link_of` gives bytes, `run_mod` on them and `run_sym` on the objects that it loads come to the trace of the plan and the files, and
+/// to no segment outside, for each session that gives an imported memory enough pages, and each number of steps.
 pub fn traces_agree()
     ensures { TracesAgree }
 {

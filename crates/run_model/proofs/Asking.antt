@@ -22,7 +22,8 @@ use Rattle.run_model.specs.declared.state.Running.{Running}
 use Rattle.run_model.specs.declared.state.Active.{Active}
 use Rattle.run_model.specs.declared.state.After.{After}
 use Rattle.run_model.specs.declared.state.After.TheVariants as after
-use Rattle.run_model.specs.Views.{Turns, hosting, asking_in, frame_of, inner_of, turn_of}
+use Rattle.run_model.specs.declared.state.Stop.{Stop}
+use Rattle.run_model.specs.Views.{Turns, hosting, asking_in, event_of, frame_of, inner_of, turn_of}
 use Rattle.run_model.proofs.Turning.{over_stays, ended_stays, turned_after}
 
 -- ---- in a call
@@ -115,9 +116,9 @@ module _ (s : Session) (cells : Cells) (old j k : Active) (t : FuncType) (event 
       ∙ ap (hosted cells (inner_of idle_in)) (subst (λ (x : After). Turns answer x idle_in k) is turns)
       ∙ ap (λ (vs : List Value). over cells (inner_of k) (events.Returned vs)) (sym (turned_round ∙ ap (λ (l : List Value). reverse l) taken))
 
-  pub host_leaves : (vs : List Value) → a ≡ after.Leaves vs → hosting s cells (inner_of old) t event ≡ ended cells (inner_of k) events.Stuck
-  host_leaves vs is =
-      let gone : Turns answer (after.Leaves vs) idle_in k = subst (λ (x : After). Turns answer x idle_in k) is turns in
+  pub host_leaves : a ≡ after.Leaves → hosting s cells (inner_of old) t event ≡ ended cells (inner_of k) events.Stuck
+  host_leaves is =
+      let gone : Turns answer after.Leaves idle_in k = subst (λ (x : After). Turns answer x idle_in k) is turns in
       led ∙ ap (hosted cells (inner_of idle_in)) gone.0 ∙ ended_stays cells idle_in k events.Stuck gone.1
 
   pub host_traps : (x : TrapKind) → a ≡ after.Traps x → hosting s cells (inner_of old) t event ≡ over cells (inner_of k) (events.Trapped x)
@@ -125,7 +126,7 @@ module _ (s : Session) (cells : Cells) (old j k : Active) (t : FuncType) (event 
       let gone : Turns answer (after.Traps x) idle_in k = subst (λ (y : After). Turns answer y idle_in k) is turns in
       led ∙ ap (hosted cells (inner_of idle_in)) gone.0 ∙ over_stays cells idle_in k (events.Trapped x) gone.1
 
-  pub host_ends : (e : Event) → a ≡ after.Ends e → hosting s cells (inner_of old) t event ≡ ended cells (inner_of k) e
-  host_ends e is =
-      let gone : Turns answer (after.Ends e) idle_in k = subst (λ (x : After). Turns answer x idle_in k) is turns in
-      led ∙ ap (hosted cells (inner_of idle_in)) gone.0 ∙ ended_stays cells idle_in k e gone.1
+  pub host_ends : (x : Stop) → a ≡ after.Ends x → hosting s cells (inner_of old) t event ≡ ended cells (inner_of k) (event_of x)
+  host_ends x is =
+      let gone : Turns answer (after.Ends x) idle_in k = subst (λ (y : After). Turns answer y idle_in k) is turns in
+      led ∙ ap (hosted cells (inner_of idle_in)) gone.0 ∙ ended_stays cells idle_in k (event_of x) gone.1

@@ -7,12 +7,12 @@ ghost use Rattle.run_rules.specs.Own.{with_memory};
 ghost use Rattle.run_model.specs.Access.{reach_of, wide_of, IsKnown, IsSound};
 ghost use Rattle.run_model.specs.Views.{Turns, inner_of};
 
-use crate::state::{Active, After};
+use crate::state::{Active, After, Stop};
 use run_numbers::{
     extend_8_32, extend_8_64, extend_16_32, extend_16_64, extend_32_64, number_1, number_2,
     number_4, number_8, number_of, put_at,
 };
-use run_rules::{Event, TrapKind, Value};
+use run_rules::{TrapKind, Value};
 use wasm_types::ValType;
 use wl_base::OutOfMemory;
 
@@ -179,7 +179,7 @@ fn store_at(inner: &mut Active, w: Wide, at: usize, n: Option<u64>) -> After
         result inner.old inner.new }
 {
     let Some(n) = n else {
-        return After::Ends(Event::Stuck);
+        return After::Ends(Stop::Stuck);
     };
     if inner.memory.len() < at + w.bytes {
         return After::Traps(TrapKind::MemoryBounds);
@@ -201,30 +201,30 @@ pub(crate) fn access(
         Turns (reached memory (inner_of inner.old) op offset (reach op)) after inner.old inner.new) }
 {
     match reach_at(op) {
-        Reached::Carries => Ok(After::Ends(Event::Carried(op, 0))),
-        Reached::Neither => Ok(After::Ends(Event::Stuck)),
+        Reached::Carries => Ok(After::Ends(Stop::Carried(op, 0))),
+        Reached::Neither => Ok(After::Ends(Stop::Stuck)),
         Reached::Loads(w) => {
             if memory.is_none() {
-                return Ok(After::Ends(Event::Stuck));
+                return Ok(After::Ends(Stop::Stuck));
             }
             match inner.frame.layered.pop() {
                 Some(Value::I32(a)) => load_at(inner, w, a as usize + offset as usize),
-                _ => Ok(After::Ends(Event::Stuck)),
+                _ => Ok(After::Ends(Stop::Stuck)),
             }
         }
         Reached::Stores(w) => {
             if memory.is_none() {
-                return Ok(After::Ends(Event::Stuck));
+                return Ok(After::Ends(Stop::Stuck));
             }
             let Some(v) = inner.frame.layered.pop() else {
-                return Ok(After::Ends(Event::Stuck));
+                return Ok(After::Ends(Stop::Stuck));
             };
             match inner.frame.layered.pop() {
                 Some(Value::I32(a)) => {
                     let n = number_of(w.kind, v);
                     Ok(store_at(inner, w, a as usize + offset as usize, n))
                 }
-                _ => Ok(After::Ends(Event::Stuck)),
+                _ => Ok(After::Ends(Stop::Stuck)),
             }
         }
     }

@@ -4,10 +4,10 @@ ghost use Rattle.run_rules.specs.Runs.{begin as begin_of, begin_as as begin_as_o
 ghost use Rattle.run_model.specs.Views.{Steps, hosting, inner_of, state_of};
 
 use crate::calls::function_at;
-use crate::frames::{blank, end, finish, new_frame};
+use crate::frames::{blank, end, finish, new_frame, trap};
 use crate::host::{ask, asked, have_types, reply};
-use crate::state::{After, Machine};
-use run_rules::{Call, Event, How, Session, Source, Target, World};
+use crate::state::{After, Machine, Next, Stop};
+use run_rules::{Call, Event, Session, Source, Target, World};
 use std::alloc::Global;
 use wasm_types::FuncType;
 use wl_base::{OutOfMemory, Seq};
@@ -38,10 +38,10 @@ fn ask_host(
     state: &mut Machine,
     kind: &FuncType,
     event: Event,
-) -> Result<How, OutOfMemory>
-    ensures { IfOk result (λ how.
+) -> Result<Next, OutOfMemory>
+    ensures { IfOk result (λ next.
         Steps (hosting session.now state.old.cells.items (inner_of state.old.inner) kind.now event)
-        how state.new) }
+        next state.new) }
 {
     let place = ask(&mut state.inner, event)?;
     state.inner.frame = blank(alloc);
@@ -50,9 +50,9 @@ fn ask_host(
             let values = state.inner.frame.layered.take_values()?;
             finish(alloc, state, Event::Returned(values.into_seq()))
         }
-        After::Leaves(_) => Ok(end(alloc, state, Event::Stuck)),
-        After::Traps(kind) => finish(alloc, state, Event::Trapped(kind)),
-        After::Ends(event) => Ok(end(alloc, state, event)),
+        After::Leaves => Ok(end(alloc, state, Stop::Stuck)),
+        After::Traps(kind) => trap(alloc, state, kind),
+        After::Ends(stop) => Ok(end(alloc, state, stop)),
     }
 }
 
@@ -65,13 +65,13 @@ fn begin_as(
     call: &Call,
     kind: &FuncType,
     source: &Source,
-) -> Result<How, OutOfMemory>
-    ensures { IfOk result (λ how.
+) -> Result<Next, OutOfMemory>
+    ensures { IfOk result (λ next.
         Steps (begin_as_of session.now f state.old.cells.items (inner_of state.old.inner) call.now
-        kind.now source.now) how state.new) }
+        kind.now source.now) next state.new) }
 {
     match source {
-        Source::Nowhere => Ok(end(alloc, state, Event::Stuck)),
+        Source::Nowhere => Ok(end(alloc, state, Stop::Stuck)),
         Source::Host { module, field } => {
             let args = Seq::from_slice(alloc, call.args.as_slice())?;
             let event = asked(alloc, module, field, args)?;
@@ -83,7 +83,7 @@ fn begin_as(
             state.inner.below = Stack::new(alloc);
             state.names = Stack::new(alloc);
             state.names.push(f)?;
-            Ok(How::GoesOn)
+            Ok(Next::GoesOn)
         }
     }
 }
@@ -96,9 +96,9 @@ pub(crate) fn begin(
     session: &Session,
     state: &mut Machine,
     call: &Call,
-) -> Result<How, OutOfMemory>
-    ensures { IfOk result (λ how.
-        Steps (begin_of world.now session.now (state_of state.old) call.now) how state.new) }
+) -> Result<Next, OutOfMemory>
+    ensures { IfOk result (λ next.
+        Steps (begin_of world.now session.now (state_of state.old) call.now) next state.new) }
 {
     let Some(f) = called(world, call) else {
         return finish(alloc, state, Event::NotCalled);
@@ -113,6 +113,6 @@ pub(crate) fn begin(
             &function.kind,
             &function.source,
         ),
-        None => Ok(end(alloc, state, Event::Stuck)),
+        None => Ok(end(alloc, state, Stop::Stuck)),
     }
 }

@@ -5,32 +5,31 @@ ghost use Rattle.run_rules.specs.Own.{branch_if as branch_if_of, branch_table as
 ghost use Rattle.run_rules.specs.Own.{entered, parted, closed};
 ghost use Rattle.run_model.specs.Views.{Turns, Left, frame_of, inner_of};
 
-use crate::state::{Active, After, Running};
+use crate::state::{Active, After, Running, Stop};
 use run_numbers::Jump;
-use run_rules::{Event, Value};
+use run_rules::Value;
 use wl_base::OutOfMemory;
 
 /// `return`: out of the function with its results, whatever else is there.
-pub(crate) fn leave(frame: &mut Running) -> Result<After, OutOfMemory>
-    ensures { IfOk result (λ after.
-        Left (returns (frame_of frame.old) frame.old.layered.values) after) }
+pub(crate) fn leave(frame: &Running) -> After
+    ensures { Left (returns (frame_of frame.now) frame.now.layered.values) result frame.now }
 {
-    let count = frame.layered.count();
-    if frame.results <= count {
-        Ok(After::Leaves(frame.layered.take_top(frame.results)?))
+    if frame.results <= frame.layered.count() {
+        After::Leaves
     } else {
-        Ok(After::Ends(Event::Stuck))
+        After::Ends(Stop::Stuck)
     }
 }
 
 /// The end of the function, where its results and nothing else are there.
-fn finish_frame(frame: &mut Running) -> Result<After, OutOfMemory>
-    ensures { IfOk result (λ after. Left (finishes (frame_of frame.old)) after) }
+#[tactic(auto, using(std::proofs::lemmas::List::take_all))]
+fn finish_frame(frame: &Running) -> After
+    ensures { Left (finishes (frame_of frame.now)) result frame.now }
 {
     if frame.results == frame.layered.count() {
-        Ok(After::Leaves(frame.layered.take_values()?))
+        After::Leaves
     } else {
-        Ok(After::Ends(Event::Stuck))
+        After::Ends(Stop::Stuck)
     }
 }
 
@@ -46,12 +45,12 @@ pub(crate) fn branch(inner: &mut Active, k: usize) -> Result<After, OutOfMemory>
             inner.frame.place = target;
             Ok(After::Goes)
         }
-        Jump::Short => Ok(After::Ends(Event::Stuck)),
+        Jump::Short => Ok(After::Ends(Stop::Stuck)),
         Jump::Past => {
             if k != depth {
-                return Ok(After::Ends(Event::Stuck));
+                return Ok(After::Ends(Stop::Stuck));
             }
-            leave(&mut inner.frame)
+            Ok(leave(&inner.frame))
         }
     }
 }
@@ -69,7 +68,7 @@ pub(crate) fn branch_if(inner: &mut Active, k: usize) -> Result<After, OutOfMemo
             Ok(After::Goes)
         }
         Some(Value::I32(_)) => branch(inner, k),
-        _ => Ok(After::Ends(Event::Stuck)),
+        _ => Ok(After::Ends(Stop::Stuck)),
     }
 }
 
@@ -91,7 +90,7 @@ pub(crate) fn branch_table(
             };
             branch(inner, k as usize)
         }
-        _ => Ok(After::Ends(Event::Stuck)),
+        _ => Ok(After::Ends(Stop::Stuck)),
     }
 }
 
@@ -108,7 +107,7 @@ pub(crate) fn enter(
         inner.old.frame.layered.values) after inner.old inner.new) }
 {
     if inner.frame.layered.count() < params {
-        return Ok(After::Ends(Event::Stuck));
+        return Ok(After::Ends(Stop::Stuck));
     }
     inner.frame.layered.open(target, arity, params)?;
     inner.frame.place = place;
@@ -125,7 +124,7 @@ pub(crate) fn part(inner: &mut Active) -> After
             inner.frame.place = target;
             After::Goes
         }
-        None => After::Ends(Event::Stuck),
+        None => After::Ends(Stop::Stuck),
     }
 }
 
@@ -141,6 +140,6 @@ pub(crate) fn close(inner: &mut Active) -> Result<After, OutOfMemory>
             inner.frame.place += 1;
             Ok(After::Goes)
         }
-        None => finish_frame(&mut inner.frame),
+        None => Ok(finish_frame(&inner.frame)),
     }
 }

@@ -4,8 +4,8 @@ ghost use Rattle.run_rules.specs.Memory.{written};
 ghost use Rattle.run_rules.specs.Own.{with_memory, copy as copy_of, fill as fill_of};
 ghost use Rattle.run_model.specs.Views.{Turns, inner_of};
 
-use crate::state::{Active, After};
-use run_rules::{Event, TrapKind, Value};
+use crate::state::{Active, After, Stop};
+use run_rules::{TrapKind, Value};
 
 /// Moves bytes within a memory; the parts may overlap.
 fn move_bytes(memory: &mut [u8], from: usize, to: usize, count: usize)
@@ -31,16 +31,16 @@ pub(crate) fn copy(inner: &mut Active, memory: Option<u32>) -> After
         inner.old.frame.layered.values)) result inner.old inner.new }
 {
     if memory.is_none() {
-        return After::Ends(Event::Stuck);
+        return After::Ends(Stop::Stuck);
     }
     let Some(Value::I32(count)) = inner.frame.layered.pop() else {
-        return After::Ends(Event::Stuck);
+        return After::Ends(Stop::Stuck);
     };
     let Some(Value::I32(from)) = inner.frame.layered.pop() else {
-        return After::Ends(Event::Stuck);
+        return After::Ends(Stop::Stuck);
     };
     let Some(Value::I32(to)) = inner.frame.layered.pop() else {
-        return After::Ends(Event::Stuck);
+        return After::Ends(Stop::Stuck);
     };
     let (count, from, to) = (count as usize, from as usize, to as usize);
     if inner.memory.len() < from + count {
@@ -61,16 +61,16 @@ pub(crate) fn fill(inner: &mut Active, memory: Option<u32>) -> After
         inner.old.frame.layered.values)) result inner.old inner.new }
 {
     if memory.is_none() {
-        return After::Ends(Event::Stuck);
+        return After::Ends(Stop::Stuck);
     }
     let Some(Value::I32(count)) = inner.frame.layered.pop() else {
-        return After::Ends(Event::Stuck);
+        return After::Ends(Stop::Stuck);
     };
     let Some(Value::I32(value)) = inner.frame.layered.pop() else {
-        return After::Ends(Event::Stuck);
+        return After::Ends(Stop::Stuck);
     };
     let Some(Value::I32(to)) = inner.frame.layered.pop() else {
-        return After::Ends(Event::Stuck);
+        return After::Ends(Stop::Stuck);
     };
     let (count, to) = (count as usize, to as usize);
     if inner.memory.len() < to + count {

@@ -5,11 +5,11 @@ ghost use Rattle.run_rules.specs.Steps.{call_through as call_through_of};
 ghost use Rattle.run_rules.specs.Steps.{function_at as function_of};
 ghost use Rattle.run_model.specs.Views.{Steps, inner_of, called_in};
 
-use crate::frames::{end, finish, new_frame};
+use crate::frames::{end, new_frame, trap};
 use crate::host::{ask, asked, reply};
-use crate::state::Machine;
+use crate::state::{Machine, Next, Stop};
 use crate::turns::turn;
-use run_rules::{Event, Function, How, Session, Source, TrapKind, Value, World};
+use run_rules::{Function, Session, Source, TrapKind, Value, World};
 use std::alloc::Global;
 use std::mem;
 use wasm_instr::LocalRun;
@@ -34,21 +34,23 @@ fn enter_code(
     kind: &FuncType,
     args: Seq<Value>,
     locals: &[LocalRun],
-) -> Result<How, OutOfMemory>
+) -> Result<Next, OutOfMemory>
     requires { state.old.inner.frame.place + 1 < 2 ^ 64 }
-    ensures { IfOk result (λ how.
+    ensures { IfOk result (λ next.
         Steps (called_in g state.old.names state.old.cells.items (inner_of state.old.inner) (begun
-        kind.now args locals.now)) how state.new) }
+        kind.now args locals.now)) next state.new) }
 {
     let frame = new_frame(alloc, kind, args, locals)?;
     let mut caller = mem::replace(&mut state.inner.frame, frame);
     caller.place += 1;
     state.inner.below.push(caller)?;
     state.names.push(g)?;
-    Ok(How::GoesOn)
+    Ok(Next::GoesOn)
 }
 
-/// Into a function of this type: its body, or the host.
+/// Into a function of this type: its body, or the host. The room for an event that this takes is
+/// no part of the loop over steps.
+#[inline(never)]
 pub(crate) fn call_as(
     alloc: Global,
     session: &Session,
@@ -56,20 +58,20 @@ pub(crate) fn call_as(
     g: u32,
     kind: &FuncType,
     source: &Source,
-) -> Result<How, OutOfMemory>
+) -> Result<Next, OutOfMemory>
     requires { state.old.inner.frame.place + 1 < 2 ^ 64 }
-    ensures { IfOk result (λ how.
+    ensures { IfOk result (λ next.
         Steps (call_as_of session.now g state.old.names state.old.cells.items (inner_of
-        state.old.inner) state.old.inner.frame.layered.values kind.now source.now) how
+        state.old.inner) state.old.inner.frame.layered.values kind.now source.now) next
         state.new) }
 {
     let count = kind.params.len();
     if state.inner.frame.layered.count() < count {
-        return Ok(end(alloc, state, Event::Stuck));
+        return Ok(end(alloc, state, Stop::Stuck));
     }
     let args = state.inner.frame.layered.take_top(count)?.into_seq();
     match source {
-        Source::Nowhere => Ok(end(alloc, state, Event::Stuck)),
+        Source::Nowhere => Ok(end(alloc, state, Stop::Stuck)),
         Source::Code { locals, code: _ } => enter_code(
             alloc,
             state,
@@ -94,28 +96,28 @@ pub(crate) fn call_through(
     session: &Session,
     state: &mut Machine,
     t: &FuncType,
-) -> Result<How, OutOfMemory>
+) -> Result<Next, OutOfMemory>
     requires { state.old.inner.frame.place + 1 < 2 ^ 64 }
-    ensures { IfOk result (λ how.
+    ensures { IfOk result (λ next.
         Steps (call_through_of world.now session.now state.old.names state.old.cells.items (inner_of
-        state.old.inner) t.now world.now.table) how state.new) }
+        state.old.inner) t.now world.now.table) next state.new) }
 {
     let Some(slots) = &world.table else {
-        return Ok(end(alloc, state, Event::Stuck));
+        return Ok(end(alloc, state, Stop::Stuck));
     };
     let Some(Value::I32(k)) = state.inner.frame.layered.pop() else {
-        return Ok(end(alloc, state, Event::Stuck));
+        return Ok(end(alloc, state, Stop::Stuck));
     };
     match slots.get(k as usize) {
-        None => finish(alloc, state, Event::Trapped(TrapKind::TableBounds)),
-        Some(None) => finish(alloc, state, Event::Trapped(TrapKind::NullEntry)),
+        None => trap(alloc, state, TrapKind::TableBounds),
+        Some(None) => trap(alloc, state, TrapKind::NullEntry),
         Some(Some(g)) => match function_at(world, *g) {
-            None => Ok(end(alloc, state, Event::Stuck)),
+            None => Ok(end(alloc, state, Stop::Stuck)),
             Some(f) => {
                 if f.kind == *t {
                     call_as(alloc, session, state, *g, &f.kind, &f.source)
                 } else {
-                    finish(alloc, state, Event::Trapped(TrapKind::TypeDiffers))
+                    trap(alloc, state, TrapKind::TypeDiffers)
                 }
             }
         },

@@ -4,8 +4,8 @@ ghost use Rattle.run_rules.specs.Steps.{joined, pushed, write_cell as write_cell
 ghost use Rattle.run_model.specs.Views.{Steps, inner_of};
 
 use crate::frames::end;
-use crate::state::Machine;
-use run_rules::{Event, How, Value};
+use crate::state::{Machine, Next, Stop};
+use run_rules::Value;
 use std::alloc::Global;
 use wl_base::OutOfMemory;
 
@@ -21,24 +21,24 @@ pub(crate) fn put_value(
     alloc: Global,
     state: &mut Machine,
     v: Option<Value>,
-) -> Result<How, OutOfMemory>
+) -> Result<Next, OutOfMemory>
     requires { state.old.inner.frame.place + 1 < 2 ^ 64 }
-    ensures { IfOk result (λ how.
-        Steps (pushed state.old.names state.old.cells.items (inner_of state.old.inner) v) how
+    ensures { IfOk result (λ next.
+        Steps (pushed state.old.names state.old.cells.items (inner_of state.old.inner) v) next
         state.new) }
 {
     match v {
         Some(v) => {
             state.inner.frame.layered.push(v)?;
             state.inner.frame.place += 1;
-            Ok(How::GoesOn)
+            Ok(Next::GoesOn)
         }
-        None => Ok(end(alloc, state, Event::Stuck)),
+        None => Ok(end(alloc, state, Stop::Stuck)),
     }
 }
 
 /// `global.set`.
-pub(crate) fn write_cell(alloc: Global, state: &mut Machine, c: usize) -> How
+pub(crate) fn write_cell(alloc: Global, state: &mut Machine, c: usize) -> Next
     requires { state.old.inner.frame.place + 1 < 2 ^ 64 }
     ensures { Steps (write_cell_of state.old.names state.old.cells.items (inner_of state.old.inner)
         c state.old.inner.frame.layered.values) result state.new }
@@ -48,10 +48,10 @@ pub(crate) fn write_cell(alloc: Global, state: &mut Machine, c: usize) -> How
             Some(v) => {
                 state.cells[c] = Some(v);
                 state.inner.frame.place += 1;
-                How::GoesOn
+                Next::GoesOn
             }
-            None => end(alloc, state, Event::Stuck),
+            None => end(alloc, state, Stop::Stuck),
         },
-        None => end(alloc, state, Event::Stuck),
+        None => end(alloc, state, Stop::Stuck),
     }
 }

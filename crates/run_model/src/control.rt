@@ -8,8 +8,8 @@ ghost use Rattle.run_model.specs.Views.{Turns, inner_of};
 use crate::branches::enter;
 use crate::ends::Ends;
 use crate::opcodes::{BLOCK, IF, LOOP};
-use crate::state::{Active, After};
-use run_rules::{Event, Op, Value};
+use crate::state::{Active, After, Stop};
+use run_rules::{Op, Value};
 use wasm_types::FuncType;
 use wl_base::OutOfMemory;
 
@@ -31,10 +31,10 @@ fn choose(
     match inner.frame.layered.pop() {
         Some(Value::I32(0)) => match other {
             Some(place) => enter(inner, place, target, params, results),
-            None => Ok(After::Ends(Event::Stuck)),
+            None => Ok(After::Ends(Stop::Stuck)),
         },
         Some(Value::I32(_)) => enter(inner, next, target, params, results),
-        _ => Ok(After::Ends(Event::Stuck)),
+        _ => Ok(After::Ends(Stop::Stuck)),
     }
 }
 
@@ -58,13 +58,13 @@ pub(crate) fn open_block(
     let here = inner.frame.place;
     let next = here + 1;
     let Some(end) = ends.end else {
-        return Ok(After::Ends(Event::Stuck));
+        return Ok(After::Ends(Stop::Stuck));
     };
     let params = kind.params.len();
     match op {
         BLOCK => enter(inner, next, end + 1, params, kind.results.len()),
         LOOP => enter(inner, next, here, params, params),
         IF => choose(inner, end + 1, kind, ends.other),
-        _ => Ok(After::Ends(Event::Stuck)),
+        _ => Ok(After::Ends(Stop::Stuck)),
     }
 }

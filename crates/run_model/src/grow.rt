@@ -5,8 +5,8 @@ ghost use Rattle.run_rules.specs.Memory.{pages as pages_of};
 ghost use Rattle.run_rules.specs.Own.{Goes, moved, with_memory, grow_within};
 ghost use Rattle.run_model.specs.Views.{Turns, inner_of};
 
-use crate::state::{Active, After};
-use run_rules::{Answer, Event, Session, Value};
+use crate::state::{Active, After, Stop};
+use run_rules::{Answer, Session, Value};
 use wl_base::OutOfMemory;
 
 // The pages of a memory. One that has 2^32 pages or more is taken for want of memory.
@@ -29,7 +29,7 @@ pub(crate) fn size(inner: &mut Active, memory: Option<u32>) -> Result<After, Out
         inner.old.memory.items) ∷ inner.old.frame.layered.values)))) after inner.old inner.new) }
 {
     if memory.is_none() {
-        return Ok(After::Ends(Event::Stuck));
+        return Ok(After::Ends(Stop::Stuck));
     }
     let n = pages(inner.memory.as_slice())?;
     inner.frame.layered.push(Value::I32(n))?;
@@ -48,11 +48,11 @@ pub(crate) fn grow(
         Turns (grow_within memory session.now (inner_of inner.old)) after inner.old inner.new) }
 {
     let Some(most) = memory else {
-        return Ok(After::Ends(Event::Stuck));
+        return Ok(After::Ends(Stop::Stuck));
     };
     let n = pages(inner.memory.as_slice())?;
     let Some(Value::I32(d)) = inner.frame.layered.pop() else {
-        return Ok(After::Ends(Event::Stuck));
+        return Ok(After::Ends(Stop::Stuck));
     };
     let limit: u32 = if most <= 65536 { most } else { 65536 };
     if (limit as u64) < n as u64 + d as u64 {
@@ -62,7 +62,7 @@ pub(crate) fn grow(
     }
     let count = session.answers.len();
     if count <= inner.answered {
-        return Ok(After::Ends(Event::HostSpent));
+        return Ok(After::Ends(Stop::HostSpent));
     }
     match session.answers.get(inner.answered) {
         Some(Answer::Grow(true)) => {
@@ -79,6 +79,6 @@ pub(crate) fn grow(
             inner.frame.place += 1;
             Ok(After::Goes)
         }
-        _ => Ok(After::Ends(Event::HostSpent)),
+        _ => Ok(After::Ends(Stop::HostSpent)),
     }
 }

@@ -7,7 +7,7 @@ ghost use Rattle.run_rules.specs.Steps.{all_written, replied, have_types};
 ghost use Rattle.run_model.specs.Writes.{all_fit};
 ghost use Rattle.run_model.specs.Views.{Turns, asking_in, inner_of};
 
-use crate::state::{Active, After};
+use crate::state::{Active, After, Stop};
 use run_rules::{Answer, Event, MemWrite, Session, TrapKind, Value};
 use std::alloc::Global;
 use wasm_types::{FuncType, ValType};
@@ -126,10 +126,10 @@ pub(crate) fn reply(
     match session.answers.get(place) {
         Some(Answer::Results { writes, values }) => {
             if !have_types(values.as_slice(), kind.results.as_slice()) {
-                return Ok(After::Ends(Event::HostSpent));
+                return Ok(After::Ends(Stop::HostSpent));
             }
             if !all_fit(writes.as_slice(), inner.memory.len()) {
-                return Ok(After::Ends(Event::HostSpent));
+                return Ok(After::Ends(Stop::HostSpent));
             }
             write_all(inner.memory.as_mut_slice(), writes.as_slice());
             inner.frame.layered.push_all(values.as_slice())?;
@@ -137,6 +137,6 @@ pub(crate) fn reply(
             Ok(After::Goes)
         }
         Some(Answer::Trap) => Ok(After::Traps(TrapKind::HostTrap)),
-        _ => Ok(After::Ends(Event::HostSpent)),
+        _ => Ok(After::Ends(Stop::HostSpent)),
     }
 }

@@ -12,9 +12,9 @@ use crate::opcodes::{
     BR, DROP, ELSE, END, F32_CONST, F64_CONST, NOP, NUMBERED, RETURN, SELECT, SELECT_TYPED,
     UNREACHABLE,
 };
-use crate::state::{Active, After};
+use crate::state::{Active, After, Stop};
 use crate::values::{discard, local, number, select};
-use run_rules::{Event, Session, TrapKind, Value};
+use run_rules::{Session, TrapKind, Value};
 use wasm_instr::Instr;
 use wl_base::OutOfMemory;
 
@@ -32,7 +32,7 @@ fn plain(inner: &mut Active, op: u8) -> Result<After, OutOfMemory>
         }
         ELSE => Ok(part(inner)),
         END => close(inner),
-        RETURN => leave(&mut inner.frame),
+        RETURN => Ok(leave(&inner.frame)),
         DROP => Ok(discard(inner, op)),
         SELECT => select(inner, op),
         _ => number(inner, op),
@@ -80,14 +80,14 @@ pub(crate) fn own(
             inner.frame.place += 1;
             Ok(After::Goes)
         }
-        Instr::F32Const(_) => Ok(After::Ends(Event::Carried(F32_CONST, 0))),
-        Instr::F64Const(_) => Ok(After::Ends(Event::Carried(F64_CONST, 0))),
-        Instr::Truncate(n) => Ok(After::Ends(Event::Carried(NUMBERED, *n))),
+        Instr::F32Const(_) => Ok(After::Ends(Stop::Carried(F32_CONST, 0))),
+        Instr::F64Const(_) => Ok(After::Ends(Stop::Carried(F64_CONST, 0))),
+        Instr::Truncate(n) => Ok(After::Ends(Stop::Carried(NUMBERED, *n))),
         Instr::MemoryCopy => Ok(copy(inner, memory)),
         Instr::MemoryFill => Ok(fill(inner, memory)),
         Instr::Block { .. }
         | Instr::Call(_)
         | Instr::CallIndirect { .. }
-        | Instr::GlobalAt { .. } => { Ok(After::Ends(Event::Stuck)) }
+        | Instr::GlobalAt { .. } => { Ok(After::Ends(Stop::Stuck)) }
     }
 }

@@ -7,7 +7,7 @@ ghost use Rattle.run_model.specs.Views.{state_of};
 use crate::begin::begin;
 use crate::cells::cell_at;
 use crate::ends::tables_of;
-use crate::frames::blank;
+use crate::frames::{blank, event_of};
 use crate::state::{Active, Machine};
 use crate::step::drive_on;
 use run_rules::{NamedValue, Session, Target, Trace, Value, World};
@@ -58,9 +58,9 @@ fn run_from(
     let mut state = start;
     let mut left = steps;
     for call in session.calls.as_slice() {
-        let how = begin(alloc, world, session, &mut state, call)?;
-        if let Some(event) = drive_on(alloc, world, &tables, session, &mut state, &mut left, how)? {
-            state.inner.events.push(event)?;
+        let next = begin(alloc, world, session, &mut state, call)?;
+        if let Some(stop) = drive_on(alloc, world, &tables, session, &mut state, &mut left, next)? {
+            state.inner.events.push(event_of(stop))?;
             return close(alloc, world, state);
         }
     }

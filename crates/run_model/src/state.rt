@@ -44,15 +44,40 @@ pub(crate) struct Machine {
     pub inner: Active,
 }
 
+/// Why a run ends before its calls are over. The event that tells it is made at the end of the run
+/// alone, so that a step hands on a few bytes and no room for an event.
+#[derive(Clone, Copy)]
+pub(crate) enum Stop {
+    /// No rule says what to do next.
+    Stuck,
+    /// A step is due, and no more is allowed.
+    StepsSpent,
+    /// An answer of the host is due, and the next one isn't such an answer.
+    HostSpent,
+    /// A carried instruction is due: its opcode, and the number behind it where it has one.
+    Carried(u8, u32),
+}
+
 /// What an instruction led to that asks nothing of its world.
-#[derive(Drop)]
+#[derive(Clone, Copy)]
 pub(crate) enum After {
     /// The run goes on.
     Goes,
-    /// The function gives these back, the last one first.
-    Leaves(Stack<Value>),
+    /// The function gives back as many values as it has results, the newest ones.
+    Leaves,
     /// A trap.
     Traps(TrapKind),
     /// The run ends.
-    Ends(Event),
+    Ends(Stop),
+}
+
+/// How a run goes on after a step.
+#[derive(Clone, Copy)]
+pub(crate) enum Next {
+    /// By the next step.
+    GoesOn,
+    /// The call is over.
+    CallOver,
+    /// The run ends.
+    Halts(Stop),
 }

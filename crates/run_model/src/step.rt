@@ -3,7 +3,7 @@ ghost use Rattle.std.specs.Prelude.{◌≡◌, map, IfOk};
 ghost use Rattle.run_rules.specs.Steps.{step};
 ghost use Rattle.run_rules.specs.Runs.{drive};
 ghost use Rattle.run_model.specs.Table.{ends_in};
-ghost use Rattle.run_model.specs.Views.{Steps, Drives, state_of};
+ghost use Rattle.run_model.specs.Views.{Steps, Drives, how_of, state_of};
 
 use crate::calls::{call_as, call_through, function_at};
 use crate::cells::{cell_at, put_value, write_cell};
@@ -11,9 +11,9 @@ use crate::control::open_block;
 use crate::ends::{Ends, ends_at};
 use crate::frames::end;
 use crate::own::own;
-use crate::state::Machine;
+use crate::state::{After, Machine, Next, Stop};
 use crate::turns::turn;
-use run_rules::{Event, How, Op, Session, Source, Value, World};
+use run_rules::{Op, Session, Source, Value, World};
 use std::alloc::Global;
 use wl_base::{OutOfMemory, Seq};
 use wl_stack::Stack;
@@ -26,38 +26,40 @@ fn step_once(
     tables: &Seq<Stack<Ends>>,
     session: &Session,
     state: &mut Machine,
-) -> Result<How, OutOfMemory>
+) -> Result<Next, OutOfMemory>
     requires { tables.now ≡ map ends_in world.now.functions }
-    ensures { IfOk result (λ how.
-        Steps (step world.now session.now (state_of state.old)) how state.new) }
+    ensures { IfOk result (λ next.
+        Steps (step world.now session.now (state_of state.old)) next state.new) }
 {
     let Some(f) = state.names.top() else {
-        return Ok(end(alloc, state, Event::Stuck));
+        return Ok(end(alloc, state, Stop::Stuck));
     };
     let Some(function) = function_at(world, f) else {
-        return Ok(end(alloc, state, Event::Stuck));
+        return Ok(end(alloc, state, Stop::Stuck));
     };
     let Source::Code { locals: _, code } = &function.source else {
-        return Ok(end(alloc, state, Event::Stuck));
+        return Ok(end(alloc, state, Stop::Stuck));
     };
     let code = code.as_slice();
     if code.len() <= state.inner.frame.place {
-        return Ok(end(alloc, state, Event::Stuck));
+        return Ok(end(alloc, state, Stop::Stuck));
     }
     let op = &code[state.inner.frame.place];
     match op {
-        Op::Own(x) => {
-            let after = own(world.memory, session, &mut state.inner, x)?;
-            turn(alloc, state, after)
-        }
+        Op::Own(x) => match own(world.memory, session, &mut state.inner, x)? {
+            After::Goes => Ok(Next::GoesOn),
+            after => turn(alloc, state, after),
+        },
         Op::OpenBlock { opcode, kind } => {
             let ends = ends_at(tables, code, f, state.inner.frame.place);
-            let after = open_block(&mut state.inner, code, ends, *opcode, kind)?;
-            turn(alloc, state, after)
+            match open_block(&mut state.inner, code, ends, *opcode, kind)? {
+                After::Goes => Ok(Next::GoesOn),
+                after => turn(alloc, state, after),
+            }
         }
         Op::CallTo(g) => match function_at(world, *g) {
             Some(callee) => call_as(alloc, session, state, *g, &callee.kind, &callee.source),
-            None => Ok(end(alloc, state, Event::Stuck)),
+            None => Ok(end(alloc, state, Stop::Stuck)),
         },
         Op::CallThrough(t) => call_through(alloc, world, session, state, t),
         Op::ReadCell(c) => {
@@ -66,7 +68,7 @@ fn step_once(
         }
         Op::WriteCell(c) => Ok(write_cell(alloc, state, *c as usize)),
         Op::Number(n) => put_value(alloc, state, Some(Value::I32(*n))),
-        Op::Absent => Ok(end(alloc, state, Event::Stuck)),
+        Op::Absent => Ok(end(alloc, state, Stop::Stuck)),
     }
 }
 
@@ -79,24 +81,24 @@ pub(crate) fn drive_on(
     session: &Session,
     state: &mut Machine,
     left: &mut u64,
-    first: How,
-) -> Result<Option<Event>, OutOfMemory>
+    first: Next,
+) -> Result<Option<Stop>, OutOfMemory>
     requires { tables.now ≡ map ends_in world.now.functions }
-    ensures { IfOk result (λ event.
-        Drives world.now (drive world.now session.now left.old (state_of state.old) first) event
-        state.new left.new) }
+    ensures { IfOk result (λ stop.
+        Drives world.now (drive world.now session.now left.old (state_of state.old) (how_of first))
+        stop state.new left.new) }
 {
-    let mut how = first;
+    let mut next = first;
     loop {
-        match how {
-            How::CallOver => return Ok(None),
-            How::Halts(event) => return Ok(Some(event)),
-            How::GoesOn => {
+        match next {
+            Next::CallOver => return Ok(None),
+            Next::Halts(stop) => return Ok(Some(stop)),
+            Next::GoesOn => {
                 if *left == 0 {
-                    return Ok(Some(Event::StepsSpent));
+                    return Ok(Some(Stop::StepsSpent));
                 }
                 *left -= 1;
-                how = step_once(alloc, world, tables, session, state)?;
+                next = step_once(alloc, world, tables, session, state)?;
             }
         }
     }

@@ -5,9 +5,9 @@ ghost use Rattle.run_rules.specs.Numbers.{computed};
 ghost use Rattle.run_model.specs.Views.{Turns, inner_of};
 
 use crate::opcodes::{LOCAL_GET, LOCAL_SET, LOCAL_TEE};
-use crate::state::{Active, After};
+use crate::state::{Active, After, Stop};
 use run_numbers::{Went, compute};
-use run_rules::{Event, Value};
+use run_rules::Value;
 use wl_base::OutOfMemory;
 
 /// `local.get`, `local.set` or `local.tee`.
@@ -41,7 +41,7 @@ pub(crate) fn local(inner: &mut Active, op: u8, k: usize) -> Result<After, OutOf
             }
         }
     }
-    Ok(After::Ends(Event::Stuck))
+    Ok(After::Ends(Stop::Stuck))
 }
 
 /// `drop`.
@@ -55,7 +55,7 @@ pub(crate) fn discard(inner: &mut Active, op: u8) -> After
             inner.frame.place += 1;
             After::Goes
         }
-        None => After::Ends(Event::Stuck),
+        None => After::Ends(Stop::Stuck),
     }
 }
 
@@ -67,16 +67,16 @@ pub(crate) fn select(inner: &mut Active, op: u8) -> Result<After, OutOfMemory>
         inner.old inner.new) }
 {
     let Some(c) = inner.frame.layered.pop() else {
-        return Ok(After::Ends(Event::Stuck));
+        return Ok(After::Ends(Stop::Stuck));
     };
     let Value::I32(c) = c else {
-        return Ok(After::Ends(Event::Stuck));
+        return Ok(After::Ends(Stop::Stuck));
     };
     let Some(b) = inner.frame.layered.pop() else {
-        return Ok(After::Ends(Event::Stuck));
+        return Ok(After::Ends(Stop::Stuck));
     };
     let Some(a) = inner.frame.layered.pop() else {
-        return Ok(After::Ends(Event::Stuck));
+        return Ok(After::Ends(Stop::Stuck));
     };
     if c == 0 {
         inner.frame.layered.push(b)?;
@@ -100,7 +100,7 @@ pub(crate) fn number(inner: &mut Active, op: u8) -> Result<After, OutOfMemory>
             Ok(After::Goes)
         }
         Went::Wrong(k) => Ok(After::Traps(k)),
-        Went::Foreign => Ok(After::Ends(Event::Carried(op, 0))),
-        Went::Nowhere => Ok(After::Ends(Event::Stuck)),
+        Went::Foreign => Ok(After::Ends(Stop::Carried(op, 0))),
+        Went::Nowhere => Ok(After::Ends(Stop::Stuck)),
     }
 }

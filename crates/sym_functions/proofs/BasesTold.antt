@@ -3,7 +3,6 @@ use Rattle.std.proofs.Common.{◌≡◌, ℕ, zero, suc, ◌+◌, ◌==◌, Bool
 use Rattle.std.specs.Prelude.{if◌then◌else◌, slice_index_or, ◌+ℤ◌}
 use Rattle.std.specs.List.{list_any, All}
 use Rattle.std.proofs.lemmas.List.Elements.{All-head, All-tail}
-use Rattle.link_program.specs.object_file.declared.object.Object.{Object}
 use Rattle.link_program.specs.linking_section.Flags.{kind_code}
 use Rattle.link_program.specs.linking_section.declared.symbol.SymbolKind.TheVariants.{Datum}
 use Rattle.link_program.specs.made_symbols.declared.mode.Mode.TheVariants.{Plain}
@@ -113,15 +112,15 @@ module _ (p : rules.Program) (parts : List rules.Part) (es : List InputSymbol) (
   entry_told e false = slot_told (keys.function_of e) (function_known names imports e)
 
   -- what the cell of the address of a symbol holds
-  pub base_told : (all : List InputSymbol) (objects : List Object) (e : InputSymbol) (m : Meaning) → KnownMeaning imports all objects e m
+  pub base_told : (all : List InputSymbol) (e : InputSymbol) (m : Meaning) → KnownMeaning imports all e m
       → base_seen the_layout d.numbering.now (told_symbol names imports e m) ≡ values.got_value Plain the_layout (got_of (kind_code e.symbol.kind) m)
-  base_told all objects e (here x) known =
+  base_told all e (here x) known =
       ap (λ f. if kind_code x.symbol.kind == kind_code Datum then values.address_of Plain the_layout x else d.numbering.now.first_slot + number_by same_function_key d.numbering.now.slots f)
       (function_told names imports x)
       ∙ entry_told x (kind_code x.symbol.kind == kind_code Datum)
-  base_told all objects e (imported k) known = slot_told (outside k) known
-  base_told all objects e null known = refl
-  base_told all objects e nothing known = refl
+  base_told all e (imported k) known = slot_told (outside k) known
+  base_told all e null known = refl
+  base_told all e nothing known = refl
 
   pub base_at : (bases : List ℕ) → bases ≡ map (base_seen the_layout d.numbering.now) d.program.tables.now.symbols → (symbol : ℕ)
       → slice_index_or bases symbol 0 ≡ base_seen the_layout d.numbering.now (slice_index_or d.program.tables.now.symbols symbol no_symbol)

@@ -10,7 +10,7 @@ use Rattle.wasm_instr.specs.declared.instr.Instr.TheVariants as instrs
 use Rattle.wasm_instr.specs.declared.body.Body.{Body}
 use Rattle.wasm_instr.specs.Bodies.{body_at}
 use Rattle.run_rules.specs.declared.op.Op.{Op}
-use Rattle.run_rules.specs.declared.op.Op.TheVariants.{Own, CallTo}
+use Rattle.run_rules.specs.declared.op.Op.TheVariants.{Own}
 use Rattle.run_rules.specs.declared.world.Source.{Source}
 use Rattle.run_rules.specs.declared.world.Source.TheVariants.{Nowhere, Code}
 use Rattle.link_program.specs.image_emit.Bytes.{file_part}
@@ -20,7 +20,7 @@ use Rattle.link_program.specs.name_rules.Entries.{InputSymbol, ImportKey}
 use Rattle.link_program.specs.link_rules.Program as rules
 use Rattle.link_program.specs.link_rules.Program.{refs, named_ref, a_symbol, a_type, chunk_at}
 use Rattle.link_program.specs.link_rules.Marks.{refs_of}
-use Rattle.link_program.specs.link_rules.Keys.{callable, is_function_at, ref_function}
+use Rattle.link_program.specs.link_rules.Keys.{callable, is_function_at}
 use Rattle.link_program.specs.link_rules.Values as values
 use Rattle.link_program.specs.declared.named.Named.{Named}
 use Rattle.link_program.specs.declared.named.Named.TheVariants as items
@@ -35,11 +35,10 @@ use Rattle.link_keys.proofs.Any.{all_none}
 use Rattle.link_keys.proofs.Imports.{both}
 use Rattle.link_image.proofs.Lists.{first_ones, last_ones}
 use Rattle.link_worlds.specs.Bodies as bodies
-use Rattle.link_worlds.specs.Bodies.{to_name, plan_op}
-use Rattle.link_worlds.specs.Names.{function_place}
+use Rattle.link_worlds.specs.Bodies.{plan_op}
 use Rattle.sym_parts.specs.Sought.{Known, symbol_of}
-use Rattle.sym_parts.specs.Ops.{call_symbol, op_seen}
-use Rattle.sym_parts.specs.Code.{all_of, body_seen, part_source, call_named, calls_seen}
+use Rattle.sym_parts.specs.Ops.{op_seen}
+use Rattle.sym_parts.specs.Code.{all_of, body_seen, part_source, call_named, calling, calls_seen}
 use Rattle.sym_functions.proofs.Known.{KnownRef}
 use Rattle.sym_functions.proofs.Ground.{known}
 use Rattle.sym_functions.proofs.OpsTold.{IsSought, IsKnownNamed, op_told}
@@ -130,16 +129,16 @@ module _ (p : rules.Program) (parts : List rules.Part) (es : List InputSymbol) (
       }
 
   -- what a part names is known
-  named_known : (ns : List rules.Named) → All (KnownRef t_imports (callable p) p.objects) (filter_map named_ref ns) → All (IsKnownNamed p parts es d is) ns
+  named_known : (ns : List rules.Named) → All (KnownRef t_imports (callable p)) (filter_map named_ref ns) → All (IsKnownNamed p parts es d is) ns
   named_known [] all = all_none (IsKnownNamed p parts es d is)
   named_known (a_symbol ref ∷ ns) all =
-      All-cons (IsKnownNamed p parts es d is) (a_symbol ref) ns (All-head (KnownRef t_imports (callable p) p.objects) ref (filter_map named_ref ns) all) (named_known ns (All-tail (KnownRef t_imports (callable p) p.objects) ref (filter_map named_ref ns) all))
+      All-cons (IsKnownNamed p parts es d is) (a_symbol ref) ns (All-head (KnownRef t_imports (callable p)) ref (filter_map named_ref ns) all) (named_known ns (All-tail (KnownRef t_imports (callable p)) ref (filter_map named_ref ns) all))
   named_known (a_type w ∷ ns) all = All-cons (IsKnownNamed p parts es d is) (a_type w) ns tt (named_known ns all)
 
-  refs_known : (parts : List rules.Part) → All (KnownRef t_imports (callable p) p.objects) (refs_of parts) → (n : ℕ) (part : rules.Part) → slice_get parts n ≡ Some part → All (KnownRef t_imports (callable p) p.objects) (refs part)
+  refs_known : (parts : List rules.Part) → All (KnownRef t_imports (callable p)) (refs_of parts) → (n : ℕ) (part : rules.Part) → slice_get parts n ≡ Some part → All (KnownRef t_imports (callable p)) (refs part)
   refs_known [] all n part at = absurd cc
-  refs_known (x ∷ xs) all zero part at = let same : x ≡ part = cc in subst (λ (y : rules.Part). All (KnownRef t_imports (callable p) p.objects) (refs y)) same (first_ones (KnownRef t_imports (callable p) p.objects) (refs x) (refs_of xs) all)
-  refs_known (x ∷ xs) all (suc n) part at = refs_known xs (last_ones (KnownRef t_imports (callable p) p.objects) (refs x) (refs_of xs) all) n part at
+  refs_known (x ∷ xs) all zero part at = let same : x ≡ part = cc in subst (λ (y : rules.Part). All (KnownRef t_imports (callable p)) (refs y)) same (first_ones (KnownRef t_imports (callable p)) (refs x) (refs_of xs) all)
+  refs_known (x ∷ xs) all (suc n) part at = refs_known xs (last_ones (KnownRef t_imports (callable p)) (refs x) (refs_of xs) all) n part at
 
   pub part_known : (n : ℕ) (part : rules.Part) → slice_get p.parts n ≡ Some part → All (IsKnownNamed p parts es d is) part.named
   part_known n part at = named_known part.named (refs_known p.parts (known d.program p is.program is.stand) n part at)
@@ -184,54 +183,29 @@ module _ (p : rules.Program) (parts : List rules.Part) (es : List InputSymbol) (
         ∙ ap (bodies.plan_part p l) (sym w.found)
 
     calls_row : (row : List Named) (ns : List rules.Named) → map (seen_named d.program.tables.now.symbols d.program.tables.now.types) row ≡ map (told_named t_names t_imports) ns → All (IsKnownNamed p parts es d is) ns
-        → (code : List Op) → all_of (filter_map (call_named k) row) ≡ Some code → code ≡ map (bodies.call_of p l) (filter_map named_ref ns)
-    calls_row [] [] e all code is_code = let a : [] ≡ code = cc in sym a
-    calls_row [] (y ∷ ns) e all code is_code = absurd cc
-    calls_row (x ∷ row) [] e all code is_code = absurd cc
-    calls_row (items.Symbol kind place addend symbol ∷ row) (a_symbol ref ∷ ns) e all code is_code =
-        by_first (call_symbol k.dropped_stub k.functions (symbol_of k symbol)) refl (λ later are. calls_row row ns rest (All-tail (IsKnownNamed p parts es d is) (a_symbol ref) ns all) later are) is_code
-      where
-        first : seen_named d.program.tables.now.symbols d.program.tables.now.types (items.Symbol kind place addend symbol) ≡ told_named t_names t_imports (a_symbol ref)
-        first = cc
-
-        rest : map (seen_named d.program.tables.now.symbols d.program.tables.now.types) row ≡ map (told_named t_names t_imports) ns
-        rest = cc
-
-        by_rest : (op : Op) → call_symbol k.dropped_stub k.functions (symbol_of k symbol) ≡ Some op → ((later : List Op) → all_of (filter_map (call_named k) row) ≡ Some later → later ≡ map (bodies.call_of p l) (filter_map named_ref ns)) → (o : Option (List Op)) → all_of (filter_map (call_named k) row) ≡ o → option_map (λ xs. op ∷ xs) o ≡ Some code
-            → code ≡ map (bodies.call_of p l) (ref ∷ filter_map named_ref ns)
-        by_rest op is_op again None are e = absurd cc
-        by_rest op is_op again (Some later) are e =
-            let a : op ∷ later ≡ code = cc in
-            sym a
-            ∙ ap (λ x. x ∷ later) (ops.call_symbol p parts es d is k sought (symbol_of k symbol) ref (ops.ref_of p parts es d is k sought kind place addend symbol ref first).0 (All-head (IsKnownNamed p parts es d is) (a_symbol ref) ns all) op is_op)
-            ∙ ap (λ xs. to_name CallTo (function_place p (ref_function ref)) ∷ xs) (again later are)
-
-        by_first : (o : Option Op) → call_symbol k.dropped_stub k.functions (symbol_of k symbol) ≡ o → ((later : List Op) → all_of (filter_map (call_named k) row) ≡ Some later → later ≡ map (bodies.call_of p l) (filter_map named_ref ns)) → all_of (o ∷ filter_map (call_named k) row) ≡ Some code → code ≡ map (bodies.call_of p l) (ref ∷ filter_map named_ref ns)
-        by_first None is_op again e = absurd cc
-        by_first (Some op) is_op again e = by_rest op is_op again (all_of (filter_map (call_named k) row)) refl e
-    calls_row (items.Symbol kind place addend symbol ∷ row) (a_type w ∷ ns) e all code is_code = absurd cc
-    calls_row (items.Type place number ∷ row) (a_symbol ref ∷ ns) e all code is_code = absurd cc
-    calls_row (items.Type place number ∷ row) (a_type w ∷ ns) e all code is_code =
+        → filter_map (call_named k) row ≡ map (bodies.call_of p l) (filter_map named_ref ns)
+    calls_row [] [] e all = refl
+    calls_row [] (y ∷ ns) e all = absurd cc
+    calls_row (x ∷ row) [] e all = absurd cc
+    calls_row (items.Symbol kind place addend symbol ∷ row) (a_symbol ref ∷ ns) e all =
+        let first : seen_named d.program.tables.now.symbols d.program.tables.now.types (items.Symbol kind place addend symbol) ≡ told_named t_names t_imports (a_symbol ref) = cc in
         let rest : map (seen_named d.program.tables.now.symbols d.program.tables.now.types) row ≡ map (told_named t_names t_imports) ns = cc in
-        calls_row row ns rest (All-tail (IsKnownNamed p parts es d is) (a_type w) ns all) code is_code
+        ap (λ op. op ∷ filter_map (call_named k) row) (ops.call_symbol p parts es d is k sought (symbol_of k symbol) ref (ops.ref_of p parts es d is k sought kind place addend symbol ref first).0 (All-head (IsKnownNamed p parts es d is) (a_symbol ref) ns all))
+        ∙ ap (λ ops. bodies.call_of p l ref ∷ ops) (calls_row row ns rest (All-tail (IsKnownNamed p parts es d is) (a_symbol ref) ns all))
+    calls_row (items.Symbol kind place addend symbol ∷ row) (a_type w ∷ ns) e all = absurd cc
+    calls_row (items.Type place number ∷ row) (a_symbol ref ∷ ns) e all = absurd cc
+    calls_row (items.Type place number ∷ row) (a_type w ∷ ns) e all =
+        let rest : map (seen_named d.program.tables.now.symbols d.program.tables.now.types) row ≡ map (told_named t_names t_imports) ns = cc in
+        calls_row row ns rest (All-tail (IsKnownNamed p parts es d is) (a_type w) ns all)
 
     -- The linker's function.
-    pub linker_told : (n : ℕ) (part : rules.Part) → slice_get p.parts n ≡ Some part → (part.chunk.input == 0) ≡ true → (part.chunk.kind == 0) ≡ true → (s : Source)
-        → calls_seen k (chunk_number k.tables.chunks (chunk_at 0 0 part.chunk.index)) ≡ Some s → s ≡ bodies.plan_calls p l (find (is_function_at 0 part.chunk.index) p.parts)
-    linker_told n part at mine code s is_s =
+    pub linker_told : (n : ℕ) (part : rules.Part) → slice_get p.parts n ≡ Some part → (part.chunk.input == 0) ≡ true → (part.chunk.kind == 0) ≡ true
+        → calls_seen k (chunk_number k.tables.chunks (chunk_at 0 0 part.chunk.index)) ≡ bodies.plan_calls p l (find (is_function_at 0 part.chunk.index) p.parts)
+    linker_told n part at mine code =
         let w = part_of 0 n part at code in
         let none : part.chunk.input ≡ 0 = eqb-true part.chunk.input 0 mine in
-        let here : calls_seen k (Some w.number) ≡ Some s =
-        ap (calls_seen k) (sym (ap (λ t. chunk_number t.chunks (chunk_at 0 0 part.chunk.index)) sought.tables ∙ ap (λ i. chunk_number d.program.tables.now.chunks (chunk_at i 0 part.chunk.index)) (sym none) ∙ w.chunk)) ∙ is_s in
-        by_calls w.number w.at (all_of (filter_map (call_named k) (row_at k.tables w.number))) refl here
+        ap (calls_seen k) (ap (λ t. chunk_number t.chunks (chunk_at 0 0 part.chunk.index)) sought.tables ∙ ap (λ i. chunk_number d.program.tables.now.chunks (chunk_at i 0 part.chunk.index)) (sym none) ∙ w.chunk)
+        ∙ ap (λ t. calling k (row_at t w.number)) sought.tables
+        ∙ ap (λ xs. Code [] (xs ++ Own (instrs.Plain 0x0B) ∷ [])) (calls_row (row_at d.program.tables.now w.number) part.named (row_is w.number part w.at) (part_known w.number part w.at))
         ∙ ap (bodies.plan_calls p l) (sym w.found)
         ∙ ap (λ i. bodies.plan_calls p l (find (is_function_at i part.chunk.index) p.parts)) none
-      where
-        by_calls : (m : ℕ) → slice_get p.parts m ≡ Some part → (o : Option (List Op)) → all_of (filter_map (call_named k) (row_at k.tables m)) ≡ o
-            → option_map (λ xs. Code [] (xs ++ Own (instrs.Plain 0x0B) ∷ [])) o ≡ Some s → s ≡ Code [] (map (bodies.call_of p l) (refs part) ++ Own (instrs.Plain 0x0B) ∷ [])
-        by_calls m there None are e = absurd cc
-        by_calls m there (Some later) are e =
-            let a : Code [] (later ++ Own (instrs.Plain 0x0B) ∷ []) ≡ s = cc in
-            sym a
-            ∙ ap (λ xs. Code [] (xs ++ Own (instrs.Plain 0x0B) ∷ []))
-            (calls_row (row_at d.program.tables.now m) part.named (row_is m part there) (part_known m part there) later (ap (λ t. all_of (filter_map (call_named k) (row_at t m))) (sym sought.tables) ∙ are))

@@ -36,7 +36,7 @@ module _ (p : rules.Program) (parts : List rules.Part) (es : List InputSymbol) (
   l = layout Plain p parts es
 
   pub sought_is : (k : Sought) → IsSoughtOf l d k → IsSought p parts es d is (known k)
-  sought_is k s = record { tables = s.tables; bases = s.bases; functions = s.functions; cells = s.cells; dropped = s.dropped }
+  sought_is k s = record { tables = s.tables; bases = s.bases; functions = s.functions; cells = s.cells }
 
   module _ (k : Sought) (s : IsSoughtOf l d k) where
     pub functions_are : (files : List (List ℕ)) → files ≡ p.files → (view : Entries) → FitsObjects view → view.objects.now ≡ d.program.objects.now → view.names.now ≡ d.program.names.now → (fs : List (Option Runs))

@@ -125,6 +125,9 @@ module _ (p : rules.Program) (parts : List rules.Part) (es : List InputSymbol) (
         (ap kept_type there)
         (λ s is_s. let here : seen.host_seen (Some key) ≡ Some s = ap seen.host_seen (sym there) ∙ is_s in let a : Host key.module_name key.field ≡ s = cc in sym a)
 
+    some_is : (a b : Source) → Some a ≡ Some b → b ≡ a
+    some_is a b e = let x : a ≡ b = cc in sym x
+
     stub_gives : (name : List ℕ) → StubName t_names name → Gives (stub name)
     stub_gives name known y e =
         let types = stub_types_told t_names p p.parts is.program.entries column column_is (others d.program p is.program is.stand) (in_order d.program p is.program is.stand) (apart d.program p is.program is.stand) (first_among d.program p is.program is.stand)
@@ -135,14 +138,11 @@ module _ (p : rules.Program) (parts : List rules.Part) (es : List InputSymbol) (
         ∙ ap (λ n. stub_type (seen.stub_types d.program.tables.now p.objects column) n (unwrap_or (number_of t_names name) 0)) column_is.count ∙ told in
         run_is (stub_type (seen.stub_types k.tables p.objects column) (length column) (unwrap_or (number_of t_names name) 0)) (seen.source_seen k files t_imports (functions.Stub (unwrap_or (number_of t_names name) 0))) y (stub name) e kind
         (λ s is_s. some_is (bodies.plan_source p l p.parts (stub name)) s is_s)
-      where
-        some_is : (a b : Source) → Some a ≡ Some b → b ≡ a
-        some_is a b e = let x : a ≡ b = cc in sym x
 
     made_gives : (n : ℕ) (part : rules.Part) → slice_get p.parts n ≡ Some part → (part.chunk.input == 0) ≡ true → (part.chunk.kind == 0) ≡ true → Gives (linker_function part.chunk.index)
     made_gives n part at mine code y e =
-        run_is no_type (seen.calls_seen k (chunk_number k.tables.chunks (chunk_at 0 0 part.chunk.index))) y (linker_function part.chunk.index) e refl
-        (λ s is_s. linker_told p parts es d is k sought files same_files n part at mine code s is_s)
+        run_is no_type (Some (seen.calls_seen k (chunk_number k.tables.chunks (chunk_at 0 0 part.chunk.index)))) y (linker_function part.chunk.index) e refl
+        (λ s is_s. some_is (seen.calls_seen k (chunk_number k.tables.chunks (chunk_at 0 0 part.chunk.index))) s is_s ∙ linker_told p parts es d is k sought files same_files n part at mine code)
 
     own_gives : (n : ℕ) (part : rules.Part) → slice_get p.parts n ≡ Some part → (part.chunk.input == 0) ≡ false → (part.chunk.kind == 0) ≡ true → Gives (own part.chunk.input part.chunk.index)
     own_gives n part at foreign code y e =
@@ -154,7 +154,7 @@ module _ (p : rules.Program) (parts : List rules.Part) (es : List InputSymbol) (
         ∙ ap keys.part_type (sym w.found) in
         run_is (seen.part_kind k.tables (chunk_number k.tables.chunks (chunk_at part.chunk.input 0 part.chunk.index))) (seen.part_source k files (chunk_number k.tables.chunks (chunk_at part.chunk.input 0 part.chunk.index))) y (own part.chunk.input part.chunk.index)
         (ap (λ r. seen.run_by (if r then no_type else seen.part_kind k.tables (chunk_number k.tables.chunks (chunk_at part.chunk.input 0 part.chunk.index)))
-        (if r then seen.calls_seen k (chunk_number k.tables.chunks (chunk_at 0 0 part.chunk.index)) else seen.part_source k files (chunk_number k.tables.chunks (chunk_at part.chunk.input 0 part.chunk.index)))) (sym foreign) ∙ e)
+        (if r then Some (seen.calls_seen k (chunk_number k.tables.chunks (chunk_at 0 0 part.chunk.index))) else seen.part_source k files (chunk_number k.tables.chunks (chunk_at part.chunk.input 0 part.chunk.index)))) (sym foreign) ∙ e)
         kind (λ s is_s. own_told p parts es d is k sought files same_files n part at code s is_s)
 
     made_key : (n : ℕ) (part : rules.Part) (key : keys.FunctionKey) → slice_get p.parts n ≡ Some part → made_function_key part ≡ Some key → Gives key

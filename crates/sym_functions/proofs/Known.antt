@@ -23,24 +23,15 @@ use Rattle.link_keys.proofs.Equals.{holds_distinct}
 use Rattle.link_keys.proofs.Imports.{import_equal, import_itself, name_equal, name_itself}
 use Rattle.link_keys.proofs.Known.{IsNull}
 
--- A symbol of an object that defines nothing.
-pub record IsDropped (objects : List Object) (e : InputSymbol) : Type 0 where
-  pub object : ℕ
-  pub place : ℕ
-  pub from : Object
-  pub at : slice_get objects object ≡ Some from
-  pub there : slice_get (symbols_of objects from) place ≡ Some e
-  pub undefined : e.defines ≡ false
+-- An import is one of the imports, and what is null an entry of a name.
+abbrev pub KnownMeaning : List ImportKey → List InputSymbol → InputSymbol → Meaning → Type 0
+KnownMeaning imports all e (here d) = Unit {0}
+KnownMeaning imports all e (imported k) = list_any (same_import k) imports ≡ true
+KnownMeaning imports all e null = IsNull all e
+KnownMeaning imports all e nothing = Unit {0}
 
--- An import is one of the imports. What means nothing, and is no entry of a name, is a symbol of an object that defines nothing.
-abbrev pub KnownMeaning : List ImportKey → List InputSymbol → List Object → InputSymbol → Meaning → Type 0
-KnownMeaning imports all objects e (here d) = Unit {0}
-KnownMeaning imports all objects e (imported k) = list_any (same_import k) imports ≡ true
-KnownMeaning imports all objects e null = IsNull all e
-KnownMeaning imports all objects e nothing = is_entry e ≡ false → IsDropped objects e
-
-abbrev pub KnownRef : List ImportKey → List InputSymbol → List Object → Ref → Type 0
-KnownRef imports all objects ref = KnownMeaning imports all objects ref.entry ref.meaning
+abbrev pub KnownRef : List ImportKey → List InputSymbol → Ref → Type 0
+KnownRef imports all ref = KnownMeaning imports all ref.entry ref.meaning
 
 -- ---- symbols
 
@@ -144,21 +135,6 @@ null_known allow objects i s r e at there means =
     let entry = null_is_entry allow all e is in
     record { entry = entry; named = name_known objects i s row.object e row.at symbol entry; unmade = null_unmade allow objects e entry is }
 
-own_undefined : (e : InputSymbol) (r : Bool) → (if r then here e else nothing) ≡ nothing → r ≡ false
-own_undefined e true is = absurd cc
-own_undefined e false is = refl
-
--- what means nothing, and is no entry
-dropped_known : (allow : Bool) (all : List InputSymbol) (objects : List Object) (i s : ℕ) (r : Resolved) (e : InputSymbol) → slice_get (resolve Plain allow all objects) i ≡ Some r
-    → slice_get r.symbols s ≡ Some e → slice_get r.meanings s ≡ Some nothing → is_entry e ≡ false → IsDropped objects e
-dropped_known allow all objects i s r e at there means entry =
-    let row = row_of_object allow all objects i r at in
-    let symbol : slice_get (symbols_of objects row.object) s ≡ Some e = ap (λ x. slice_get x.symbols s) row.is ∙ there in
-    let same : Some (meaning Plain no_uses allow all e) ≡ Some nothing = sym (ap (option_map (meaning Plain no_uses allow all)) symbol) ∙ sym (slice_get-map (meaning Plain no_uses allow all) (symbols_of objects row.object) s) ∙ ap (λ x. slice_get x.meanings s) row.is ∙ means in
-    let is : meaning Plain no_uses allow all e ≡ nothing = cc in
-    let own : own_meaning e ≡ nothing = sym (ap (λ b. if b then by_rules Plain no_uses allow (filter (is_named (name_of e)) all) e else own_meaning e) entry) ∙ is in
-    record { object = i; place = s; from = row.object; at = row.at; there = symbol; undefined = own_undefined e e.defines own }
-
 -- the same among more
 null_more : (es more : List InputSymbol) (e : InputSymbol) → IsNull es e → IsNull (es ++ more) e
 null_more es more e k = record {
@@ -178,13 +154,13 @@ made_named name place (m ∷ ms) is = by (bytes_eq m.name name) refl is (made_na
 
 module _ (p : rules.Program) (from : p.entries ≡ entries Plain p.objects) (means : p.resolved ≡ resolve Plain p.plan.allow_undefined p.entries p.objects)
     (first : List (List ℕ)) (made_first : (name : List ℕ) → list_any (bytes_eq name) (map (λ m. m.name) (made Plain)) ≡ true → list_any (bytes_eq name) first ≡ true)
-    (variants : p.variants ≡ loose_variants p.plan.like_lld p.entries p.resolved) (apart : All (λ v. list_any (bytes_eq (name_of v)) first ≡ false) p.variants) where
+    (variants : p.variants ≡ loose_variants p.plan.loose_calls p.entries p.resolved) (apart : All (λ v. list_any (bytes_eq (name_of v)) first ≡ false) p.variants) where
   -- what is known of a reference
   abbrev K : InputSymbol → Meaning → Type 0
-  K e m = KnownMeaning (imports_in_order p) (callable p) p.objects e m
+  K e m = KnownMeaning (imports_in_order p) (callable p) e m
 
   abbrev R : Ref → Type 0
-  R ref = KnownRef (imports_in_order p) (callable p) p.objects ref
+  R ref = KnownRef (imports_in_order p) (callable p) ref
 
   symbol_known : (e : InputSymbol) (m : Meaning) → IsSymbolOf p.resolved e m → K e m
   unfolding imports_in_order
@@ -194,12 +170,11 @@ module _ (p : rules.Program) (from : p.entries ≡ entries Plain p.objects) (mea
       let resolved : resolve Plain p.plan.allow_undefined (entries Plain p.objects) p.objects ≡ p.resolved = ap (λ all. resolve Plain p.plan.allow_undefined all p.objects) (sym from) ∙ sym means in
       null_more p.entries p.variants e (subst (λ all. IsNull all e) (sym from)
       (null_known p.plan.allow_undefined p.objects there.0 there.1 there.2 e (ap (λ rs. slice_get rs there.0) resolved ∙ there.3) there.4 there.5))
-  symbol_known e nothing there =
-      dropped_known p.plan.allow_undefined p.entries p.objects there.0 there.1 there.2 e (ap (λ rs. slice_get rs there.0) (sym means) ∙ there.3) there.4 there.5
+  symbol_known e nothing there = tt
 
   variant_known : (e : InputSymbol) (m : Meaning) → IsVariantOf p.variants e m → K e m
   variant_known e m there =
-      let v = variant_entry p.entries p.plan.like_lld p.resolved there.1 e (ap (λ vs. slice_get vs there.1) (sym variants) ∙ there.2) in
+      let v = variant_entry p.entries p.plan.loose_calls p.resolved there.1 e (ap (λ vs. slice_get vs there.1) (sym variants) ∙ there.2) in
       subst (K e) (sym there.0) (record {
         entry = v;
         named = ap (list_any (bytes_eq (name_of e))) (map-append name_of p.entries p.variants)
@@ -224,7 +199,7 @@ module _ (p : rules.Program) (from : p.entries ≡ entries Plain p.objects) (mea
   part_refs part stands = λ k d below. ref_known (get_or (refs part) k d) (stands.refs k d below)
 
   -- All references of all parts are known.
-  pub all_known : (parts : List rules.Part) → All (PartStands p) parts → All (KnownRef (imports_in_order p) (callable p) p.objects) (refs_of parts)
+  pub all_known : (parts : List rules.Part) → All (PartStands p) parts → All (KnownRef (imports_in_order p) (callable p)) (refs_of parts)
   all_known [] stand = λ k d below. absurd (omega arith)
   all_known (part ∷ parts) stand =
       All-append R (refs part) (refs_of parts)

@@ -8,7 +8,6 @@ use Rattle.std.proofs.lemmas.Option.{slice_get-get_or}
 use Rattle.link_program.specs.wl_base.Names.{number_of}
 use Rattle.link_program.specs.wl_base.Choice.{distinct, distinct_onto, given}
 use Rattle.link_program.specs.wasm_types.declared.function.FuncType.{FuncType}
-use Rattle.link_program.specs.object_file.declared.object.Object.{Object}
 use Rattle.link_program.specs.linking_section.declared.symbol.SymbolKind.TheVariants.{Function}
 use Rattle.link_program.specs.mark_bits.declared.chunk.Chunk.{Chunk}
 use Rattle.link_program.specs.index_layout.Numbers.{number_by}
@@ -146,16 +145,16 @@ module _ (names : List (List ℕ)) (imports : List ImportKey) where
 
   -- ---- names and their numbers
 
-  module _ (all : List InputSymbol) (objects : List Object) (held : (name : List ℕ) → list_any (bytes_eq name) (map name_of all) ≡ true → list_any (bytes_eq name) names ≡ true) where
+  module _ (all : List InputSymbol) (held : (name : List ℕ) → list_any (bytes_eq name) (map name_of all) ≡ true → list_any (bytes_eq name) names ≡ true) where
     abbrev number : List ℕ → ℕ
     number name = number_by bytes_eq names name
 
-    name_told : (e : InputSymbol) → is_entry e ≡ true → list_any (bytes_eq (name_of e)) names ≡ true → entry_number names e ≡ Some (number (name_of e))
+    pub name_told : (e : InputSymbol) → is_entry e ≡ true → list_any (bytes_eq (name_of e)) names ≡ true → entry_number names e ≡ Some (number (name_of e))
     name_told e entry there =
         let s = stands bytes_eq name_equal name_itself names (name_of e) there in
         ap (λ r. if r then number_of names (name_of e) else None) entry ∙ s.found ∙ ap Some (sym (number_is bytes_eq name_equal name_itself names (name_of e) s.at s.found))
 
-    null_by : (e : InputSymbol) (m : Meaning) → KnownMeaning imports all objects e m → (r : Bool)
+    null_by : (e : InputSymbol) (m : Meaning) → KnownMeaning imports all e m → (r : Bool)
         → where_so (is_null_lead (told_lead imports m) && r) (entry_number names e) ≡ option_map number (given (is_null m && r) (name_of e))
     null_by e (here d) known r = refl
     null_by e (imported k) known r = refl
@@ -163,44 +162,44 @@ module _ (names : List (List ℕ)) (imports : List ImportKey) where
     null_by e null known false = refl
     null_by e nothing known r = refl
 
-    null_is : (ref : Ref) → KnownRef imports all objects ref → null_told ref ≡ option_map number (rules_names.null_name ref)
+    null_is : (ref : Ref) → KnownRef imports all ref → null_told ref ≡ option_map number (rules_names.null_name ref)
     null_is ref known = null_by ref.entry ref.meaning known (is_kind Function ref.entry)
 
     -- what is held of a null function's name
-    null_held : (ref : Ref) (name : List ℕ) → KnownRef imports all objects ref → rules_names.null_name ref ≡ Some name → StubName names name
+    null_held : (ref : Ref) (name : List ℕ) → KnownRef imports all ref → rules_names.null_name ref ≡ Some name → StubName names name
     null_held ref name known is =
         let e = given_is (is_null ref.meaning && is_kind Function ref.entry) (name_of ref.entry) name is in
         subst (StubName names) e.1 (by_meaning ref.meaning known (both (is_null ref.meaning) (is_kind Function ref.entry) e.0).0)
       where
-        by_meaning : (m : Meaning) → KnownMeaning imports all objects ref.entry m → is_null m ≡ true → StubName names (name_of ref.entry)
+        by_meaning : (m : Meaning) → KnownMeaning imports all ref.entry m → is_null m ≡ true → StubName names (name_of ref.entry)
         by_meaning (here d) k is = absurd cc
         by_meaning (imported j) k is = absurd cc
         by_meaning null k is = (held (name_of ref.entry) k.named, k.unmade)
         by_meaning nothing k is = absurd cc
 
-    nulls_told : (refs : List Ref) → All (KnownRef imports all objects) refs → filter_map null_told refs ≡ map number (filter_map rules_names.null_name refs)
+    nulls_told : (refs : List Ref) → All (KnownRef imports all) refs → filter_map null_told refs ≡ map number (filter_map rules_names.null_name refs)
     nulls_told [] known = refl
     nulls_told (ref ∷ refs) known =
-        ap (λ o. cons_option o (filter_map null_told refs)) (null_is ref (All-head (KnownRef imports all objects) ref refs known))
-        ∙ ap (λ rest. cons_option (option_map number (rules_names.null_name ref)) rest) (nulls_told refs (All-tail (KnownRef imports all objects) ref refs known))
+        ap (λ o. cons_option o (filter_map null_told refs)) (null_is ref (All-head (KnownRef imports all) ref refs known))
+        ∙ ap (λ rest. cons_option (option_map number (rules_names.null_name ref)) rest) (nulls_told refs (All-tail (KnownRef imports all) ref refs known))
         ∙ by_option (rules_names.null_name ref)
       where
         by_option : (o : Option (List ℕ)) → cons_option (option_map number o) (map number (filter_map rules_names.null_name refs)) ≡ map number (cons_option o (filter_map rules_names.null_name refs))
         by_option None = refl
         by_option (Some name) = refl
 
-    nulls_held : (refs : List Ref) → All (KnownRef imports all objects) refs → All (StubName names) (filter_map rules_names.null_name refs)
+    nulls_held : (refs : List Ref) → All (KnownRef imports all) refs → All (StubName names) (filter_map rules_names.null_name refs)
     nulls_held [] known = all_none (StubName names)
-    nulls_held (ref ∷ refs) known = by_option (rules_names.null_name ref) refl (nulls_held refs (All-tail (KnownRef imports all objects) ref refs known))
+    nulls_held (ref ∷ refs) known = by_option (rules_names.null_name ref) refl (nulls_held refs (All-tail (KnownRef imports all) ref refs known))
       where
         by_option : (o : Option (List ℕ)) → rules_names.null_name ref ≡ o → All (StubName names) (filter_map rules_names.null_name refs) → All (StubName names) (cons_option o (filter_map rules_names.null_name refs))
         by_option None is rest = rest
-        by_option (Some name) is rest = All-cons (StubName names) name (filter_map rules_names.null_name refs) (null_held ref name (All-head (KnownRef imports all objects) ref refs known) is) rest
+        by_option (Some name) is rest = All-cons (StubName names) name (filter_map rules_names.null_name refs) (null_held ref name (All-head (KnownRef imports all) ref refs known) is) rest
 
     -- ---- the lists
 
     module _ (t : Tables) (p : rules.Program) (are : AreTables names imports t p) (all_imports : imports ≡ imports_in_order p) (one : OnePlace same_import import_equal import_itself imports)
-        (known : All (KnownRef imports all objects) (refs_of p.parts)) where
+        (known : All (KnownRef imports all) (refs_of p.parts)) where
       abbrev pub stub_names : List (List ℕ)
       stub_names = distinct bytes_eq (filter_map rules_names.null_name (refs_of p.parts))
 

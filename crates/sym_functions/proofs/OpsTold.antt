@@ -11,7 +11,7 @@ use Rattle.link_program.specs.reloc_apply.Windows.{signed32}
 use Rattle.link_program.specs.name_rules.Entries.{InputSymbol, ImportKey, is_kind}
 use Rattle.link_program.specs.link_rules.Program as rules
 use Rattle.link_program.specs.link_rules.Program.{Ref, TypeWindow, a_symbol, a_type}
-use Rattle.link_program.specs.link_rules.Keys.{callable, ref_function, ref_got, meant_global, cell_key}
+use Rattle.link_program.specs.link_rules.Keys.{callable, ref_got, meant_global, cell_key}
 use Rattle.link_program.specs.link_rules.Values as values
 use Rattle.link_program.specs.link_rules.Values.{asks}
 use Rattle.link_program.specs.declared.symbol.Symbol.{Symbol}
@@ -29,16 +29,16 @@ use Rattle.wasm_instr.specs.declared.instr.BlockKind.{BlockKind}
 use Rattle.wasm_instr.specs.declared.instr.BlockKind.TheVariants as blocks
 use Rattle.wasm_instr.specs.declared.body.Placed.{Placed}
 use Rattle.run_rules.specs.declared.op.Op.{Op}
-use Rattle.run_rules.specs.declared.op.Op.TheVariants.{Own, OpenBlock, CallTo, CallThrough, Absent}
+use Rattle.run_rules.specs.declared.op.Op.TheVariants.{Own, OpenBlock, CallTo, CallThrough}
 use Rattle.run_rules.specs.Ops.{cell_op}
 use Rattle.link_worlds.specs.Bodies as bodies
 use Rattle.link_worlds.specs.Bodies.{to_name, place_of}
-use Rattle.link_worlds.specs.Names.{number_at, function_place, cell_place}
+use Rattle.link_worlds.specs.Names.{number_at, callee, cell_place}
 use Rattle.sym_functions.specs.Bases.{base_seen}
 use Rattle.sym_parts.specs.Sought.{Known, named_place, named_at, number_named, symbol_of, base_of, asked}
 use Rattle.sym_parts.specs.Ops as seen
 use Rattle.sym_functions.proofs.Known.{KnownRef}
-use Rattle.sym_functions.proofs.Ground.{all_fs, all_gs, all_dropped, meant_told, cell_told}
+use Rattle.sym_functions.proofs.Ground.{all_fs, all_gs, meant_told, cell_told}
 use Rattle.sym_functions.proofs.BasesTold.{the_layout, base_told, base_at, asked_is}
 
 -- Two items that are seen alike.
@@ -77,20 +77,15 @@ module _ (p : rules.Program) (parts : List rules.Part) (es : List InputSymbol) (
   abbrev gs : List GlobalKey
   gs = all_gs d.program p is.program is.stand
 
-  -- whether a symbol of a dropped part has the name of a stub
-  abbrev drops : Bool
-  drops = all_dropped d.program p is.program is.stand
-
   -- What is looked up is that of the layout.
   pub record IsSought (k : Known) : Type 0 where
     pub tables : k.tables ≡ d.program.tables.now
     pub bases : k.bases ≡ map (base_seen l d.numbering.now) symbols
     pub functions : k.functions ≡ fs
     pub cells : k.cells ≡ gs
-    pub dropped : k.dropped_stub ≡ drops
 
   abbrev pub IsKnownNamed : rules.Named → Type 0
-  IsKnownNamed (a_symbol ref) = KnownRef imports (callable p) p.objects ref
+  IsKnownNamed (a_symbol ref) = KnownRef imports (callable p) ref
   IsKnownNamed (a_type w) = Unit {0}
 
   -- Two items that are one, or none.
@@ -134,32 +129,26 @@ module _ (p : rules.Program) (parts : List rules.Part) (es : List InputSymbol) (
         let same : shown ≡ told_ref names imports ref = alike _ _ e in
         (ap (λ t. slice_index_or t.symbols symbol no_symbol) sought.tables ∙ ap (λ (r : SeenRef). r.symbol) same, ap (λ (r : SeenRef). r.kind) same, ap (λ (r : SeenRef). r.addend) same)
 
-    base_is : (symbol : ℕ) (ref : Ref) → symbol_of k symbol ≡ told_symbol names imports ref.entry ref.meaning → KnownRef imports (callable p) p.objects ref → base_of k symbol ≡ values.got_value Plain l (ref_got ref)
+    base_is : (symbol : ℕ) (ref : Ref) → symbol_of k symbol ≡ told_symbol names imports ref.entry ref.meaning → KnownRef imports (callable p) ref → base_of k symbol ≡ values.got_value Plain l (ref_got ref)
     base_is symbol ref same known =
         base_at p parts es d is k.bases sought.bases symbol
         ∙ ap (base_seen l d.numbering.now) (ap (λ t. slice_index_or t.symbols symbol no_symbol) (sym sought.tables) ∙ same)
-        ∙ base_told p parts es d is (callable p) p.objects ref.entry ref.meaning known
+        ∙ base_told p parts es d is (callable p) ref.entry ref.meaning known
 
-    call_by : (o : Option (Option ℕ)) (op : Op) (f : Option ℕ) → seen.call_by o ≡ Some op → ((x : Option ℕ) → o ≡ Some x → x ≡ f) → op ≡ to_name CallTo f
-    call_by None op f e each = absurd cc
-    call_by (Some x) op f e each = let same : to_name CallTo x ≡ op = cc in sym same ∙ ap (to_name CallTo) (each x refl)
+    pub call_symbol : (s : Symbol) (ref : Ref) → s ≡ told_symbol names imports ref.entry ref.meaning → KnownRef imports (callable p) ref → seen.call_symbol k.functions s ≡ to_name CallTo (callee p ref)
+    call_symbol s ref same known =
+        ap (seen.call_symbol k.functions) same
+        ∙ ap (λ fs. seen.call_symbol fs (told_symbol names imports ref.entry ref.meaning)) sought.functions
+        ∙ ap (to_name CallTo) (meant_told d.program p is.program is.stand ref.entry ref.meaning known)
 
-    pub call_symbol : (s : Symbol) (ref : Ref) → s ≡ told_symbol names imports ref.entry ref.meaning → KnownRef imports (callable p) p.objects ref → (op : Op) → seen.call_symbol k.dropped_stub k.functions s ≡ Some op
-        → op ≡ to_name CallTo (function_place p (ref_function ref))
-    call_symbol s ref same known op e =
-        call_by (seen.function_place drops fs (told_symbol names imports ref.entry ref.meaning).name (told_symbol names imports ref.entry ref.meaning).lead) op (function_place p (ref_function ref))
-        (ap (λ (s : Symbol). seen.call_symbol drops fs s) (sym same) ∙ ap (λ fs. seen.call_symbol drops fs s) (sym sought.functions) ∙ ap (λ b. seen.call_symbol b k.functions s) (sym sought.dropped) ∙ e)
-        (λ x is_x. meant_told d.program p is.program is.stand ref.entry ref.meaning known x is_x)
-
-    call_told : (o : Option Named) (o' : Option rules.Named) → Same o o' → (op : Op) → seen.call_seen k o ≡ Some op → op ≡ bodies.called p l o'
-    call_told None None same op e = let a : Absent ≡ op = cc in sym a
-    call_told None (Some y) same op e = absurd same
-    call_told (Some x) None same op e = absurd same
-    call_told (Some (items.Symbol kind place addend symbol)) (Some (a_symbol ref)) same op e =
-        call_symbol (symbol_of k symbol) ref (ref_of kind place addend symbol ref same.0).0 same.1 op e
-    call_told (Some (items.Symbol kind place addend symbol)) (Some (a_type w)) same op e = absurd (alike _ _ same.0)
-    call_told (Some (items.Type place number)) (Some (a_symbol ref)) same op e = absurd (alike _ _ same.0)
-    call_told (Some (items.Type place number)) (Some (a_type w)) same op e = let a : Absent ≡ op = cc in sym a
+    call_told : (o : Option Named) (o' : Option rules.Named) → Same o o' → seen.call_seen k o ≡ bodies.called p l o'
+    call_told None None same = refl
+    call_told None (Some y) same = absurd same
+    call_told (Some x) None same = absurd same
+    call_told (Some (items.Symbol kind place addend symbol)) (Some (a_symbol ref)) same = call_symbol (symbol_of k symbol) ref (ref_of kind place addend symbol ref same.0).0 same.1
+    call_told (Some (items.Symbol kind place addend symbol)) (Some (a_type w)) same = absurd (alike _ _ same.0)
+    call_told (Some (items.Type place number)) (Some (a_symbol ref)) same = absurd (alike _ _ same.0)
+    call_told (Some (items.Type place number)) (Some (a_type w)) same = refl
 
     type_of : (place number : ℕ) (w : TypeWindow) → seen_named symbols types (items.Type place number) ≡ told_named names imports (a_type w) → slice_index_or k.tables.types number no_type ≡ w.type
     type_of place number w e = let t : slice_index_or types number no_type ≡ w.type = (alike _ _ e).1 in ap (λ t. slice_index_or t.types number no_type) sought.tables ∙ t
@@ -182,7 +171,7 @@ module _ (p : rules.Program) (parts : List rules.Part) (es : List InputSymbol) (
     opened_told op (Some (items.Type place number)) (Some (a_symbol ref)) same = absurd (alike _ _ same.0)
     opened_told op (Some (items.Type place number)) (Some (a_type w)) same = ap (OpenBlock op) (type_of place number w same.0)
 
-    cell_by : (op : ℕ) (ref : Ref) → KnownRef imports (callable p) p.objects ref → (base : ℕ) → base ≡ values.got_value Plain l (ref_got ref) → (r : Bool) → is_kind GlobalVar ref.entry ≡ r
+    cell_by : (op : ℕ) (ref : Ref) → KnownRef imports (callable p) ref → (base : ℕ) → base ≡ values.got_value Plain l (ref_got ref) → (r : Bool) → is_kind GlobalVar ref.entry ≡ r
         → (if r then to_name (cell_op op) (seen.cell_place k.cells (told_symbol names imports ref.entry ref.meaning).lead) else seen.number_op op base) ≡ bodies.cell_by p l op ref r
     cell_by op ref known base at true kind =
         ap (λ gs. to_name (cell_op op) (seen.cell_place gs (told_symbol names imports ref.entry ref.meaning).lead)) sought.cells
@@ -252,7 +241,7 @@ module _ (p : rules.Program) (parts : List rules.Part) (es : List InputSymbol) (
     instr_told : (ns : List rules.Named) (x : Placed) (first last : Option Named) → Same first (bodies.named_at ns (x.at + 1)) → Same last (bodies.named_at ns x.mid) → (i : Instr) (y : Op)
         → seen.op_by k first last i ≡ Some y → y ≡ bodies.op_at p l ns x i
     instr_told ns x first last f m (instrs.Block op kind) y e = block_told ns x op kind last m y e
-    instr_told ns x first last f m (instrs.Call g) y e = call_told last (bodies.named_at ns x.mid) m y e
+    instr_told ns x first last f m (instrs.Call g) y e = own_told (seen.call_seen k last) y e ∙ call_told last (bodies.named_at ns x.mid) m
     instr_told ns x first last f m (instrs.CallIndirect kind table) y e = own_told (seen.through_seen k.tables.types first) y e ∙ through_told first (bodies.named_at ns (x.at + 1)) f
     instr_told ns x first last f m (instrs.GlobalAt op g) y e = own_told (seen.at_cell k op last) y e ∙ at_told op last (bodies.named_at ns x.mid) m
     instr_told ns x first last f m (instrs.Access op align offset) y e = access_told op align offset last (bodies.named_at ns x.mid) m y e

@@ -3,7 +3,6 @@ use Rattle.std.specs.Prelude.{◌≡◌, map}
 use Rattle.link_program.specs.link_rules.Values as values
 use Rattle.link_layout.specs.declared.values.Layout.{Layout}
 use Rattle.sym_parts.specs.declared.sought.Sought.{Sought}
-use Rattle.sym_parts.specs.Dropped.{dropped_stub}
 use Rattle.sym_parts.specs.Keys.{functions_of, cells_of}
 use Rattle.sym_functions.specs.Bases.{base_seen}
 
@@ -12,4 +11,3 @@ pub record IsSoughtOf (l : values.Layout) (d : Layout) (k : Sought) : Type 0 whe
   pub bases : k.bases.now ≡ map (base_seen l d.numbering.now) d.program.tables.now.symbols
   pub functions : k.functions.now ≡ functions_of d.program.resolution.now.imports d.program.tables.now
   pub cells : k.cells.now ≡ cells_of d.program.resolution.now.imports d.program.tables.now
-  pub dropped : k.dropped_stub ≡ dropped_stub d.program.names.now.names (functions_of d.program.resolution.now.imports d.program.tables.now) d.program.objects.now

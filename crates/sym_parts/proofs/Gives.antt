@@ -31,16 +31,16 @@ gives_next f x left whole before done now y held split gives is =
     ∙ held
 
 -- One item more, where some give nothing.
-pub some_more : {A B : Type 0} (h : A → Option (Option B)) (xs : List A) (i : ℕ) (d : A) → i < length xs → (done now : List B) (whole : List (Option B)) → map Some done ++ filter_map h (drop i xs) ≡ whole
-    → map Some now ≡ map Some done ++ filter_map h (get_or xs i d ∷ []) → map Some now ++ filter_map h (drop (i + 1) xs) ≡ whole
+pub some_more : {A B : Type 0} (h : A → Option B) (xs : List A) (i : ℕ) (d : A) → i < length xs → (done now whole : List B) → done ++ filter_map h (drop i xs) ≡ whole
+    → now ≡ done ++ filter_map h (get_or xs i d ∷ []) → now ++ filter_map h (drop (i + 1) xs) ≡ whole
 some_more {A} {B} h xs i d below done now whole held is =
     ap (λ ys. ys ++ filter_map h (drop (i + 1) xs)) is
-    ∙ append_assoc (map Some done) (filter_map h (get_or xs i d ∷ [])) (filter_map h (drop (i + 1) xs))
-    ∙ ap (λ ys. map Some done ++ ys) (joined (h (get_or xs i d)))
-    ∙ ap (λ ys. map Some done ++ filter_map h ys) (sym (drop_more xs i d below))
+    ∙ append_assoc done (filter_map h (get_or xs i d ∷ [])) (filter_map h (drop (i + 1) xs))
+    ∙ ap (λ ys. done ++ ys) (joined (h (get_or xs i d)))
+    ∙ ap (λ ys. done ++ filter_map h ys) (sym (drop_more xs i d below))
     ∙ held
   where
-    joined : (o : Option (Option B)) → cons_option o [] ++ filter_map h (drop (i + 1) xs) ≡ cons_option o (filter_map h (drop (i + 1) xs))
+    joined : (o : Option B) → cons_option o [] ++ filter_map h (drop (i + 1) xs) ≡ cons_option o (filter_map h (drop (i + 1) xs))
     joined None = refl
     joined (Some y) = refl
 

@@ -3,5 +3,3 @@ pub mod AllOf
 pub mod Found
 pub mod Gives
 pub mod Fewer
-pub mod Searched
-pub mod Lent

@@ -43,16 +43,16 @@ abbrev pub part_source : Known → List (List ℕ) → Option ℕ → Option Sou
 part_source k files None = Some Nowhere
 part_source k files (Some n) = body_seen k (row_at k.tables n) (body_at (file_part files (part_at k.tables n).source))
 
-abbrev pub call_named : Known → Named → Option (Option Op)
-call_named k (names.Symbol kind place addend symbol) = Some (call_symbol k.dropped_stub k.functions (symbol_of k symbol))
+abbrev pub call_named : Known → Named → Option Op
+call_named k (names.Symbol kind place addend symbol) = Some (call_symbol k.functions (symbol_of k symbol))
 call_named k (names.Type place number) = None
 
 -- What the linker's function calls, and the end.
-abbrev pub calling : Known → List Named → Option Source
-calling k row = option_map (λ ops. Code [] (ops ++ Own (instrs.Plain 0x0B) ∷ [])) (all_of (filter_map (call_named k) row))
+abbrev pub calling : Known → List Named → Source
+calling k row = Code [] (filter_map (call_named k) row ++ Own (instrs.Plain 0x0B) ∷ [])
 
-abbrev pub calls_seen : Known → Option ℕ → Option Source
-calls_seen k None = Some Nowhere
+abbrev pub calls_seen : Known → Option ℕ → Source
+calls_seen k None = Nowhere
 calls_seen k (Some n) = calling k (row_at k.tables n)
 
 abbrev pub host_seen : Option ImportKey → Option Source
@@ -62,7 +62,7 @@ host_seen (Some key) = Some (Host key.module_name key.field)
 abbrev pub source_seen : Known → List (List ℕ) → List ImportKey → FunctionKey → Option Source
 source_seen k files imports (functions.Import n) = host_seen (slice_get imports n)
 source_seen k files imports (functions.Own input index) =
-    if input == 0 then calls_seen k (chunk_number k.tables.chunks (chunk_at 0 0 index))
+    if input == 0 then Some (calls_seen k (chunk_number k.tables.chunks (chunk_at 0 0 index)))
     else part_source k files (chunk_number k.tables.chunks (chunk_at input 0 index))
 source_seen k files imports (functions.Stub n) = Some (Code [] (Own (instrs.Plain 0x00) ∷ Own (instrs.Plain 0x0B) ∷ []))
 

@@ -1,5 +1,4 @@
 pub mod Keys
-pub mod Dropped
 pub mod Sought
 pub mod Ops
 pub mod Code

@@ -1,5 +1,5 @@
 -- The instructions of bodies, with what their references mean, by the data. There is no answer where the data can't tell.
-use Rattle.std.specs.Prelude.{ℕ, ◌+◌, ◌==◌, Bool, List, [], position, slice_index_or, if◌then◌else◌, Option, Some, None, option_map}
+use Rattle.std.specs.Prelude.{ℕ, ◌+◌, ◌==◌, List, [], position, slice_index_or, if◌then◌else◌, Option, Some, None, option_map}
 use Rattle.link_program.specs.wasm_types.declared.function.FuncType.{FuncType}
 use Rattle.link_program.specs.object_file.Spaces.{no_type}
 use Rattle.link_program.specs.linking_section.Flags.{kind_code}
@@ -29,17 +29,17 @@ use Rattle.sym_parts.specs.Sought.{Known, named_at, symbol_of, base_of, number_n
 
 -- ---- functions and cells that are meant
 
--- The stub of a name. Without the name's number the symbol is one of a dropped part: there is none, or no answer where such a symbol has the
--- name of a stub.
-abbrev pub stub_place : Bool → List FunctionKey → Option ℕ → Option (Option ℕ)
-stub_place dropped fs None = if dropped then None else Some None
-stub_place dropped fs (Some n) = Some (position (same_function_key (functions.Stub n)) fs)
+-- The stub of a name.
+abbrev pub stub_place : List FunctionKey → Option ℕ → Option ℕ
+stub_place fs None = None
+stub_place fs (Some n) = position (same_function_key (functions.Stub n)) fs
 
-abbrev pub function_place : Bool → List FunctionKey → Option ℕ → Lead → Option (Option ℕ)
-function_place dropped fs name (leads.Here d) = Some (position (same_function_key (function_of d)) fs)
-function_place dropped fs name (leads.Import n) = Some (position (same_function_key (functions.Import n)) fs)
-function_place dropped fs name leads.Null = stub_place dropped fs name
-function_place dropped fs name leads.Nothing = stub_place dropped fs name
+-- A symbol that leads nowhere, as that of a dropped part, names no function.
+abbrev pub function_place : List FunctionKey → Option ℕ → Lead → Option ℕ
+function_place fs name (leads.Here d) = position (same_function_key (function_of d)) fs
+function_place fs name (leads.Import n) = position (same_function_key (functions.Import n)) fs
+function_place fs name leads.Null = stub_place fs name
+function_place fs name leads.Nothing = None
 
 abbrev pub cell_place : List GlobalKey → Lead → Option ℕ
 cell_place gs (leads.Here d) = position (same_global_key (globals.Own d.input (index_of d))) gs
@@ -49,16 +49,13 @@ cell_place gs leads.Nothing = None
 
 -- ---- instructions
 
-abbrev pub call_by : Option (Option ℕ) → Option Op
-call_by o = option_map (to_name CallTo) o
+abbrev pub call_symbol : List FunctionKey → Symbol → Op
+call_symbol fs s = to_name CallTo (function_place fs s.name s.lead)
 
-abbrev pub call_symbol : Bool → List FunctionKey → Symbol → Option Op
-call_symbol dropped fs s = call_by (function_place dropped fs s.name s.lead)
-
-abbrev pub call_seen : Known → Option Named → Option Op
-call_seen k None = Some Absent
-call_seen k (Some (names.Symbol kind place addend symbol)) = call_symbol k.dropped_stub k.functions (symbol_of k symbol)
-call_seen k (Some (names.Type place number)) = Some Absent
+abbrev pub call_seen : Known → Option Named → Op
+call_seen k None = Absent
+call_seen k (Some (names.Symbol kind place addend symbol)) = call_symbol k.functions (symbol_of k symbol)
+call_seen k (Some (names.Type place number)) = Absent
 
 abbrev pub through_seen : List FuncType → Option Named → Op
 through_seen types None = Absent
@@ -97,7 +94,7 @@ opened_by types op kind named = opening op (block_type [] kind)
 -- An instruction, with the item that stands at its first immediate and the one at its last.
 abbrev pub op_by : Known → Option Named → Option Named → Instr → Option Op
 op_by k first last (instrs.Block op kind) = Some (opened_by k.tables.types op kind last)
-op_by k first last (instrs.Call f) = call_seen k last
+op_by k first last (instrs.Call f) = Some (call_seen k last)
 op_by k first last (instrs.CallIndirect kind table) = Some (through_seen k.tables.types first)
 op_by k first last (instrs.GlobalAt op g) = Some (at_cell k op last)
 op_by k first last (instrs.Access op align offset) = option_map (λ n. Own (instrs.Access op align n)) (number_or k offset last)

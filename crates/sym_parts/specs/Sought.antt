@@ -17,17 +17,15 @@ use Rattle.link_keys.specs.Noted.{where_so}
 use Rattle.link_keys.specs.declared.codes.Code.{Code}
 use Rattle.sym_parts.specs.declared.sought.Sought.{Sought}
 
--- The tables of the program, what the cell of the address of each symbol would hold, all functions and cells, and whether a symbol of a
--- dropped part has the name of a stub.
+-- The tables of the program, what the cell of the address of each symbol would hold, and all functions and cells.
 pub record Known : Type 0 where
   pub tables : Tables
   pub bases : List ℕ
   pub functions : List FunctionKey
   pub cells : List GlobalKey
-  pub dropped_stub : Bool
 
 abbrev pub known : Sought → Known
-known s = record { tables = s.tables.now; bases = s.bases.now; functions = s.functions.now; cells = s.cells.now; dropped_stub = s.dropped_stub }
+known s = record { tables = s.tables.now; bases = s.bases.now; functions = s.functions.now; cells = s.cells.now }
 
 -- ---- what stands at a place of a part
 

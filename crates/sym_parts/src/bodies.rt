@@ -76,7 +76,7 @@ fn part_source(
 
 /// Adds a call of what an item names.
 fn add_call(ops: &mut Seq<Op>, k: Sought<'_>, named: Named) -> Result<(), OutOfMemory>
-    ensures { OnOk result (map Some ops.new ≡ map Some ops.old ++ filter_map (call_named (known k.entry)) (named ∷ [])) }
+    ensures { OnOk result (ops.new ≡ ops.old ++ filter_map (call_named (known k.entry)) (named ∷ [])) }
 {
     if let Named::Symbol {
         kind: _,
@@ -86,14 +86,14 @@ fn add_call(ops: &mut Seq<Op>, k: Sought<'_>, named: Named) -> Result<(), OutOfM
     } = named
     {
         let symbol = symbol_at(k.tables.symbols.as_slice(), symbol);
-        ops.push(call_symbol(k.dropped_stub, k.functions, symbol)?)?;
+        ops.push(call_symbol(k.functions, symbol))?;
     }
     Ok(())
 }
 
 /// Calls of what items name.
 fn calls_of(alloc: Global, k: Sought<'_>, row: &[Named]) -> Result<Seq<Op>, OutOfMemory>
-    ensures { IfOk result (λ ops. filter_map (call_named (known k.entry)) row.now ≡ map Some ops) }
+    ensures { IfOk result (λ ops. ops ≡ filter_map (call_named (known k.entry)) row.now) }
 {
     let mut ops = Seq::new(alloc);
     for named in row {
@@ -104,7 +104,7 @@ fn calls_of(alloc: Global, k: Sought<'_>, row: &[Named]) -> Result<Seq<Op>, OutO
 
 /// What the linker's function runs that names these: the calls, and the end.
 fn calling(alloc: Global, k: Sought<'_>, row: &[Named]) -> Result<Source, OutOfMemory>
-    ensures { IfOk result (λ s. calling (known k.entry) row.now ≡ Some s) }
+    ensures { IfOk result (λ s. s ≡ calling (known k.entry) row.now) }
 {
     let mut code = calls_of(alloc, k, row)?;
     code.push(Op::Own(Instr::Plain(END)))?;
@@ -116,7 +116,7 @@ fn calling(alloc: Global, k: Sought<'_>, row: &[Named]) -> Result<Source, OutOfM
 
 /// What the linker's function of a part's number runs.
 fn linker_source(alloc: Global, k: Sought<'_>, number: Option<u32>) -> Result<Source, OutOfMemory>
-    ensures { IfOk result (λ s. calls_seen (known k.entry) number ≡ Some s) }
+    ensures { IfOk result (λ s. s ≡ calls_seen (known k.entry) number) }
 {
     match number {
         Some(number) => calling(alloc, k, row_at(k.tables, number)),
@@ -168,7 +168,8 @@ pub(crate) fn source_by(
                 kind: chunk_kinds::FUNCTION,
                 index,
             };
-            linker_source(alloc, k, chunk_number(&k.tables.chunks, chunk))
+            let source = linker_source(alloc, k, chunk_number(&k.tables.chunks, chunk))?;
+            Ok(source)
         }
         FunctionKey::Own { input, index } => {
             let chunk = Chunk {

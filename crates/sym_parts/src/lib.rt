@@ -6,7 +6,6 @@ mod bodies;
 mod bytes;
 mod cells;
 mod clones;
-mod dropped;
 mod functions;
 mod kinds;
 mod least;
@@ -22,7 +21,6 @@ mod slots;
 mod sought;
 
 pub use cells::first_cells;
-pub use dropped::dropped_stub;
 pub use functions::functions_of;
 pub use least::least_entries;
 pub use placed::{Cells, Functions};

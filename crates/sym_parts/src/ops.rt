@@ -31,39 +31,25 @@ const GLOBAL_GET: u8 = 0x23;
 /// `global.set`.
 const GLOBAL_SET: u8 = 0x24;
 
-/// The place of the stub of a name. A symbol of a dropped part leads nowhere; where one of them has the name of a stub it is answered as
-/// want of memory, since the tables don't tell which one it is.
-fn stub_place(
-    dropped: bool,
-    functions: &Functions,
-    name: Option<u32>,
-) -> Result<Option<u32>, OutOfMemory>
-    ensures { IfOk result (λ place. stub_place dropped functions.now name ≡ Some place) }
+/// The place of the stub of a name.
+fn stub_place(functions: &Functions, name: Option<u32>) -> Option<u32>
+    ensures { result ≡ stub_place functions.now name }
 {
     match name {
-        Some(name) => Ok(functions.place(FunctionKey::Stub(name))),
-        None => {
-            if dropped {
-                return Err(OutOfMemory);
-            }
-            Ok(None)
-        }
+        Some(name) => functions.place(FunctionKey::Stub(name)),
+        None => None,
     }
 }
 
-/// The place of the function that a symbol means.
-fn function_place(
-    dropped: bool,
-    functions: &Functions,
-    name: Option<u32>,
-    lead: Lead,
-) -> Result<Option<u32>, OutOfMemory>
-    ensures { IfOk result (λ place. function_place dropped functions.now name lead ≡ Some place) }
+/// The place of the function that a symbol means. One that leads nowhere, as that of a dropped part, names none.
+fn function_place(functions: &Functions, name: Option<u32>, lead: Lead) -> Option<u32>
+    ensures { result ≡ function_place functions.now name lead }
 {
     match lead {
-        Lead::Here(definition) => Ok(functions.place(function_of(definition))),
-        Lead::Import(number) => Ok(functions.place(FunctionKey::Import(number))),
-        Lead::Null | Lead::Nothing => stub_place(dropped, functions, name),
+        Lead::Here(definition) => functions.place(function_of(definition)),
+        Lead::Import(number) => functions.place(FunctionKey::Import(number)),
+        Lead::Null => stub_place(functions, name),
+        Lead::Nothing => None,
     }
 }
 
@@ -92,20 +78,15 @@ fn call_to(place: Option<u32>) -> Op
 }
 
 /// A call of the function that a symbol means.
-pub(crate) fn call_symbol(
-    dropped: bool,
-    functions: &Functions,
-    symbol: Symbol,
-) -> Result<Op, OutOfMemory>
-    ensures { IfOk result (λ op. call_symbol dropped functions.now symbol ≡ Some op) }
+pub(crate) fn call_symbol(functions: &Functions, symbol: Symbol) -> Op
+    ensures { result ≡ call_symbol functions.now symbol }
 {
-    let place = function_place(dropped, functions, symbol.name, symbol.lead)?;
-    Ok(call_to(place))
+    call_to(function_place(functions, symbol.name, symbol.lead))
 }
 
 /// `call`.
-fn call(k: Sought<'_>, named: Option<Named>) -> Result<Op, OutOfMemory>
-    ensures { IfOk result (λ op. call_seen (known k.entry) named ≡ Some op) }
+fn call(k: Sought<'_>, named: Option<Named>) -> Op
+    ensures { result ≡ call_seen (known k.entry) named }
 {
     match named {
         Some(
@@ -115,18 +96,14 @@ fn call(k: Sought<'_>, named: Option<Named>) -> Result<Op, OutOfMemory>
                 addend: _,
                 symbol,
             },
-        ) => {
-            let symbol = symbol_at(k.tables.symbols.as_slice(), symbol);
-            let op = call_symbol(k.dropped_stub, k.functions, symbol)?;
-            Ok(op)
-        }
+        ) => call_symbol(k.functions, symbol_at(k.tables.symbols.as_slice(), symbol)),
         Some(
             Named::Type {
                 place: _,
                 number: _,
             },
-        ) => Ok(Op::Absent),
-        None => Ok(Op::Absent),
+        ) => Op::Absent,
+        None => Op::Absent,
     }
 }
 
@@ -319,7 +296,7 @@ fn op_by(
             let op = open(alloc, k.tables.types.as_slice(), opcode, kind, last)?;
             Ok(op)
         }
-        Instr::Call(_) => call(k, last),
+        Instr::Call(_) => Ok(call(k, last)),
         Instr::CallIndirect { kind: _, table: _ } => {
             let op = call_through(alloc, k.tables.types.as_slice(), first)?;
             Ok(op)

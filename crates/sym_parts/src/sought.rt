@@ -11,6 +11,4 @@ pub struct Sought<'a> {
     pub bases: &'a [u64],
     pub functions: &'a Functions,
     pub cells: &'a Cells,
-    /// Whether a symbol of a dropped part has the name of a stub.
-    pub dropped_stub: bool,
 }

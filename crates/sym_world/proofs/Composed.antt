@@ -1,9 +1,7 @@
 -- The objects of a program, put together of their parts.
-use Rattle.std.proofs.Common.{◌≡◌, ℕ, Bool, true, false, List, [], ◌∷◌, ◌++◌, map, filter, Option, Some, option_map, unwrap_or, sym, ap, ◌∙◌}
+use Rattle.std.proofs.Common.{◌≡◌, ℕ, true, false, List, [], ◌∷◌, ◌++◌, map, filter, Option, Some, option_map, unwrap_or, sym, ap, ◌∙◌}
 use Rattle.std.specs.Prelude.{if◌then◌else◌, ◌/◌}
-use Rattle.link_program.specs.object_file.declared.object.Object.{Object}
 use Rattle.link_program.specs.made_symbols.declared.mode.Mode.TheVariants.{Plain}
-use Rattle.link_program.specs.link_names.Numbered.{Numbered}
 use Rattle.link_program.specs.memory_layout.declared.rules.Places.{Places}
 use Rattle.link_program.specs.name_rules.Entries.{InputSymbol}
 use Rattle.link_program.specs.link_plan.declared.plan.Plan.{Plan}
@@ -11,7 +9,6 @@ use Rattle.link_program.specs.link_rules.Program as rules
 use Rattle.link_program.specs.link_rules.Marks.{memory_name, live}
 use Rattle.link_program.specs.link_rules.Values as values
 use Rattle.link_program.specs.link_rules.Output.{layout}
-use Rattle.link_program.specs.declared.keys.FunctionKey.{FunctionKey}
 use Rattle.link_program.specs.Live.{AreLive}
 use Rattle.link_layout.specs.declared.values.Layout.{Layout}
 use Rattle.link_layout.specs.Layout.{IsLayout}
@@ -26,7 +23,6 @@ use Rattle.link_worlds.specs.Names.{all_functions, all_cells}
 use Rattle.link_worlds.specs.Worlds.{plan_function, plan_table, world_by, plan_world}
 use Rattle.run_laws.specs.Objects.{sym_cell, sym_segment, blocks_of, objects_of}
 use Rattle.sym_parts.specs.declared.sought.Sought.{Sought}
-use Rattle.sym_parts.specs.Dropped.{dropped_stub}
 use Rattle.sym_parts.specs.Sought.{known}
 use Rattle.sym_parts.specs.Data.{cell_seen, segment_seen, is_so}
 use Rattle.sym_world.specs.Exports.{export_seen}
@@ -35,10 +31,6 @@ use Rattle.sym_functions.specs.SoughtOf.{IsSoughtOf}
 use Rattle.sym_functions.proofs.Composed.{sought_is}
 use Rattle.sym_world.proofs.CellsTold.{cells_told, segments_told}
 use Rattle.sym_world.proofs.ExportsTold.{exports_told}
-
--- whether a symbol of a dropped part has the name of a stub, by what is told
-pub dropped_is : (a : Bool) (names told : Numbered) (fs keys : List FunctionKey) (os objects : List Object) → a ≡ dropped_stub names.names fs os → names ≡ told → fs ≡ keys → os ≡ objects → a ≡ dropped_stub told.names keys objects
-dropped_is a names told fs keys os objects is n f o = is ∙ (λ i. dropped_stub (n i).names (f i) (o i))
 
 module _ (p : rules.Program) (parts : List rules.Part) (es : List InputSymbol) (d : Layout) (is : IsLayout p parts es d) where
   abbrev l : values.Layout

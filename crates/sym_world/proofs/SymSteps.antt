@@ -61,7 +61,7 @@ loaded plan files all objects found given =
 abbrev names_of : Program → Result Program Fault
 names_of p = do
   p ← unless (too_many_names p) p
-  p ← unless (clash_by p.plan.like_lld p.entries) p
+  p ← unless (clash_by p.plan.loose_calls p.entries) p
   unless (duplicate p.entries) p
 
 module _ (p : Program) (b c : Program → Option Fault) (next : Program → Result SymWorld Fault) (r : Result Program Fault) where
@@ -79,11 +79,11 @@ module _ (p : Program) (b c : Program → Option Fault) (next : Program → Resu
 
 pub not_named : (p : Program) (f : Fault) → names_of p ≡ Err f → sym_program p ≡ Err f
 unfolding sym_program
-not_named p f e = named_by p (λ p. clash_by p.plan.like_lld p.entries) (λ p. duplicate p.entries) (λ p. sym_exporting p (exported Plain p)) (Err f) (too_many_names p) e
+not_named p f e = named_by p (λ p. clash_by p.plan.loose_calls p.entries) (λ p. duplicate p.entries) (λ p. sym_exporting p (exported Plain p)) (Err f) (too_many_names p) e
 
 pub named : (p : Program) → names_of p ≡ Ok p → sym_program p ≡ sym_exporting p (exported Plain p)
 unfolding sym_program
-named p e = named_by p (λ p. clash_by p.plan.like_lld p.entries) (λ p. duplicate p.entries) (λ p. sym_exporting p (exported Plain p)) (Ok p) (too_many_names p) e
+named p e = named_by p (λ p. clash_by p.plan.loose_calls p.entries) (λ p. duplicate p.entries) (λ p. sym_exporting p (exported Plain p)) (Ok p) (too_many_names p) e
 
 -- ---- exports and marks
 

@@ -43,7 +43,7 @@ sym_exporting p exports = do
 unfoldable pub sym_program : Program → Result SymWorld Fault
 sym_program p = do
   p ← unless (too_many_names p) p
-  p ← unless (clash_by p.plan.like_lld p.entries) p
+  p ← unless (clash_by p.plan.loose_calls p.entries) p
   p ← unless (duplicate p.entries) p
   sym_exporting p (exported Plain p)
 

@@ -19,9 +19,7 @@ use run_machines::{SymSegment, SymWorld};
 use run_rules::World;
 use std::alloc::Global;
 use sym_functions::{bases_of, functions, table};
-use sym_parts::{
-    Cells, Functions, Sought, dropped_stub, first_cells, numbers_in_order, segments_of,
-};
+use sym_parts::{Cells, Functions, Sought, first_cells, numbers_in_order, segments_of};
 use wl_base::{OutOfMemory, Seq};
 
 /// What the machine asks of the objects.
@@ -103,13 +101,11 @@ pub(crate) fn objects(
     let functions = Functions::new(alloc, program.resolution, program.tables)?;
     let cells = Cells::new(alloc, program.resolution, program.tables)?;
     let bases = bases_of(alloc, layout)?;
-    let dropped = dropped_stub(entries, &functions);
     let k = Sought {
         tables: program.tables,
         bases: &bases,
         functions: &functions,
         cells: &cells,
-        dropped_stub: dropped,
     };
     let world = world(alloc, layout, k, entries, files, exports)?;
     let places = &layout.placed.places;

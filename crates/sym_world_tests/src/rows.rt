@@ -270,6 +270,27 @@ fn dead_calls_of_dropped_functions_are_told(rt: HostRuntime) -> Result<(), Fail>
     Ok(())
 }
 
+/// The groups whose local function has the name of the null function.
+fn named_as_null() -> ([u8; 111], [u8; 148]) {
+    let (mut group, mut dead) = (*GROUP, *GROUP_DEAD);
+    group[95] = b'w';
+    dead[105] = b'w';
+    (group, dead)
+}
+
+#[test]
+fn dropped_functions_are_no_null_functions(rt: HostRuntime) -> Result<(), Fail> {
+    let alloc = rt.alloc();
+    let calls = [case(
+        b"call f i32:0\ncall f i32:1".as_slice(),
+        b"returned i32:3\ntrapped Unreachable\nmemory 2\nend\n".as_slice(),
+    )];
+    let (group, dead) = named_as_null();
+    let objects = [STUB.as_slice(), group.as_slice(), dead.as_slice()];
+    assert!(rt; hold(&rt, alloc, &THREE, &objects, &calls));
+    Ok(())
+}
+
 /// `f` that gives this number, by a symbol of these flags.
 fn giving(number: u8, flags: u8) -> [u8; 46] {
     let mut bytes = *GIVING;

@@ -1,23 +1,43 @@
-use Rattle.std.proofs.Common.{sym}
-use Rattle.driver_command.specs.Told.{warning_lines}
-use Rattle.driver_command.proofs.Around.{links_before}
-use Rattle.driver_command.proofs.Lines.{some_line}
+use Rattle.std.proofs.Common.{sym, subst, List}
+use Rattle.mismatch_rules.specs.declared.mismatch.Mismatch.{Mismatch}
+use Rattle.driver_command.specs.Told.{warning_lines, IsEnd}
+use Rattle.driver_command.proofs.Around.{links_as_before}
+use Rattle.driver_command.proofs.Causes.{tells_of_on}
+use Rattle.driver_command.proofs.Lines.{some_end}
 use Rattle.driver_command.proofs.Sayings.{second, first, heard, unheard}
 use Rattle.driver_command.proofs.driving.link_told.Goals as goal
 
-pub returns-then-is_ok-clause-shows : goal.returns-then-is_ok-clause-shows
-returns-then-is_ok-clause-shows g c =
-    links_before _ (g.F.Shelf.shown c.link_quietly-status.new.shelf) _ c.link_quietly-status.ensures.counts c.say_status.ensures.counts c.say_status.ensures.same
-    c.args.own.now c.link_quietly-status.result c.link_quietly-status.ensures.shows
+pub returns-clause-shows : goal.returns-clause-shows
+returns-clause-shows g c =
+    links_as_before (g.F.Shelf.shown c.args.shelf.now) (g.F.Shelf.shown c.link_quietly-status.new.shelf) (g.F.Shelf.shown c.say_ending.new.shelf) c.link_quietly-status.ensures.counts c.say_ending.ensures.counts c.say_ending.ensures.same
+    c.args.own.now c.args.fatal c.link_quietly-status.result.status c.link_quietly-status.ensures.shows
 
-pub returns-then-is_ok-clause-told : goal.returns-then-is_ok-clause-told
-returns-then-is_ok-clause-told g c =
-    let told = c.say_status.ensures.told in
-    let before = heard (warning_lines c.args.program.now c.args.warnings.now) c.say_warnings-heard.result _ _ (sym c.if-is_ok.ensures.value) c.say_warnings-heard.ensures in
-    (told.0, told.1, second _ told.0 _ _ _ _ before told.2)
+pub returns-clause-told : goal.returns-clause-told
+returns-clause-told g c =
+    let before = g.F.Shelf.shown c.args.shelf.now in
+    let mid = g.F.Shelf.shown c.link_quietly-status.new.shelf in
+    let after = g.F.Shelf.shown c.say_ending.new.shelf in
+    let fatal = c.args.fatal in
+    let status = c.link_quietly-status.result.status in
+    let told = c.link_quietly-status.result.told in
+    let program = c.args.program.now in
+    let own = c.args.own.now in
+    let said = c.say_ending.ensures.told in
+    let heard_before = heard (warning_lines program c.args.warnings.now) c.say_warnings-heard.result _ _ c.if-is_err.ensures.negation c.say_warnings-heard.ensures in (
+      told,
+      said.0,
+      tells_of_on before mid after c.say_ending.ensures.counts c.say_ending.ensures.same own fatal status told c.link_quietly-status.ensures.told,
+      subst (λ (ms : List Mismatch). IsEnd fatal status ms program after own said.0) c.as_slice-told.ensures said.1,
+      second _ said.0 _ _ _ _ heard_before said.2,
+    )
 
-pub returns-else-is_ok-clause-told : goal.returns-else-is_ok-clause-told
-returns-else-is_ok-clause-told g c =
-    let line = some_line c.link_quietly-status.result c.args.program.now (g.F.Shelf.shown c.link_quietly-status.new.shelf) c.args.own.now in
-    let torn = unheard (warning_lines c.args.program.now c.args.warnings.now) c.say_warnings-heard.result _ _ c.if-is_ok.ensures.negation c.say_warnings-heard.ensures in
-    (line.0, line.1, first _ line.0 _ _ torn)
+pub returns-then-is_err-clause-told : goal.returns-then-is_err-clause-told
+returns-then-is_err-clause-told g c =
+    let fatal = c.args.fatal in
+    let status = c.link_quietly-status.result.status in
+    let told = c.link_quietly-status.result.told in
+    let program = c.args.program.now in
+    let own = c.args.own.now in
+    let end = some_end fatal status told program (g.F.Shelf.shown c.link_quietly-status.new.shelf) own in
+    let torn = unheard (warning_lines program c.args.warnings.now) c.say_warnings-heard.result _ _ (sym c.if-is_err.ensures.value) c.say_warnings-heard.ensures in
+    (told, end.0, c.link_quietly-status.ensures.told, end.1, first _ end.0 _ _ torn)

@@ -7,15 +7,15 @@ use Rattle.link_command.proofs.Planned.{given, refused, sound, same_inputs}
 use Rattle.link_command.proofs.command.read_plan.Goals as goal
 
 pub returns-in-Ok-clause-plan : goal.returns-in-Ok-clause-plan
-returns-in-Ok-clause-plan c = given c.args.like_lld (plan_of c.args.words.now) c.in-Ok.plan c.in-Ok.ensures.plan ∙ ap Ok (sym c.plan_for.ensures)
+returns-in-Ok-clause-plan c = given c.args.like_lld c.args.loose_calls (plan_of c.args.words.now) c.in-Ok.plan c.in-Ok.ensures.plan ∙ ap Ok (sym c.plan_for.ensures)
 
 pub returns-in-Ok-clause-numbers : goal.returns-in-Ok-clause-numbers
-returns-in-Ok-clause-numbers c = subst IsPlan (sym c.plan_for.ensures) (sound c.args.like_lld c.in-Ok.plan c.in-Ok.ensures.numbers)
+returns-in-Ok-clause-numbers c = subst IsPlan (sym c.plan_for.ensures) (sound c.args.like_lld c.args.loose_calls c.in-Ok.plan c.in-Ok.ensures.numbers)
 
 pub returns-in-Ok-clause-places : goal.returns-in-Ok-clause-places
 returns-in-Ok-clause-places c =
     subst (λ (p : Plan). All (λ (i : InputWord). i.place < length c.args.words.now) p.inputs) (sym c.plan_for.ensures)
-    (subst (All (λ (i : InputWord). i.place < length c.args.words.now)) (sym (same_inputs c.args.like_lld c.in-Ok.plan)) c.in-Ok.ensures.places)
+    (subst (All (λ (i : InputWord). i.place < length c.args.words.now)) (sym (same_inputs c.args.like_lld c.args.loose_calls c.in-Ok.plan)) c.in-Ok.ensures.places)
 
 pub returns-in-Err-clause-plan : goal.returns-in-Err-clause-plan
-returns-in-Err-clause-plan c = refused c.args.like_lld (plan_of c.args.words.now) c.in-Err.error c.in-Err.ensures.plan
+returns-in-Err-clause-plan c = refused c.args.like_lld c.args.loose_calls (plan_of c.args.words.now) c.in-Err.error c.in-Err.ensures.plan

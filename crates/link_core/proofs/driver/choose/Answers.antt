@@ -13,7 +13,7 @@ pub live_parts-requires : goal.live_parts-requires
 live_parts-requires g c κs within =
     let program = c.requires.1.1.1.1.0 in
     let exports = c.as_slice-2.ensures ∙ c.in_ok-exports.ensures in
-    search (rules, program, exports)
+    (search rules, (search rules, (search rules, (search rules, (program, exports)))))
 
 pub returns-in_err-repeated_export : goal.returns-in_err-repeated_export
 returns-in_err-repeated_export g c =
@@ -24,7 +24,7 @@ pub unresolved-requires-sync-R : goal.unresolved-requires-sync-R
 unresolved-requires-sync-R g c κs within =
     let program = c.requires.1.1.1.1.0 in
     let live = c.in_ok-live.ensures in
-    search (rules, program, live)
+    (search rules, (search rules, (program, live)))
 
 pub returns-in_err-unresolved : goal.returns-in_err-unresolved
 returns-in_err-unresolved g c =
@@ -37,7 +37,7 @@ uncalled-requires g c =
     let fits = c.requires.1.1.1.1.1.0 in
     let objects = c.requires.1.1.1.1.1.1.0 in
     let live = c.in_ok-live.ensures in
-    search (rules, program, fits, objects, live)
+    (program, (fits, (objects, live)))
 
 pub returns-in_err-uncalled : goal.returns-in_err-uncalled
 returns-in_err-uncalled g c =

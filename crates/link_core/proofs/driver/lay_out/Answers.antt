@@ -8,8 +8,8 @@ use Rattle.link_core.proofs.driver.lay_out.Goals as goal
 
 pub place_segments-requires : goal.place_segments-requires
 place_segments-requires g c =
-    let is : IsLinking g.s.program c.args.program c.args.entries c.args.files.now = search rules in
-    let chosen : IsChosen g.s c.args.program c.args.exports.now c.args.live.now = search rules in
+    let is : IsLinking g.s.program c.args.program c.args.entries c.args.files.now = c.requires.1.1.0 in
+    let chosen : IsChosen g.s c.args.program c.args.exports.now c.args.live.now = c.requires.1.1.1 in
     (is.program, (is.stand, (chosen.live, (is.files, is.plan))))
 
 pub returns-in_err-placed-clause-exact : goal.returns-in_err-placed-clause-exact
@@ -19,8 +19,8 @@ returns-in_err-placed-clause-exact g c =
 
 pub number-requires : goal.number-requires
 number-requires g c =
-    let is : IsLinking g.s.program c.args.program c.args.entries c.args.files.now = search rules in
-    let chosen : IsChosen g.s c.args.program c.args.exports.now c.args.live.now = search rules in
+    let is : IsLinking g.s.program c.args.program c.args.entries c.args.files.now = c.requires.1.1.0 in
+    let chosen : IsChosen g.s c.args.program c.args.exports.now c.args.live.now = c.requires.1.1.1 in
     (is.fits, (is.objects, (is.names, (is.program, (is.stand, (chosen.live, (chosen.meant, chosen.exports)))))))
 
 pub returns-in_err-numbering-clause-exact : goal.returns-in_err-numbering-clause-exact
@@ -30,8 +30,8 @@ returns-in_err-numbering-clause-exact g c =
 
 pub make_ready-prepared-requires : goal.make_ready-prepared-requires
 make_ready-prepared-requires g c κs within =
-    let is : IsLinking g.s.program c.args.program c.args.entries c.args.files.now = search rules in
-    let chosen : IsChosen g.s c.args.program c.args.exports.now c.args.live.now = search rules in (
+    let is : IsLinking g.s.program c.args.program c.args.entries c.args.files.now = c.requires.1.1.0 in
+    let chosen : IsChosen g.s c.args.program c.args.exports.now c.args.live.now = c.requires.1.1.1 in (
       search rules,
       (
         search rules,

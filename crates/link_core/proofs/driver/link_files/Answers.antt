@@ -6,6 +6,7 @@ use Rattle.link_program.specs.Loaded.{the_candidates}
 use Rattle.link_core.specs.Loading.{Loading, program_in}
 use Rattle.link_core.specs.Prepared.{output_of}
 use Rattle.link_core.proofs.Answering.{fails_by, load_failed, goes_on_loaded}
+use Rattle.link_core.proofs.Listing.{load_told, loaded_told, tells_on}
 use Rattle.link_core.proofs.driver.link_files.Goals as goal
 
 pub returns-in_err-inputs-clause-exact : goal.returns-in_err-inputs-clause-exact
@@ -32,3 +33,28 @@ returns-clause-exact g c =
     goes_on_loaded c.args.plan.now c.args.files.now (the_candidates c.args.plan.now c.args.files.now) c.in_ok-inputs.inputs.loaded (Ok (output_of c.args.files.now c.in_ok-ready.ready))
     c.in_ok-inputs.ensures.found.candidates c.in_ok-inputs.ensures.found.objects c.in_ok-ready.ensures.exact
     ∙ ap (λ bs. Ok bs) (sym c.in_ok-bytes.ensures.is)
+
+-- ---- what is told
+
+pub returns-in_err-inputs-clause-told : goal.returns-in_err-inputs-clause-told
+returns-in_err-inputs-clause-told g c = λ none.
+    let p = err_from_is_err_and c.from_residual.result c.from_residual.ensures.1 in
+    rw (p.1) (load_told c.args.plan.now c.args.files.now c.in_err-inputs.field-0.0 p.0 c.args.told.now p.2 c.in_err-inputs.ensures.exact none)
+
+pub returns-in_err-ready-clause-told : goal.returns-in_err-ready-clause-told
+returns-in_err-ready-clause-told g c = λ none.
+    let p = err_from_is_err_and c.from_residual-in_err-ready.result c.from_residual-in_err-ready.ensures.1 in
+    let all = the_candidates c.args.plan.now c.args.files.now in
+    rw (p.1)
+    (tells_on c.args.plan.now c.args.files.now all c.in_ok-inputs.inputs.loaded c.in_ok-inputs.ensures.found.candidates c.in_ok-inputs.ensures.found.objects c.in_err-ready.field-0.0 p.0
+    c.prepare-prepared.new.told p.2 (c.in_err-ready.ensures.told none))
+
+pub returns-in_err-bytes-clause-told : goal.returns-in_err-bytes-clause-told
+returns-in_err-bytes-clause-told g c = λ none.
+    let p = err_from_is_err_and c.from_residual-in_err-bytes.result c.from_residual-in_err-bytes.ensures.1 in
+    rw (p.1, p.2) tt
+
+pub returns-clause-told : goal.returns-clause-told
+returns-clause-told g c = λ none.
+    c.in_ok-ready.ensures.told none
+    ∙ loaded_told c.args.plan.now c.args.files.now (the_candidates c.args.plan.now c.args.files.now) c.in_ok-inputs.inputs.loaded c.in_ok-inputs.ensures.found.candidates c.in_ok-inputs.ensures.found.objects

@@ -1,4 +1,4 @@
-use Rattle.std.proofs.Common.{◌≡◌, ◌∙◌, Ok, Err, ap, sym, subst, rules}
+use Rattle.std.proofs.Common.{◌≡◌, ◌∙◌, Err, ap, sym, subst, rules}
 use Rattle.std.proofs.lemmas.Result.{err_from_is_err_and}
 use Rattle.link_program.specs.wl_base.Answers.{Answers}
 use Rattle.link_program.specs.reloc_apply.declared.window.Patches.{Patches}
@@ -13,8 +13,8 @@ use Rattle.link_core.proofs.driver.make_ready.Goals as goal
 
 pub image-requires : goal.image-requires
 image-requires g c =
-    let layout : IsLayout g.s.program g.s.parts g.s.exports c.args.layout = search rules in
-    let chosen : IsChosen g.s c.args.layout.program c.args.exports.now c.args.live.now = search rules in
+    let layout : IsLayout g.s.program g.s.parts g.s.exports c.args.layout = c.requires.1.1.0 in
+    let chosen : IsChosen g.s c.args.layout.program c.args.exports.now c.args.live.now = c.requires.1.1.1.0 in
     (layout, (chosen.live, (chosen.among, chosen.exports)))
 
 pub returns-in_err-image-clause-exact : goal.returns-in_err-image-clause-exact
@@ -24,31 +24,31 @@ returns-in_err-image-clause-exact g c =
 
 pub measured-requires : goal.measured-requires
 measured-requires g c =
-    let layout : IsLayout g.s.program g.s.parts g.s.exports c.args.layout = search rules in
-    let chosen : IsChosen g.s c.args.layout.program c.args.exports.now c.args.live.now = search rules in
-    let same : c.args.files.now ≡ g.s.program.files = search rules in
+    let layout : IsLayout g.s.program g.s.parts g.s.exports c.args.layout = c.requires.1.1.0 in
+    let chosen : IsChosen g.s c.args.layout.program c.args.exports.now c.args.live.now = c.requires.1.1.1.0 in
+    let same : c.args.files.now ≡ g.s.program.files = c.requires.1.1.1.1 in
     lie_there c.args.files.now g.s.program.files (the_image g.s) c.in_ok-image.image same c.in_ok-image.ensures
     (c.windows_stand_in_sources.ensures.lie g.s.program c.args.live.now g.s.parts g.s.exports layout.stand chosen.live)
 
 pub returns-in_err-measured-clause-exact : goal.returns-in_err-measured-clause-exact
 returns-in_err-measured-clause-exact g c =
-    let same : c.args.files.now ≡ g.s.program.files = search rules in
+    let same : c.args.files.now ≡ g.s.program.files = c.requires.1.1.1.1 in
     let p = err_from_is_err_and c.from_residual-in_err-measured.result c.from_residual-in_err-measured.ensures.1 in
     rw (p.1)
     (measure_failed g.s.program (the_image g.s) (the_windows g.s) c.args.files.now c.in_ok-image.image same c.in_ok-image.ensures c.in_err-measured.field-0.0 p.0 p.2 c.in_err-measured.ensures)
 
 pub patches-requires : goal.patches-requires
 patches-requires g c κs within =
-    let layout : IsLayout g.s.program g.s.parts g.s.exports c.args.layout = search rules in
-    let chosen : IsChosen g.s c.args.layout.program c.args.exports.now c.args.live.now = search rules in
+    let layout : IsLayout g.s.program g.s.parts g.s.exports c.args.layout = c.requires.1.1.0 in
+    let chosen : IsChosen g.s c.args.layout.program c.args.exports.now c.args.live.now = c.requires.1.1.1.0 in
     let live = chosen.live in
-    search (rules, layout, live)
+    (search rules, (search rules, (layout, live)))
 
 pub returns-in_err-patches-clause-exact : goal.returns-in_err-patches-clause-exact
 returns-in_err-patches-clause-exact g c =
-    let layout : IsLayout g.s.program g.s.parts g.s.exports c.args.layout = search rules in
-    let chosen : IsChosen g.s c.args.layout.program c.args.exports.now c.args.live.now = search rules in
-    let same : c.args.files.now ≡ g.s.program.files = search rules in
+    let layout : IsLayout g.s.program g.s.parts g.s.exports c.args.layout = c.requires.1.1.0 in
+    let chosen : IsChosen g.s c.args.layout.program c.args.exports.now c.args.live.now = c.requires.1.1.1.0 in
+    let same : c.args.files.now ≡ g.s.program.files = c.requires.1.1.1.1 in
     let p = err_from_is_err_and c.from_residual-in_err-patches.result c.from_residual-in_err-patches.ensures.1 in
     let files =
     lie_there c.args.files.now g.s.program.files (the_image g.s) c.in_ok-image.image same c.in_ok-image.ensures
@@ -64,9 +64,9 @@ returns-in_err-patches-clause-exact g c =
 
 pub returns-clause-exact : goal.returns-clause-exact
 returns-clause-exact g c =
-    let layout : IsLayout g.s.program g.s.parts g.s.exports c.args.layout = search rules in
-    let chosen : IsChosen g.s c.args.layout.program c.args.exports.now c.args.live.now = search rules in
-    let same : c.args.files.now ≡ g.s.program.files = search rules in
+    let layout : IsLayout g.s.program g.s.parts g.s.exports c.args.layout = c.requires.1.1.0 in
+    let chosen : IsChosen g.s c.args.layout.program c.args.exports.now c.args.live.now = c.requires.1.1.1.0 in
+    let same : c.args.files.now ≡ g.s.program.files = c.requires.1.1.1.1 in
     let files =
     lie_there c.args.files.now g.s.program.files (the_image g.s) c.in_ok-image.image same c.in_ok-image.ensures
     (c.windows_stand_in_sources.ensures.lie g.s.program c.args.live.now g.s.parts g.s.exports layout.stand chosen.live) in
@@ -80,9 +80,9 @@ returns-clause-exact g c =
 
 pub returns-clause-ready : goal.returns-clause-ready
 returns-clause-ready g c =
-    let layout : IsLayout g.s.program g.s.parts g.s.exports c.args.layout = search rules in
-    let chosen : IsChosen g.s c.args.layout.program c.args.exports.now c.args.live.now = search rules in
-    let same : c.args.files.now ≡ g.s.program.files = search rules in
+    let layout : IsLayout g.s.program g.s.parts g.s.exports c.args.layout = c.requires.1.1.0 in
+    let chosen : IsChosen g.s c.args.layout.program c.args.exports.now c.args.live.now = c.requires.1.1.1.0 in
+    let same : c.args.files.now ≡ g.s.program.files = c.requires.1.1.1.1 in
     let files =
     lie_there c.args.files.now g.s.program.files (the_image g.s) c.in_ok-image.image same c.in_ok-image.ensures
     (c.windows_stand_in_sources.ensures.lie g.s.program c.args.live.now g.s.parts g.s.exports layout.stand chosen.live) in

@@ -2,8 +2,8 @@ use Rattle.link_core.specs.Chosen.{stage_of}
 use Rattle.link_core.specs.Loading.{program_in}
 use Rattle.link_core.proofs.driver.prepare.Given as goal
 
-abbrev pub ghost-find : goal.ghost-find
-ghost-find g a = g.l.origin
+abbrev pub ghost-find_telling : goal.ghost-find_telling
+ghost-find_telling g a = g.l.origin
 
 abbrev pub ghost-choose : goal.ghost-choose
 ghost-choose g a = program_in g.l

@@ -23,24 +23,24 @@ calls_in-requires g c =
 
 -- ---- none
 
-pub returns-then-not-like_lld-clause-loose : goal.returns-then-not-like_lld-clause-loose
-returns-then-not-like_lld-clause-loose g c =
-    subst (λ b. IsLoose b g.allow c.args.names.now.names c.args.resolution.now.imports c.args.objects.now c.none.result) (sym c.if-not-like_lld.true)
+pub returns-then-not-loose_calls-clause-loose : goal.returns-then-not-loose_calls-clause-loose
+returns-then-not-loose_calls-clause-loose g c =
+    subst (λ b. IsLoose b g.allow c.args.names.now.names c.args.resolution.now.imports c.args.objects.now c.none.result) (sym c.if-not-loose_calls.true)
     (c.none.ensures g.allow c.args.names.now.names c.args.resolution.now.imports c.args.objects.now)
 
-pub returns-then-not-like_lld-clause-names : goal.returns-then-not-like_lld-clause-names
-returns-then-not-like_lld-clause-names g c =
-    subst (λ b. c.args.names.now.names ≡ c.args.names.now.names ++ variant_names (variants_in b g.allow c.args.objects.now)) (sym c.if-not-like_lld.true) (sym (append-nil c.args.names.now.names))
+pub returns-then-not-loose_calls-clause-names : goal.returns-then-not-loose_calls-clause-names
+returns-then-not-loose_calls-clause-names g c =
+    subst (λ b. c.args.names.now.names ≡ c.args.names.now.names ++ variant_names (variants_in b g.allow c.args.objects.now)) (sym c.if-not-loose_calls.true) (sym (append-nil c.args.names.now.names))
 
-pub returns-then-not-like_lld-clause-stays : goal.returns-then-not-like_lld-clause-stays
-returns-then-not-like_lld-clause-stays g c = record { made = refl; symbols = refl; groups = refl }
+pub returns-then-not-loose_calls-clause-stays : goal.returns-then-not-loose_calls-clause-stays
+returns-then-not-loose_calls-clause-stays g c = record { made = refl; symbols = refl; groups = refl }
 
-pub returns-then-not-like_lld-clause-few : goal.returns-then-not-like_lld-clause-few
-returns-then-not-like_lld-clause-few g c = subst (λ n. n < 2 ^ 32) c.count.ensures (omega arith)
+pub returns-then-not-loose_calls-clause-few : goal.returns-then-not-loose_calls-clause-few
+returns-then-not-loose_calls-clause-few g c = subst (λ n. n < 2 ^ 32) c.count.ensures (omega arith)
 
-pub returns-then-not-like_lld-clause-apart : goal.returns-then-not-like_lld-clause-apart
-returns-then-not-like_lld-clause-apart g c =
-    subst (λ b. All (λ (v : InputSymbol). list_any (bytes_eq (name_of v)) c.args.names.now.names ≡ false) (variants_in b g.allow c.args.objects.now)) (sym c.if-not-like_lld.true)
+pub returns-then-not-loose_calls-clause-apart : goal.returns-then-not-loose_calls-clause-apart
+returns-then-not-loose_calls-clause-apart g c =
+    subst (λ b. All (λ (v : InputSymbol). list_any (bytes_eq (name_of v)) c.args.names.now.names ≡ false) (variants_in b g.allow c.args.objects.now)) (sym c.if-not-loose_calls.true)
     (All-nil (λ (v : InputSymbol). list_any (bytes_eq (name_of v)) c.args.names.now.names ≡ false))
 
 -- ---- by what is found
@@ -50,7 +50,7 @@ returns-clause-loose g c =
     let are : AreCalls g.allow c.args.objects.now c.in_ok-calls.calls = subst (λ os. AreCalls g.allow os c.in_ok-calls.calls) c.view.ensures.objects c.in_ok-calls.ensures in
     let interns : Interns c.args.names.now c.intern_all.new.names c.in_ok-calls.calls.variants c.in_ok-named.named =
     subst (λ (vs : List Variant). Interns c.args.names.now c.intern_all.new.names vs c.in_ok-named.named) c.as_slice.ensures c.in_ok-named.ensures in
-    subst (λ b. IsLoose b g.allow c.intern_all.new.names.names c.args.resolution.now.imports c.args.objects.now (record { called = c.in_ok-calls.calls.called; symbols = c.in_ok-named.named.symbols; types = c.in_ok-named.named.types })) (sym c.if-not-like_lld.false)
+    subst (λ b. IsLoose b g.allow c.intern_all.new.names.names c.args.resolution.now.imports c.args.objects.now (record { called = c.in_ok-calls.calls.called; symbols = c.in_ok-named.named.symbols; types = c.in_ok-named.named.types })) (sym c.if-not-loose_calls.false)
     (is_loose g.allow c.args.objects.now c.args.resolution.now.imports c.args.names.now c.intern_all.new.names c.in_ok-calls.calls c.in_ok-named.named are interns)
 
 pub returns-clause-names : goal.returns-clause-names
@@ -58,7 +58,7 @@ returns-clause-names g c =
     let are : AreCalls g.allow c.args.objects.now c.in_ok-calls.calls = subst (λ os. AreCalls g.allow os c.in_ok-calls.calls) c.view.ensures.objects c.in_ok-calls.ensures in
     let interns : Interns c.args.names.now c.intern_all.new.names c.in_ok-calls.calls.variants c.in_ok-named.named =
     subst (λ (vs : List Variant). Interns c.args.names.now c.intern_all.new.names vs c.in_ok-named.named) c.as_slice.ensures c.in_ok-named.ensures in
-    subst (λ b. c.intern_all.new.names.names ≡ c.args.names.now.names ++ variant_names (variants_in b g.allow c.args.objects.now)) (sym c.if-not-like_lld.false)
+    subst (λ b. c.intern_all.new.names.names ≡ c.args.names.now.names ++ variant_names (variants_in b g.allow c.args.objects.now)) (sym c.if-not-loose_calls.false)
     (names_behind g.allow c.args.objects.now c.args.resolution.now.imports c.args.names.now c.intern_all.new.names c.in_ok-calls.calls c.in_ok-named.named are interns)
 
 pub returns-clause-apart : goal.returns-clause-apart
@@ -66,7 +66,7 @@ returns-clause-apart g c =
     let are : AreCalls g.allow c.args.objects.now c.in_ok-calls.calls = subst (λ os. AreCalls g.allow os c.in_ok-calls.calls) c.view.ensures.objects c.in_ok-calls.ensures in
     let interns : Interns c.args.names.now c.intern_all.new.names c.in_ok-calls.calls.variants c.in_ok-named.named =
     subst (λ (vs : List Variant). Interns c.args.names.now c.intern_all.new.names vs c.in_ok-named.named) c.as_slice.ensures c.in_ok-named.ensures in
-    subst (λ b. All (λ (v : InputSymbol). list_any (bytes_eq (name_of v)) c.args.names.now.names ≡ false) (variants_in b g.allow c.args.objects.now)) (sym c.if-not-like_lld.false)
+    subst (λ b. All (λ (v : InputSymbol). list_any (bytes_eq (name_of v)) c.args.names.now.names ≡ false) (variants_in b g.allow c.args.objects.now)) (sym c.if-not-loose_calls.false)
     (all_apart g.allow c.args.objects.now c.args.resolution.now.imports c.args.names.now c.intern_all.new.names c.in_ok-calls.calls c.in_ok-named.named are interns)
 
 pub returns-clause-stays : goal.returns-clause-stays

@@ -1,4 +1,4 @@
-use Rattle.std.proofs.Common.{rules, ap, Ok}
+use Rattle.std.proofs.Common.{rules, refl, ap, Ok}
 use Rattle.link_program.specs.made_symbols.declared.mode.Mode.TheVariants as modes
 use Rattle.link_program.specs.Loaded.{Origin}
 use Rattle.program_build.specs.Steps.{AreMeant}
@@ -14,7 +14,7 @@ pub meanings_of-requires : goal.meanings_of-requires
 meanings_of-requires g c κs within =
     let fits = c.view-view.ensures.fits modes.Plain c.in_ok-names.ensures.2 c.requires.1.1.1.1.1.1.rise c.in_ok-entries.ensures in
     let same = c.requires.1.1.1.1.1.0 in
-    search (rules, fits, same)
+    (search rules, (search rules, (search rules, (search rules, (same, fits)))))
 
 pub returns-in_err-meanings : goal.returns-in_err-meanings
 returns-in_err-meanings g c =
@@ -30,7 +30,7 @@ found_by-requires g c κs within =
     c.requires.1.1.1.1.1.0 c.view-view.ensures.objects (ap (λ n. n.names) c.view-view.ensures.names) c.in_ok-meanings.ensures in
     let loaded = c.requires.1.1.1.1.1.1 in
     let meant : AreMeant origin c.args.objects.now c.in_ok-names.names c.in_ok-entries.entries c.in_ok-meanings.meanings = record { numbered = c.in_ok-names.ensures; looked_up = c.in_ok-entries.ensures; meanings = told.1 } in
-    search (rules, loaded, meant)
+    (search rules, (search rules, (refl, (loaded, meant))))
 
 pub returns : goal.returns
 returns g c =

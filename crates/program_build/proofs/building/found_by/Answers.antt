@@ -22,13 +22,13 @@ use Rattle.program_build.proofs.building.found_by.Goals as goal
 
 pub loosened-requires : goal.loosened-requires
 loosened-requires g c =
-    let loaded : IsLoaded g.origin.files g.origin.all c.args.objects.now c.args.homes.now = search rules in
-    let meant : AreMeant g.origin c.args.objects.now c.args.names c.args.entries c.args.meanings = search rules in
+    let loaded : IsLoaded g.origin.files g.origin.all c.args.objects.now c.args.homes.now = c.requires.1.1.1.0 in
+    let meant : AreMeant g.origin c.args.objects.now c.args.names c.args.entries c.args.meanings = c.requires.1.1.1.1 in
     let numbers = meant.numbered.2 in
     let rise = loaded.rise in
     let table = meant.looked_up in
     let resolved = meant.meanings.resolved in
-    search (rules, numbers, rise, table, resolved)
+    (numbers, (rise, (table, resolved)))
 
 pub tables_of-requires : goal.tables_of-requires
 tables_of-requires g c κs within =
@@ -37,10 +37,10 @@ tables_of-requires g c κs within =
     let n = c.args.names in
     let m = c.loosened.new.names in
     let ms = c.args.meanings in
-    let same : origin.plan ≡ c.args.plan.now = search rules in
-    let loaded : IsLoaded origin.files origin.all objects c.args.homes.now = search rules in
-    let meant : AreMeant origin objects n c.args.entries ms = search rules in
-    let like : c.args.plan.now.like_lld ≡ origin.plan.like_lld = ap (λ (p : Plan). p.like_lld) (sym same) in
+    let same : origin.plan ≡ c.args.plan.now = c.requires.1.1.0 in
+    let loaded : IsLoaded origin.files origin.all objects c.args.homes.now = c.requires.1.1.1.0 in
+    let meant : AreMeant origin objects n c.args.entries ms = c.requires.1.1.1.1 in
+    let like : c.args.plan.now.loose_calls ≡ origin.plan.loose_calls = ap (λ (p : Plan). p.loose_calls) (sym same) in
     let stays : Stays n m = c.in_ok-loose.ensures.stays in
     let few : length m.names < 2 ^ 32 = c.in_ok-loose.ensures.few in
     let behind = subst (λ b. m.names ≡ n.names ++ variant_names (variants_in b origin.plan.allow_undefined objects)) like c.in_ok-loose.ensures.names in
@@ -56,11 +56,11 @@ tables_of-requires g c κs within =
     let resolved : IsResolution ms.resolution (resolve Plain origin.plan.allow_undefined (entries Plain c.view-view.result.objects.now) c.view-view.result.objects.now) =
     subst (λ (os : List Object). IsResolution ms.resolution (resolve Plain origin.plan.allow_undefined (entries Plain os) os)) (sym of_objects) meant.meanings.resolved in
     let homes : IsLoaded origin.files origin.all c.view-view.result.objects.now c.args.homes.now = subst (λ (os : List Object). IsLoaded origin.files origin.all os c.args.homes.now) (sym of_objects) loaded in
-    let loose : IsLoose origin.plan.like_lld origin.plan.allow_undefined c.view-view.result.names.now.names ms.resolution.imports c.view-view.result.objects.now c.in_ok-loose.loose =
-    subst (λ (ns : Numbered). IsLoose origin.plan.like_lld origin.plan.allow_undefined ns.names ms.resolution.imports c.view-view.result.objects.now c.in_ok-loose.loose) (sym of_names)
-    (subst (λ (os : List Object). IsLoose origin.plan.like_lld origin.plan.allow_undefined m.names ms.resolution.imports os c.in_ok-loose.loose) (sym of_objects)
+    let loose : IsLoose origin.plan.loose_calls origin.plan.allow_undefined c.view-view.result.names.now.names ms.resolution.imports c.view-view.result.objects.now c.in_ok-loose.loose =
+    subst (λ (ns : Numbered). IsLoose origin.plan.loose_calls origin.plan.allow_undefined ns.names ms.resolution.imports c.view-view.result.objects.now c.in_ok-loose.loose) (sym of_names)
+    (subst (λ (os : List Object). IsLoose origin.plan.loose_calls origin.plan.allow_undefined m.names ms.resolution.imports os c.in_ok-loose.loose) (sym of_objects)
     (subst (λ b. IsLoose b origin.plan.allow_undefined m.names ms.resolution.imports objects c.in_ok-loose.loose) like c.in_ok-loose.ensures.loose)) in
-    search (rules, fits, won, resolved, homes, loose)
+    (search rules, (search rules, (fits, (won, (resolved, (homes, loose))))))
 
 pub returns : goal.returns
 returns g c =
@@ -69,10 +69,10 @@ returns g c =
     let n = c.args.names in
     let m = c.loosened.new.names in
     let ms = c.args.meanings in
-    let same : origin.plan ≡ c.args.plan.now = search rules in
-    let loaded : IsLoaded origin.files origin.all objects c.args.homes.now = search rules in
-    let meant : AreMeant origin objects n c.args.entries ms = search rules in
-    let like : c.args.plan.now.like_lld ≡ origin.plan.like_lld = ap (λ (p : Plan). p.like_lld) (sym same) in
+    let same : origin.plan ≡ c.args.plan.now = c.requires.1.1.0 in
+    let loaded : IsLoaded origin.files origin.all objects c.args.homes.now = c.requires.1.1.1.0 in
+    let meant : AreMeant origin objects n c.args.entries ms = c.requires.1.1.1.1 in
+    let like : c.args.plan.now.loose_calls ≡ origin.plan.loose_calls = ap (λ (p : Plan). p.loose_calls) (sym same) in
     let behind = subst (λ b. m.names ≡ n.names ++ variant_names (variants_in b origin.plan.allow_undefined objects)) like c.in_ok-loose.ensures.names in
     let apart = subst (λ b. All (λ (v : InputSymbol). list_any (bytes_eq (name_of v)) n.names ≡ false) (variants_in b origin.plan.allow_undefined objects)) like c.in_ok-loose.ensures.apart in
     let tables : AreTables m.names ms.resolution.imports c.in_ok-tables.tables (program Plain origin objects) =

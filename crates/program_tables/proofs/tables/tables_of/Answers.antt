@@ -36,7 +36,7 @@ returns g c =
     let ranked : WinnersAre c.args.entries.names.now.names (entries Plain c.args.entries.objects.now) c.args.ranks.now = search rules in
     let loaded : IsLoaded g.origin.files g.origin.all c.args.entries.objects.now c.args.homes.now = search rules in
     let lo : Loose = c.args.loose.now in
-    let loose : IsLoose g.origin.plan.like_lld g.origin.plan.allow_undefined c.args.entries.names.now.names c.args.resolution.now.imports c.args.entries.objects.now lo = search rules in
+    let loose : IsLoose g.origin.plan.loose_calls g.origin.plan.allow_undefined c.args.entries.names.now.names c.args.resolution.now.imports c.args.entries.objects.now lo = search rules in
     let objects = c.args.entries.objects.now in
     let s : Sources = record { entries = c.args.entries; resolution = c.args.resolution; places = c.as_slice.result } in
     let l : Lookups = record { entries = c.args.entries; firsts = c.as_slice-4.result; types = c.numbers.result; homes = c.args.homes; called = c.as_slice-5.result } in

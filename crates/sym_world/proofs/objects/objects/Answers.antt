@@ -3,28 +3,24 @@ use Rattle.link_layout.specs.Layout.{IsLayout}
 use Rattle.sym_parts.specs.Data.{cell_seen}
 use Rattle.sym_world.specs.Choosing.{IsStage}
 use Rattle.sym_world.proofs.CellsTold.{cells_told}
-use Rattle.sym_world.proofs.Composed.{dropped_is, objects_is}
+use Rattle.sym_world.proofs.Composed.{objects_is}
 use Rattle.sym_world.proofs.objects.objects.Goals as goal
 
 pub world-requires : goal.world-requires
 world-requires g c =
-    let layout : IsLayout g.s.program g.s.parts g.s.exports c.args.layout = search rules in
-    let dropped = dropped_is c.dropped_stub-dropped.result c.args.entries.names.now c.args.layout.program.names.now c.in_ok-functions.functions _ c.args.entries.objects.now c.args.layout.program.objects.now
-    c.dropped_stub-dropped.ensures (search rules) c.in_ok-functions.ensures (search rules) in (
+    let layout : IsLayout g.s.program g.s.parts g.s.exports c.args.layout = search rules in (
       layout,
       (
-        record { tables = refl; bases = search rules; functions = c.in_ok-functions.ensures; cells = c.in_ok-cells.ensures; dropped = dropped },
+        record { tables = refl; bases = search rules; functions = c.in_ok-functions.ensures; cells = c.in_ok-cells.ensures },
         (search rules, (search rules, (search rules, (search rules, (search rules, search rules))))),
       ),
     )
 
 pub segments-requires : goal.segments-requires
 segments-requires g c =
-    let layout : IsLayout g.s.program g.s.parts g.s.exports c.args.layout = search rules in
-    let dropped = dropped_is c.dropped_stub-dropped.result c.args.entries.names.now c.args.layout.program.names.now c.in_ok-functions.functions _ c.args.entries.objects.now c.args.layout.program.objects.now
-    c.dropped_stub-dropped.ensures (search rules) c.in_ok-functions.ensures (search rules) in (
+    let layout : IsLayout g.s.program g.s.parts g.s.exports c.args.layout = search rules in (
       layout,
-      (record { tables = refl; bases = search rules; functions = c.in_ok-functions.ensures; cells = c.in_ok-cells.ensures; dropped = dropped }, (search rules, search rules)),
+      (record { tables = refl; bases = search rules; functions = c.in_ok-functions.ensures; cells = c.in_ok-cells.ensures }, (search rules, search rules)),
     )
 
 pub returns : goal.returns

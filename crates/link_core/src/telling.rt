@@ -1,0 +1,65 @@
+//! What is found of the loaded objects, and what is told of functions that are called by another type than their definition has.
+ghost use Rattle.std.specs.Prelude.{◌≡◌, [], IfOk};
+ghost use Rattle.link_program.specs.made_symbols.declared.mode.Mode.TheVariants as modes;
+ghost use Rattle.link_program.specs.link_plan.Plan.{IsPlan};
+ghost use Rattle.link_program.specs.link_rules.Program as rules;
+ghost use Rattle.link_program.specs.link_rules.Program.{program_of};
+ghost use Rattle.link_program.specs.Loaded.{IsLoaded, Origin};
+ghost use Rattle.mismatch_rules.specs.Mismatches.{mismatches_if, standing, told_of};
+ghost use Rattle.program_build.specs.Found.{Finds, IsFound};
+ghost use Rattle.link_core.specs.Telling.{Tells};
+
+use link_plan::Plan;
+use link_program::{Home, LinkError, Object};
+use loose_calls::mismatches;
+use mismatch_rules::Mismatch;
+use program_build::{Found, find};
+use std::alloc::Global;
+use std::thread::Threads;
+use wl_base::{OutOfMemory, Seq};
+use wl_fan::Workers;
+use wl_outside::Gate;
+
+/// What is told of calls in what was found. Only where calls name variants, symbols are looked at once more.
+fn mismatches_in(
+    alloc: Global,
+    plan: &Plan,
+    objects: &[Object],
+    found: &Found,
+) -> Result<Seq<Mismatch>, OutOfMemory>
+    ghost p: { rules.Program }
+    requires { IsFound modes.Plain plan.now objects.now found.now p }
+    ensures { IfOk result (λ told. told ≡ mismatches_if p.plan.loose_calls p) }
+{
+    if !plan.loose_calls {
+        return Ok(Seq::new(alloc));
+    }
+    if found.tables.variants.is_empty() {
+        return Ok(Seq::new(alloc));
+    }
+    let told = mismatches(alloc, found.view(objects), &found.resolution)?;
+    Ok(told)
+}
+
+/// The same as [`find`], and beside it what is told of calls.
+pub(crate) fn find_telling<G: Gate, R: Threads + Sync>(
+    rt: &R,
+    alloc: Global,
+    plan: &Plan,
+    objects: &[Object],
+    homes: &[Home],
+    workers: Workers,
+    gate: &G,
+    told: &mut Seq<Mismatch>,
+) -> Result<Found, LinkError>
+    ghost origin: { Origin }
+    requires plan { IsPlan plan.now }
+    requires same { origin.plan ≡ plan.now }
+    requires loaded { IsLoaded origin.files origin.all objects.now homes.now }
+    ensures found { Finds modes.Plain result plan.now objects.now (program_of modes.Plain plan.now origin.files origin.all objects.now) }
+    ensures told { told.old ≡ [] → Tells result told.new (told_of (standing (program_of modes.Plain plan.now origin.files origin.all objects.now))) }
+{
+    let found = find(rt, alloc, plan, objects, homes, workers, gate)?;
+    *told = mismatches_in(alloc, plan, objects, &found)?;
+    Ok(found)
+}

@@ -1,0 +1,33 @@
+-- What is told of the symbols of all objects.
+use Rattle.std.specs.Prelude.{◌≡◌, ℕ, Bool, List, filter_map, Some}
+use Rattle.link_program.specs.object_file.declared.object.Object.{Object}
+use Rattle.link_program.specs.object_file.Spaces.{no_type}
+use Rattle.link_program.specs.made_symbols.declared.mode.Mode.TheVariants.{Plain}
+use Rattle.link_program.specs.name_rules.declared.meaning.Meaning.{Meaning as Answer}
+use Rattle.link_program.specs.name_rules.declared.meaning.Meaning.TheVariants.{Here, Made, Import, Null, Nothing}
+use Rattle.link_program.specs.name_rules.Entries.{InputSymbol, entries}
+use Rattle.link_program.specs.name_rules.Meanings.{Meaning, meaning, no_uses}
+use Rattle.link_program.specs.link_rules.Keys.{function_type_of}
+use Rattle.mismatch_rules.specs.declared.mismatch.Mismatch.{Mismatch}
+use Rattle.mismatch_rules.specs.Mismatches.{mismatch_by}
+use Rattle.program_tables.specs.Objects.{symbol_of}
+use Rattle.loose_calls.specs.declared.telling.Definer.{Definer}
+
+-- what a symbol means in a plain output
+abbrev pub meant : Bool → List Object → InputSymbol → Meaning
+meant allow objects e = meaning Plain no_uses allow (entries Plain objects) e
+
+-- The mismatches that these symbols are.
+abbrev pub told_of : Bool → List Object → List InputSymbol → List Mismatch
+told_of allow objects es = filter_map (λ e. mismatch_by (entries Plain objects) e (meant allow objects e)) es
+
+abbrev pub definer_seen : InputSymbol → Definer
+definer_seen d = record { of_type = function_type_of d.type; input = d.input }
+
+-- The answer leads to this definition.
+abbrev pub LeadsTo : List Object → Answer → InputSymbol → Type 0
+LeadsTo objects (Here input symbol) d = (d.input ≡ input) × (symbol_of objects input symbol ≡ Some d)
+LeadsTo objects (Made number) d = (d.input ≡ 0) × (function_type_of d.type ≡ no_type)
+LeadsTo objects (Import number) d = ⊥
+LeadsTo objects Null d = ⊥
+LeadsTo objects Nothing d = ⊥
