@@ -129,6 +129,7 @@ programs_of_cpp() {
   # Some builds of the C++ library declare functions otherwise than they define them: what links has to run, and else is refused.
   if cxx -O2 "$sources/streams.cpp" -o streams.wasm 2>streams.txt; then
     expect "streams run" prints streams.wasm 'hello from a stream 42\n'
+    expect "and no warning is told of them" test ! -s streams.txt
   else
     expect "streams are refused by the name of a function" grep -q "^wasm-ld: error: .*_ZNSt3" streams.txt
     expect "and nothing is written" test ! -e streams.wasm
@@ -217,6 +218,9 @@ other_types() {
   expect "and one of a function that isn't there doesn't" test "$(cc no_probe.c -o no.wasm 2>&1 | grep -c 'undefined symbol: no_such_function')" -eq 1
   expect "the address of a function that is declared otherwise is taken" cc address.c twice.c once.c -o address.wasm
   expect "and is that of its definition" prints address.wasm '42\n'
+  expect "an address alone isn't told" test -z "$(cc address.c twice.c -o alone.wasm 2>&1)"
+  expect "and is no error with --fatal-warnings" cc -Wl,--fatal-warnings address.c twice.c -o alone.wasm
+  expect "which is that of its definition too" prints alone.wasm '42\n'
   printf 'int f(int, double);\nvoid g(void);\nvoid h(int);\nvoid run(void) { f(1, 2); g(); h(3); }\n' >calls.c
   printf 'void f(void) {}\nlong long g(float a) { return 1; }\n' >fg.c
   printf 'float h(long long a) { return 2; }\n' >h.c
@@ -224,6 +228,9 @@ other_types() {
   clang --target=wasm32-wasi -c address.c twice_too.c twice.c once.c calls.c fg.c h.c lost.c
   llvm-ar rcs mine.a fg.o h.o
   expect "it is told by which types it is called and defined" tells_as_lld_does once.o twice.o --no-entry --export=once
+  expect "of a call, and not of an address" tells_as_lld_does address.o once.o twice.o --no-entry --export=main --export=once --allow-undefined
+  expect "also where it is dead" tells_as_lld_does once.o twice.o --no-entry
+  expect "and not where addresses alone are taken" tells_as_lld_does address.o twice.o --no-entry --export=main --allow-undefined
   expect "also from within a library, and of two functions" tells_as_lld_does calls.o mine.a --no-entry --export=run
   expect "and before an error" tells_as_lld_does once.o twice.o lost.o --no-entry --export=once --export=lost
   expect "with --fatal-warnings it is an error" is_refused_as no.wasm "$(printf 'wasm-ld: error: function signature mismatch: twice

@@ -55,6 +55,7 @@ elif ! is_current; then
 fi
 
 # Memory in large pages, where the C library (2.35 or later) and the kernel have them: a tenth of a link's time goes into faults of small ones. For
-# that the heap grows by 16 MiB at a time and keeps 32, and only a piece of a large page (2 MiB) or more is mapped by itself.
-export GLIBC_TUNABLES=${GLIBC_TUNABLES:-glibc.malloc.hugetlb=1:glibc.malloc.top_pad=16777216:glibc.malloc.trim_threshold=33554432:glibc.malloc.mmap_threshold=2097152}
+# that the heap grows by 16 MiB at a time and keeps 32, and only a piece of a large page (2 MiB) or more is mapped by itself. A thread's own heap
+# takes a large page at least, so of these there are at most 16.
+export GLIBC_TUNABLES=${GLIBC_TUNABLES:-glibc.malloc.hugetlb=1:glibc.malloc.top_pad=16777216:glibc.malloc.trim_threshold=33554432:glibc.malloc.mmap_threshold=2097152:glibc.malloc.arena_max=16}
 exec -a "${0##*/}" "$program" "$@"

@@ -4,7 +4,7 @@ use Rattle.wl_base.specs.declared.usage.Usage.{Usage as UsageFault}
 use Rattle.wl_outside.specs.Shelf.{Shown}
 use Rattle.link_plan.specs.declared.plan.Plan.{Plan}
 use Rattle.mismatch_rules.specs.declared.mismatch.Mismatch.{Mismatch}
-use Rattle.mismatch_rules.specs.Mismatches.{mismatches_of}
+use Rattle.called_variants.specs.Called.{calls_told_of}
 use Rattle.link_command.specs.declared.status.Status.{Status}
 use Rattle.link_command.specs.declared.status.Status.TheVariants.{Linked, Refused, Usage, ReadFault, WriteFault, NoMemory}
 use Rattle.link_command.specs.Command.{planned, IsTold, files_of}
@@ -13,7 +13,7 @@ use Rattle.link_command.specs.Command.{planned, IsTold, files_of}
 pub record AreMismatches (before : Shown) (words : List (List ℕ)) (plan : Plan) (told : List Mismatch) : Type 0 where
   pub files : List (List ℕ)
   pub held : files_of plan.make_case before words plan ≡ Some files
-  pub are : told ≡ mismatches_of plan files
+  pub are : told ≡ calls_told_of plan files
 
 -- what is told beside each answer to words that have a plan: nothing where nothing is linked
 abbrev pub TellsBy : Status → Shown → List (List ℕ) → Plan → List Mismatch → Type 0

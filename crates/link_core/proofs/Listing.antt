@@ -1,5 +1,5 @@
 -- What a link tells of calls, by what its steps answer.
-use Rattle.std.proofs.Common.{◌≡◌, ◌==◌, Bool, true, false, length, List, [], ◌∷◌, ◌++◌, map, refl, sym, ap, subst, ◌∙◌, arith, Result, Ok, Err}
+use Rattle.std.proofs.Common.{◌≡◌, ◌==◌, Bool, true, false, length, List, [], ◌∷◌, ◌++◌, map, filter, refl, sym, ap, subst, ◌∙◌, arith, Result, Ok, Err}
 use Rattle.std.specs.Prelude.{flat_map, slice_get, Some, Option, if◌then◌else◌, bytes_eq, ℕ}
 use Rattle.std.specs.List.{list_any}
 use Rattle.std.proofs.lemmas.Bool.{eqb-true}
@@ -27,7 +27,9 @@ use Rattle.link_program.specs.Answers.{Fails}
 use Rattle.link_program.specs.Program.{variant_names, variant_type}
 use Rattle.link_inputs.specs.Inputs.{loaded_of}
 use Rattle.mismatch_rules.specs.declared.mismatch.Mismatch.{Mismatch}
-use Rattle.mismatch_rules.specs.Mismatches.{mismatches, mismatches_among, mismatch_by, mismatches_if, mismatches_of, mismatches_by, same_call, standing, told_of}
+use Rattle.mismatch_rules.specs.Mismatches.{mismatches, mismatches_among, mismatch_by, same_call, standing}
+use Rattle.called_variants.specs.Called.{is_called, calls_told, calls_if, told_of, calls_told_by, calls_told_of}
+use Rattle.called_variants.specs.Marked.{NameThese}
 use Rattle.loose_calls.proofs.Listing.{told_not}
 use Rattle.program_build.specs.declared.found.Found.{Found}
 use Rattle.program_build.specs.Found.{Finds, IsFound}
@@ -48,8 +50,8 @@ tells_by e x told due is tells = subst (λ x. TellsBeside x told due) (sym is) t
 
 -- ---- loading
 
-not_loaded : (plan : Plan) (files : List (List ℕ)) (f : Fault) → (candidates_of the_readers plan files >>= λ all. load Plain (asked_names plan) all) ≡ Err f → mismatches_of plan files ≡ []
-unfolding mismatches_of mismatches_by
+not_loaded : (plan : Plan) (files : List (List ℕ)) (f : Fault) → (candidates_of the_readers plan files >>= λ all. load Plain (asked_names plan) all) ≡ Err f → calls_told_of plan files ≡ []
+unfolding calls_told_of calls_told_by
 not_loaded plan files f e = by (candidates_of the_readers plan files) e
   where
     inner : (all : List Candidate) (r : Result (List Object) Fault) → r ≡ Err f → told_of (r >>= λ objects. standing (program_of Plain plan files all objects)) ≡ []
@@ -61,18 +63,18 @@ not_loaded plan files f e = by (candidates_of the_readers plan files) e
     by (Err g) e = refl
 
 pub load_told : (plan : Plan) (files : List (List ℕ)) (e x : LinkError) (told : List Mismatch) → x ≡ e → Fails e (loaded_of Plain plan files) → told ≡ []
-    → TellsBeside x told (mismatches_of plan files)
+    → TellsBeside x told (calls_told_of plan files)
 unfolding loaded_of
-load_told plan files e x told is fails none = tells_by e x told (mismatches_of plan files) is (by e fails)
+load_told plan files e x told is fails none = tells_by e x told (calls_told_of plan files) is (by e fails)
   where
-    by : (e : LinkError) → Fails e (loaded_of Plain plan files) → TellsBeside e told (mismatches_of plan files)
+    by : (e : LinkError) → Fails e (loaded_of Plain plan files) → TellsBeside e told (calls_told_of plan files)
     by (Refused f) fails = none ∙ sym (not_loaded plan files f fails)
     by OutOfMemory fails = tt
 
 pub loaded_told : (plan : Plan) (files : List (List ℕ)) (all : List Candidate) (objects : List Object)
     → candidates_of the_readers plan files ≡ Ok all → load Plain (asked_names plan) all ≡ Ok objects
-    → told_of (standing (program_of Plain plan files all objects)) ≡ mismatches_of plan files
-unfolding mismatches_of mismatches_by
+    → told_of (standing (program_of Plain plan files all objects)) ≡ calls_told_of plan files
+unfolding calls_told_of calls_told_by
 loaded_told plan files all objects found given = sym (
     ap (λ (r : Result (List Candidate) Fault). told_of (r >>= λ all. load Plain (asked_names plan) all >>= λ objects. standing (program_of Plain plan files all objects))) found
     ∙ ap (λ (r : Result (List Object) Fault). told_of (r >>= λ objects. standing (program_of Plain plan files all objects))) given)
@@ -113,6 +115,14 @@ no_mismatch : (p : Program) → variants_of p.entries p.resolved ≡ [] → mism
 unfolding mismatches
 no_mismatch p none = ap (distinct same_call) (none_of p.entries p.resolved none)
 
+no_call : (p : Program) → mismatches p ≡ [] → calls_told p ≡ []
+unfolding calls_told
+no_call p none = ap (filter (is_called p)) none
+
+pub kept_told : (p : Program) (told kept : List Mismatch) → told ≡ mismatches p → kept ≡ filter (is_called p) told → kept ≡ calls_told p
+unfolding calls_told
+kept_told p told kept are is = is ∙ ap (filter (is_called p)) are
+
 some_stay : (x : List ℕ) (seen ys : List (List ℕ)) → distinct_onto bytes_eq (x ∷ seen) ys ≡ [] → ⊥
 some_stay x seen [] none = cc
 some_stay x seen (y ∷ ys) none = by (list_any (bytes_eq y) (x ∷ seen)) (some_stay x seen ys) (some_stay x (seen ++ y ∷ []) ys) none
@@ -143,19 +153,22 @@ module _ (plan : Plan) (objects : List Object) (f : Found) (p : Program) (is : I
   resolved_are : p.resolved ≡ resolve Plain p.plan.allow_undefined (entries Plain objects) objects
   resolved_are = is.resolved ∙ (λ i. resolve Plain p.plan.allow_undefined (entries_are i) (sym is.objects i))
 
-  pub strict_told : plan.loose_calls ≡ false → mismatches_if p.plan.loose_calls p ≡ []
-  strict_told strict = ap (λ b. mismatches_if b p) (ap (λ (q : Plan). q.loose_calls) (sym is.plan) ∙ strict)
+  pub strict_told : plan.loose_calls ≡ false → calls_if p.plan.loose_calls p ≡ []
+  strict_told strict = ap (λ b. calls_if b p) (ap (λ (q : Plan). q.loose_calls) (sym is.plan) ∙ strict)
 
-  pub loose_told : plan.loose_calls ≡ true → mismatches_if p.plan.loose_calls p ≡ mismatches p
-  loose_told loose = ap (λ b. mismatches_if b p) (ap (λ (q : Plan). q.loose_calls) (sym is.plan) ∙ loose)
+  pub loose_told : plan.loose_calls ≡ true → calls_if p.plan.loose_calls p ≡ calls_told p
+  loose_told loose = ap (λ b. calls_if b p) (ap (λ (q : Plan). q.loose_calls) (sym is.plan) ∙ loose)
 
-  pub none_told : plan.loose_calls ≡ true → (length f.tables.variants == 0) ≡ true → mismatches_if p.plan.loose_calls p ≡ []
+  pub none_told : plan.loose_calls ≡ true → (length f.tables.variants == 0) ≡ true → calls_if p.plan.loose_calls p ≡ []
   none_told loose empty =
       let none : f.tables.variants ≡ [] = no_item f.tables.variants empty in
       let same : p.plan.loose_calls ≡ true = ap (λ (q : Plan). q.loose_calls) (sym is.plan) ∙ loose in
       let variants : p.variants ≡ variants_of p.entries p.resolved = is.variants_are ∙ ap (λ b. loose_variants b p.entries p.resolved) same in
       let named = no_name (λ name. Some (variant_type p.variants name)) (variant_names p.variants) (sym is.tables.variants ∙ ap (map (slice_get f.tables.types)) none) in
-      loose_told loose ∙ no_mismatch p (sym variants ∙ no_variant p.variants named)
+      loose_told loose ∙ no_call p (no_mismatch p (sym variants ∙ no_variant p.variants named))
+
+  pub these_named : NameThese f.names.names f.tables p
+  these_named = record { imports = f.resolution.imports; named = is.tables.named }
 
   module _ (view : Entries) (same : view.objects.now ≡ objects) where
     pub view_fits : ((mode : Mode) → AreNumbers mode objects f.names → InputsRise 0 objects → IsTable objects f.names f.entries → Fits mode view) → Fits Plain view
@@ -179,6 +192,6 @@ finds_by plan objects p e x is finds = subst (λ x. Finds Plain (Err x) plan obj
 
 module _ (plan : Plan) (files : List (List ℕ)) (all : List Candidate) (objects : List Object) (found : candidates_of the_readers plan files ≡ Ok all) (given : load Plain (asked_names plan) all ≡ Ok objects) where
   pub tells_on : (e x : LinkError) (told : List Mismatch) → x ≡ e → TellsBeside e told (told_of (standing (program_of Plain plan files all objects)))
-      → TellsBeside x told (mismatches_of plan files)
+      → TellsBeside x told (calls_told_of plan files)
   tells_on e x told is tells =
       subst (TellsBeside x told) (loaded_told plan files all objects found given) (tells_by e x told (told_of (standing (program_of Plain plan files all objects))) is tells)

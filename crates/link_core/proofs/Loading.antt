@@ -16,7 +16,8 @@ use Rattle.link_program.specs.declared.error.LinkError.{LinkError}
 use Rattle.link_program.specs.declared.program.Program.{Program as Data}
 use Rattle.link_program.specs.Loaded.{IsLoaded}
 use Rattle.link_program.specs.Program.{IsProgram}
-use Rattle.mismatch_rules.specs.Mismatches.{standing, told_of}
+use Rattle.mismatch_rules.specs.Mismatches.{standing}
+use Rattle.called_variants.specs.Called.{told_of}
 use Rattle.program_build.specs.Found.{Finds, IsFound, found_of}
 use Rattle.program_build.specs.declared.found.Found.{Found}
 use Rattle.program_build.specs.Standing.{LoadedPartsStand}

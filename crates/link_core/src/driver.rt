@@ -18,7 +18,8 @@ ghost use Rattle.link_core.specs.Loading.{Loading, program_in};
 ghost use Rattle.link_core.specs.Making.{the_image, the_windows};
 ghost use Rattle.link_core.specs.Prepared.{outputs, IsReady};
 ghost use Rattle.link_core.specs.Telling.{Tells};
-ghost use Rattle.mismatch_rules.specs.Mismatches.{mismatches_of, standing, told_of};
+ghost use Rattle.mismatch_rules.specs.Mismatches.{standing};
+ghost use Rattle.called_variants.specs.Called.{calls_told_of, told_of};
 ghost use Rattle.link_runs.specs.Links.{Runs};
 
 use crate::chosen::Chosen;
@@ -99,7 +100,7 @@ pub fn link_telling<R: Threads + Sync, G: Gate>(
     ensures exact { Answers result (link_of plan.now files.now) }
     ensures runs { IfOk result (λ bytes. Runs plan.now files.now bytes) }
     ensures short { IsShort result }
-    ensures told { told.old ≡ [] → Tells result told.new (mismatches_of plan.now files.now) }
+    ensures told { told.old ≡ [] → Tells result told.new (calls_told_of plan.now files.now) }
 {
     links_run();
     let answer = link_files(rt, alloc, plan, files, gate, told);
@@ -119,7 +120,7 @@ fn link_files<R: Threads + Sync, G: Gate>(
     requires files { length files.now ≡ unwrap_or plan.now.make_case (length plan.now.inputs) }
     ensures exact { Answers result (link_of plan.now files.now) }
     ensures short { IsShort result }
-    ensures told { told.old ≡ [] → Tells result told.new (mismatches_of plan.now files.now) }
+    ensures told { told.old ≡ [] → Tells result told.new (calls_told_of plan.now files.now) }
 {
     let workers = workers_of(plan, files, gate);
     let inputs = load_inputs(rt, alloc, plan, files, workers, gate)?;

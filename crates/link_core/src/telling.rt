@@ -5,10 +5,12 @@ ghost use Rattle.link_program.specs.link_plan.Plan.{IsPlan};
 ghost use Rattle.link_program.specs.link_rules.Program as rules;
 ghost use Rattle.link_program.specs.link_rules.Program.{program_of};
 ghost use Rattle.link_program.specs.Loaded.{IsLoaded, Origin};
-ghost use Rattle.mismatch_rules.specs.Mismatches.{mismatches_if, standing, told_of};
+ghost use Rattle.mismatch_rules.specs.Mismatches.{standing};
+ghost use Rattle.called_variants.specs.Called.{calls_if, told_of};
 ghost use Rattle.program_build.specs.Found.{Finds, IsFound};
 ghost use Rattle.link_core.specs.Telling.{Tells};
 
+use called_variants::called_only;
 use link_plan::Plan;
 use link_program::{Home, LinkError, Object};
 use loose_calls::mismatches;
@@ -20,7 +22,7 @@ use wl_base::{OutOfMemory, Seq};
 use wl_fan::Workers;
 use wl_outside::Gate;
 
-/// What is told of calls in what was found. Only where calls name variants, symbols are looked at once more.
+/// What is told of calls in what was found. Only where there are variants, symbols and what parts name are looked at once more.
 fn mismatches_in(
     alloc: Global,
     plan: &Plan,
@@ -29,7 +31,7 @@ fn mismatches_in(
 ) -> Result<Seq<Mismatch>, OutOfMemory>
     ghost p: { rules.Program }
     requires { IsFound modes.Plain plan.now objects.now found.now p }
-    ensures { IfOk result (λ told. told ≡ mismatches_if p.plan.loose_calls p) }
+    ensures { IfOk result (λ told. told ≡ calls_if p.plan.loose_calls p) }
 {
     if !plan.loose_calls {
         return Ok(Seq::new(alloc));
@@ -37,7 +39,8 @@ fn mismatches_in(
     if found.tables.variants.is_empty() {
         return Ok(Seq::new(alloc));
     }
-    let told = mismatches(alloc, found.view(objects), &found.resolution)?;
+    let all = mismatches(alloc, found.view(objects), &found.resolution)?;
+    let told = called_only(alloc, &found.tables, &found.names, all)?;
     Ok(told)
 }
 

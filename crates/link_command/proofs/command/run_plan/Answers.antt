@@ -6,7 +6,7 @@ use Rattle.link_command.specs.Ending.{summary_of}
 use Rattle.link_command.proofs.Lines.{line_is}
 use Rattle.link_command.proofs.Saves.{save_shows, save_runs}
 use Rattle.link_command.proofs.Telling.{saved_tells}
-use Rattle.mismatch_rules.specs.Mismatches.{mismatches_of}
+use Rattle.called_variants.specs.Called.{calls_told_of}
 use Rattle.link_command.proofs.command.run_plan.Goals as goal
 
 pub returns-clause-cause : goal.returns-clause-cause
@@ -28,4 +28,4 @@ returns-clause-line g c =
 pub returns-clause-told : goal.returns-clause-told
 returns-clause-told g c = λ none.
     saved_tells _ _ c.args.plan.now _ c.link_telling.new.told c.save_output-status.result c.save_output-status.ensures.answer
-    (c.in-Ok-link_telling.ensures.told none ∙ ap (mismatches_of c.args.plan.now) c.as_slice.ensures) c.in-Ok.ensures.files
+    (c.in-Ok-link_telling.ensures.told none ∙ ap (calls_told_of c.args.plan.now) c.as_slice.ensures) c.in-Ok.ensures.files

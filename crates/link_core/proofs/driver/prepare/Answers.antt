@@ -3,7 +3,8 @@ use Rattle.std.proofs.lemmas.Result.{err_from_is_err_and}
 use Rattle.link_program.specs.made_symbols.declared.mode.Mode.TheVariants.{Plain}
 use Rattle.link_program.specs.link_rules.Program.{program_of}
 use Rattle.link_program.specs.Loaded.{IsLoaded}
-use Rattle.mismatch_rules.specs.Mismatches.{standing, told_of}
+use Rattle.mismatch_rules.specs.Mismatches.{standing}
+use Rattle.called_variants.specs.Called.{told_of}
 use Rattle.link_core.specs.Telling.{TellsBeside}
 use Rattle.link_core.specs.Chosen.{stage_of, IsChosen}
 use Rattle.link_core.specs.Linking.{IsLinking}

@@ -1,0 +1,7 @@
+use Rattle.std.proofs.Common.{map}
+use Rattle.link_program.specs.wasm_types.Types.{val_byte}
+use Rattle.called_variants.proofs.NameBytes.{marked}
+use Rattle.called_variants.proofs.naming.add_types.Goals as goal
+
+pub returns : goal.returns
+returns c = marked c.args.bytes.now _ _ (map val_byte c.args.types.now) c.in_ok-push.ensures.ok c.in_ok-add_bytes.ensures

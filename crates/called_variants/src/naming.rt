@@ -1,0 +1,42 @@
+//! The names of variants, by types of one's own.
+ghost use Rattle.std.specs.Prelude.{◌≡◌, ◌∷◌, ◌++◌, map, OnOk, IfOk};
+ghost use Rattle.link_program.specs.wasm_types.Types.{val_byte};
+ghost use Rattle.link_program.specs.link_rules.Program.{variant_name};
+
+use std::alloc::Global;
+use wasm_types::{FuncType, ValType};
+use wl_base::{Name, OutOfMemory, Seq};
+
+/// What the parts of such a name begin with: it stands in no UTF-8, and is the byte of no type.
+const MARK: u8 = 0xFF;
+
+/// Puts the bytes of types at the end (Core 5.3.1).
+fn add_bytes(bytes: &mut Seq<u8>, types: &[ValType]) -> Result<(), OutOfMemory>
+    ensures { OnOk result (bytes.new ≡ bytes.old ++ map val_byte types.now) }
+{
+    for t in types {
+        bytes.push(t.byte())?;
+    }
+    Ok(())
+}
+
+/// Puts the mark and the bytes of types at the end.
+fn add_types(bytes: &mut Seq<u8>, types: &[ValType]) -> Result<(), OutOfMemory>
+    ensures { OnOk result (bytes.new ≡ bytes.old ++ 255 ∷ map val_byte types.now) }
+{
+    bytes.push(MARK)?;
+    add_bytes(bytes, types)?;
+    Ok(())
+}
+
+/// The name of a function for the calls of this type.
+pub(crate) fn variant_name(alloc: Global, t: &FuncType, name: &[u8]) -> Result<Name, OutOfMemory>
+    ensures { IfOk result (λ bytes. bytes ≡ variant_name t.now name.now) }
+{
+    let mut bytes = Seq::new(alloc);
+    add_types(&mut bytes, t.params.as_slice())?;
+    add_types(&mut bytes, t.results.as_slice())?;
+    bytes.push(MARK)?;
+    bytes.extend_from_slice(name)?;
+    Ok(bytes)
+}
