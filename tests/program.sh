@@ -70,6 +70,29 @@ else
   echo "skipped: many windows ($(head -n 1 err.txt))"
 fi
 
+# A library so large that all workers read it together; its last member alone is needed.
+header() { printf '%-16s%-12s%-6s%-6s%-8s%-10s`\n' "$1" 0 0 0 644 "$2"; }
+{
+  printf '!<arch>\n'
+  header / 10
+  printf '\0\0\0\1\0\x89\x54\xcaf\0'
+  header between.o/ 9000000
+  yes between | head -c 9000000
+  header a.o/ "$(wc -c <a.o)"
+  cat a.o
+} >large.a
+for workers in 1 2 64; do
+  expect "a large library is read by $workers" ends 0 "" --threads=$workers large.a -o b.wasm "${f[@]}"
+  expect "and gives the module" cmp b.wasm "$module"
+done
+head -c 8900000 large.a >cut.a
+expect "a part of it is refused" ends 1 "wasmld: file 1: bad library: BadHeader(78)" --threads=4 a.o cut.a -o b.wasm "${f[@]}"
+
+# What has no length is read too.
+piped() { ends 0 "" --threads=4 /dev/stdin -o b.wasm "${f[@]}" < <(cat a.o); }
+expect "an input may be a pipe" piped
+expect "and gives the module" cmp b.wasm "$module"
+
 # What is refused. The output stays as it was.
 cp "$module" c.wasm
 expect "a name without a definition" ends 1 "wasmld: input 0: unresolved h" a.o -o c.wasm --no-entry --export=h

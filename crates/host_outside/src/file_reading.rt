@@ -31,12 +31,42 @@ pub fn read_whole<R: Files>(rt: &R, alloc: Global, name: &str, piece: &mut Vec<u
     let Ok(mut file) = fs::open(rt, name) else {
         return Err(LoadFault::Failed);
     };
-    let Ok(metadata) = file.metadata() else {
-        return Err(LoadFault::Failed);
+    let len = told_len(&file)?;
+    read_told(alloc, len, &mut file, piece)
+}
+
+/// Reads the file of this path as `read_whole` does, but a file that is told to be so long or longer is left unread.
+pub fn read_shorter<R: Files>(
+    rt: &R,
+    alloc: Global,
+    name: &str,
+    piece: &mut Vec<u8>,
+    least_left: u64,
+) -> Option<Loaded> {
+    let Ok(mut file) = fs::open(rt, name) else {
+        return Some(Err(LoadFault::Failed));
     };
-    // The length is a hint: the file may be none that has one, or grow.
-    let len = MAX_LEN.min(metadata.len() as usize);
-    read_all(alloc, len, &mut file, piece)
+    let len = match told_len(&file) {
+        Ok(len) => len,
+        Err(fault) => return Some(Err(fault)),
+    };
+    if least_left <= len {
+        return None;
+    }
+    Some(read_told(alloc, len, &mut file, piece))
+}
+
+// The length that the system tells.
+fn told_len<F: OpenFile>(file: &F) -> Result<u64, LoadFault> {
+    match file.metadata() {
+        Ok(metadata) => Ok(metadata.len()),
+        Err(_) => Err(LoadFault::Failed),
+    }
+}
+
+// Reads all. The length is a hint: the file may be none that has one, or grow.
+fn read_told<R: Read>(alloc: Global, len: u64, file: &mut R, piece: &mut Vec<u8>) -> Loaded {
+    read_all(alloc, MAX_LEN.min(len as usize), file, piece)
 }
 
 // Reads until a read gives no bytes.

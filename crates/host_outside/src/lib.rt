@@ -6,12 +6,14 @@ mod ahead;
 mod file_reading;
 mod file_shelf;
 mod file_writing;
+mod large_reading;
 mod output_sink;
 mod words;
 mod writing;
 
 pub use ahead::{NothingAhead, ReadAhead};
-pub use file_reading::{Loaded, read_whole};
+pub use file_reading::{Loaded, read_shorter, read_whole};
 pub use file_shelf::FileShelf;
+pub use large_reading::{LEAST_LARGE, read_large};
 pub use output_sink::OutputSink;
 pub use words::{WordsFault, words_of};

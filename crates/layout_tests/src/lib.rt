@@ -12,6 +12,8 @@ mod memory;
 #[cfg(test)]
 mod patches;
 #[cfg(test)]
+mod pieces;
+#[cfg(test)]
 mod table;
 #[cfg(test)]
 mod types;

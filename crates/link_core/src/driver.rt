@@ -228,7 +228,7 @@ fn lay_out<R: Threads + Sync>(
     ensures ready { IfOk result (IsReady files.now) }
 {
     let placed = place_segments(alloc, program, files, live)?;
-    let numbering = number(alloc, program, entries, exports, live)?;
+    let numbering = number(rt, alloc, program, entries, exports, live, workers)?;
     let layout = Layout {
         program,
         numbering: &numbering,

@@ -1,7 +1,7 @@
 //! What is left to write when all is placed and numbered.
 
 use image_emit::{Image, Measured};
-use reloc_apply::Patches;
+use patch_pieces::Pieces;
 
 /// An output that is ready to be written: nothing of the program is needed any more.
 #[derive(Drop)]
@@ -10,5 +10,5 @@ pub struct Prepared {
     /// Where the sources of the image stand, and how long the output is.
     pub measured: Measured,
     /// What is written into the windows of the sources.
-    pub patches: Patches,
+    pub patches: Pieces,
 }

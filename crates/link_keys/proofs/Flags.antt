@@ -6,7 +6,7 @@ use Rattle.std.proofs.lemmas.Bool.Decides.{nat_tests}
 use Rattle.std.proofs.lemmas.List.{length-replicate}
 use Rattle.link_keys.specs.Noted.{flagged, is_at}
 
-flagged_length : (flags : List Bool) (o : Option ℕ) → length (flagged flags o) ≡ length flags
+pub flagged_length : (flags : List Bool) (o : Option ℕ) → length (flagged flags o) ≡ length flags
 flagged_length flags None = refl
 flagged_length flags (Some n) = length-set flags n true
 

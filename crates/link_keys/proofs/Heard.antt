@@ -113,7 +113,7 @@ reading_windows : (m : Noted) (o : Option GotKey) → (reading m o).windows ≡ 
 reading_windows m None = refl
 reading_windows m (Some key) = refl
 
-reading_cells : (m : Noted) (o : Option GotKey) → m.cell_codes ≡ map got_code m.cells → (reading m o).cells ≡ distinct_onto same_got_key m.cells (cons_option o [])
+pub reading_cells : (m : Noted) (o : Option GotKey) → m.cell_codes ≡ map got_code m.cells → (reading m o).cells ≡ distinct_onto same_got_key m.cells (cons_option o [])
 reading_cells m None codes = refl
 reading_cells m (Some key) codes =
     ap (λ cs. if list_any (same_code (got_code key)) cs then m.cells else m.cells ++ key ∷ []) codes
@@ -123,7 +123,7 @@ code_pushed : (r : Bool) (keys : List GotKey) (key : GotKey) → (if r then map 
 code_pushed true keys key = refl
 code_pushed false keys key = sym (map-append got_code keys (key ∷ []))
 
-reading_codes : (m : Noted) (o : Option GotKey) → m.cell_codes ≡ map got_code m.cells → (reading m o).cell_codes ≡ map got_code (reading m o).cells
+pub reading_codes : (m : Noted) (o : Option GotKey) → m.cell_codes ≡ map got_code m.cells → (reading m o).cell_codes ≡ map got_code (reading m o).cells
 reading_codes m None codes = codes
 reading_codes m (Some key) codes =
     ap (λ cs. if list_any (same_code (got_code key)) m.cell_codes then cs else cs ++ got_code key ∷ []) codes
@@ -183,7 +183,7 @@ module _ (imports names : ℕ) where
       → NotedAre imports names (refs ++ refs_at t n) (numbers ++ filter_map named_number (row_at t n)) (noted_part t m n)
   part_noted t n refs numbers m are = row_noted t.symbols (is_code (part_at t n)) (row_at t n) refs numbers m are
 
-  parts_noted : (t : Tables) (live : List ℕ) (refs : List LiveRef) (numbers : List ℕ) (m : Noted) → NotedAre imports names refs numbers m
+  pub parts_noted : (t : Tables) (live : List ℕ) (refs : List LiveRef) (numbers : List ℕ) (m : Noted) → NotedAre imports names refs numbers m
       → NotedAre imports names (refs ++ live_refs t live) (numbers ++ window_numbers t live) (noted_parts t m live)
   parts_noted t [] refs numbers m are = moved refs (refs ++ []) numbers (numbers ++ []) m (sym (append-nil refs)) (sym (append-nil numbers)) are
   parts_noted t (n ∷ live) refs numbers m are =

@@ -14,3 +14,5 @@ pub mod Known
 pub mod FirstsTold
 pub mod ImportsTold
 pub mod StubsTold
+mod Joining
+mod Slots

@@ -1,6 +1,7 @@
 pub mod Codes
 pub mod LiveRefs
 pub mod Noted
+pub mod Joined
 pub mod Asked
 pub mod Lists
 pub mod Firsts

@@ -6,7 +6,10 @@ use link_program::{Lead, Symbol};
 use linking_section::SymbolKind;
 use reloc_section::kinds;
 use std::alloc::Global;
+use std::thread::Threads;
 use wl_base::OutOfMemory;
+use wl_each::{Each, each_item};
+use wl_fan::Workers;
 
 /// What a symbol means, as far as references to it may be passed over.
 #[derive(Clone, Copy)]
@@ -35,14 +38,39 @@ fn sort_of(symbol: Symbol) -> Sort
     }
 }
 
+/// Symbols whose sorts are found.
+#[derive(Drop)]
+struct Sorting<'a> {
+    symbols: &'a [Symbol],
+}
+
+impl Each<Sort> for Sorting<'_> {
+    ghost use Rattle.std.specs.Prelude.{slice_index_or};
+    ghost use Rattle.link_program.specs.Seen.{no_symbol};
+    ghost use Rattle.link_keys.specs.Asked.{sort_of};
+
+    ghost value = { λ s at. sort_of (slice_index_or s.symbols.now at no_symbol) };
+
+    #[tactic(auto, using(link_program::proofs::ReadAt::read))]
+    fn item(&self, at: usize) -> Sort {
+        match self.symbols.get(at) {
+            Some(symbol) => sort_of(*symbol),
+            None => Sort::Other,
+        }
+    }
+}
+
 /// The sort of each symbol.
-pub(crate) fn sorts_of(alloc: Global, symbols: &[Symbol]) -> Result<Vec<Sort>, OutOfMemory>
+pub(crate) fn sorts_of<R: Threads + Sync>(
+    rt: &R,
+    alloc: Global,
+    symbols: &[Symbol],
+    workers: Workers,
+) -> Result<Vec<Sort>, OutOfMemory>
     ensures { IfOk result (λ sorts. sorts.items ≡ map sort_of symbols.now) }
 {
-    let mut sorts = Vec::with_capacity(alloc, symbols.len())?;
-    for symbol in symbols {
-        sorts.push(sort_of(*symbol))?;
-    }
+    let sorting = Sorting { symbols };
+    let sorts = each_item(rt, alloc, &sorting, symbols.len(), Sort::Other, workers)?;
     Ok(sorts)
 }
 

@@ -8,6 +8,7 @@ mod firsts;
 mod lists;
 mod marking;
 mod marks;
+mod sharing;
 mod types;
 
 pub(crate) use codes::got_code;

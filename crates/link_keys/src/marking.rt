@@ -8,10 +8,13 @@ ghost use Rattle.link_keys.specs.Noted.{noted, noted_ref, noted_part, noted_part
 
 use crate::asked::{Sort, asks_nothing, sort_at, sorts_of};
 use crate::marks::Marks;
+use crate::sharing::{all_joined, each_noted, ranges_for};
 use link_program::{Named, Symbol, Tables, part_at, row_at, symbol_at};
 use mark_bits::kinds as chunk_kinds;
 use std::alloc::Global;
+use std::thread::Threads;
 use wl_base::OutOfMemory;
+use wl_fan::Workers;
 
 /// Notes a reference, unless its symbol's sort tells that it asks for nothing.
 fn note_reference(
@@ -85,20 +88,40 @@ fn note_part(
     note_row(marks, tables.symbols.as_slice(), sorts, code, row)
 }
 
-/// What the live parts ask for, where there are so many imports and names.
-pub fn marks_of(
+/// What live parts ask for, where there are so many imports and names, noted by one worker.
+pub(crate) fn marks_in(
+    alloc: Global,
+    tables: &Tables,
+    sorts: &[Sort],
+    live: &[u32],
+    imports: usize,
+    names: usize,
+) -> Result<Marks, OutOfMemory>
+    requires { sorts.now ≡ map sort_of tables.now.symbols }
+    ensures { IfOk result (λ m. m ≡ noted_parts tables.now (nothing_noted imports names) live.now) }
+{
+    let mut marks = Marks::new(alloc, imports, names)?;
+    for number in live {
+        note_part(&mut marks, tables, sorts, *number)?;
+    }
+    Ok(marks)
+}
+
+/// What the live parts ask for, where there are so many imports and names. It is noted by the workers, where the parts name much.
+pub fn marks_of<R: Threads + Sync>(
+    rt: &R,
     alloc: Global,
     tables: &Tables,
     live: &[u32],
     imports: usize,
     names: usize,
+    workers: Workers,
 ) -> Result<Marks, OutOfMemory>
     ensures { IfOk result (λ m. m ≡ noted_parts tables.now (nothing_noted imports names) live.now) }
 {
-    let sorts = sorts_of(alloc, tables.symbols.as_slice())?;
-    let mut marks = Marks::new(alloc, imports, names)?;
-    for number in live {
-        note_part(&mut marks, tables, &sorts, *number)?;
-    }
+    let sorts = sorts_of(rt, alloc, tables.symbols.as_slice(), workers)?;
+    let ranges = ranges_for(alloc, tables, live, workers)?;
+    let slots = each_noted(rt, alloc, tables, &sorts, live, imports, names, &ranges)?;
+    let marks = all_joined(slots)?;
     Ok(marks)
 }

@@ -1,6 +1,9 @@
 //! What the references of live parts ask for, noted in one pass.
-ghost use Rattle.std.specs.Prelude.{◌≡◌, IfOk, OnOk};
+ghost use Rattle.std.specs.Prelude.{◌≡◌, nat_eq, IfOk, OnOk};
+ghost use Rattle.indexmap.specs.IndexSet.{insert_all};
+ghost use Rattle.link_keys.specs.Codes.{same_code};
 ghost use Rattle.link_keys.specs.Noted.{import_named, stub_called, function_meant, asks_slot, function_taken, cell_read, flagged, with_taken, with_read, noted_ref, noted_number, nothing_noted};
+ghost use Rattle.link_keys.specs.Joined.{flagged_if, either_flag, with_all_read, joined};
 
 use crate::{Code, function_code, got_code};
 use indexmap::IndexSet;
@@ -115,6 +118,47 @@ fn flag(flags: &mut [bool], at: Option<u32>)
     }
 }
 
+/// Sets the flag at a place, where it is to be set and there is one.
+fn flag_if(flags: &mut [bool], at: usize, is_set: bool)
+    ensures { flags.new ≡ flagged_if flags.old at is_set }
+{
+    if !is_set {
+        return;
+    }
+    if at < flags.len() {
+        flags[at] = true;
+    }
+}
+
+/// Sets the flags that are set at their places in another list.
+fn join_flags(flags: &mut [bool], more: &[bool])
+    ensures { flags.new ≡ either_flag flags.old more.now }
+{
+    for at in 0..more.len() {
+        flag_if(flags, at, more[at]);
+    }
+}
+
+/// Puts codes behind others, each once.
+fn put_codes(codes: &mut IndexSet<Code>, more: &[Code]) -> Result<(), OutOfMemory>
+    ensures { OnOk result (codes.new.keys ≡ insert_all same_code codes.old.keys more.now) }
+{
+    for code in more {
+        codes.insert(*code)?;
+    }
+    Ok(())
+}
+
+/// Puts numbers behind others, each once.
+fn put_numbers(numbers: &mut IndexSet<u32>, more: &[u32]) -> Result<(), OutOfMemory>
+    ensures { OnOk result (numbers.new.keys ≡ insert_all nat_eq numbers.old.keys more.now) }
+{
+    for number in more {
+        numbers.insert(*number)?;
+    }
+    Ok(())
+}
+
 impl Marks {
     /// Nothing, of so many imports and names.
     pub(crate) fn new(alloc: Global, imports: usize, names: usize) -> Result<Marks, OutOfMemory>
@@ -173,6 +217,28 @@ impl Marks {
         ensures { OnOk result (self.new ≡ noted_number number self.old) }
     {
         self.windows.insert(number)?;
+        Ok(())
+    }
+
+    /// Notes cells that are read.
+    fn read_all(&mut self, keys: &[GotKey]) -> Result<(), OutOfMemory>
+        ensures { OnOk result (self.new ≡ with_all_read self.old keys.now) }
+    {
+        for key in keys {
+            self.read(*key)?;
+        }
+        Ok(())
+    }
+
+    /// Notes what others have noted, behind what is noted here.
+    pub(crate) fn join(&mut self, more: &Marks) -> Result<(), OutOfMemory>
+        ensures { OnOk result (self.new ≡ joined self.old more.now) }
+    {
+        join_flags(&mut self.imports, &more.imports);
+        join_flags(&mut self.stubs, &more.stubs);
+        put_codes(&mut self.taken, more.taken.as_slice())?;
+        put_numbers(&mut self.windows, more.windows.as_slice())?;
+        self.read_all(more.cells.as_slice())?;
         Ok(())
     }
 }

@@ -1,5 +1,8 @@
 -- Steps of loops.
-use Rattle.std.proofs.Common.{◌≡◌, ℕ, zero, suc, ◌+◌, ◌≤◌, List, [], ◌∷◌, length, set, drop, slice_get, Some, None, refl, sym, ap, ◌∙◌, arith}
+use Rattle.std.proofs.Common.{◌≡◌, ℕ, zero, suc, ◌+◌, ◌<◌, ◌≤◌, ◌^◌, true, List, [], ◌∷◌, length, get_or, set, drop, slice_get, Some, None, All, refl, sym, ap, ◌∙◌, arith, nat_lt}
+use Rattle.std.specs.List.{list_all}
+use Rattle.std.proofs.lemmas.Bool.{ltb-true}
+use Rattle.std.proofs.lemmas.List.Sums.{AllPass-from_list_all}
 use Rattle.link_program.specs.Moved.{moved_windows}
 use Rattle.link_layout.specs.Segments.{set_each}
 
@@ -52,3 +55,6 @@ no_more [] zero le = refl
 no_more [] (suc i) le = refl
 no_more (x ∷ xs) zero le = absurd (omega arith)
 no_more (x ∷ xs) (suc i) le = no_more xs i (omega arith)
+
+pub all_small : (ts : List ℕ) → list_all (λ t. nat_lt t (2 ^ 33)) ts ≡ true → All (λ t. t < 2 ^ 33) ts
+all_small ts h k d below = ltb-true (get_or ts k d) (2 ^ 33) (AllPass-from_list_all (λ t. nat_lt t (2 ^ 33)) ts h k d below)

@@ -2,13 +2,13 @@
 #![tactic(auto)]
 
 mod columns;
-mod dividing;
 mod gathering;
 mod keys;
 mod patches;
 mod placing;
 mod segments;
 mod sharing;
+mod usual;
 mod values;
 
 pub use placing::{Placed, place_segments};

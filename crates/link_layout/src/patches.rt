@@ -10,7 +10,9 @@ ghost use Rattle.link_layout.specs.Layout.{looked, AreThere};
 use crate::Layout;
 use crate::gathering::{Source, count_windows, sources_of};
 use crate::sharing::shared_patches;
+use crate::usual::usual_targets;
 use link_program::row_at;
+use patch_pieces::Pieces;
 use reloc_apply::{Patches, Window};
 use std::alloc::Global;
 use std::thread::Threads;
@@ -51,7 +53,7 @@ pub(crate) fn push_source(
 }
 
 /// Puts what is written into the windows of sources behind the others.
-fn push_sources(
+pub(crate) fn push_sources(
     patches: &mut Patches,
     layout: Layout<'_>,
     targets: &[u64],
@@ -74,14 +76,15 @@ fn patches_in_turn(
     targets: &[u64],
     sources: &[Source],
     count: usize,
-) -> Result<Patches, LayoutError>
+) -> Result<Pieces, LayoutError>
     requires there { AreThere layout }
     requires targets { AreTargets (looked layout) targets.now }
     ensures { Answers result (patches_of (windows_of (looked layout.entry) sources.now)) }
 {
     let mut patches = Patches::with_capacity(alloc, count)?;
     push_sources(&mut patches, layout, targets, sources)?;
-    Ok(patches)
+    let pieces = Pieces::of(alloc, patches)?;
+    Ok(pieces)
 }
 
 /// What is written into the windows of sources: by the workers, where there are many; and one after another where there are few, or where
@@ -93,7 +96,7 @@ fn patches_by<R: Threads + Sync>(
     targets: &[u64],
     sources: &[Source],
     workers: Workers,
-) -> Result<Patches, LayoutError>
+) -> Result<Pieces, LayoutError>
     requires there { AreThere layout }
     requires targets { AreTargets (looked layout) targets.now }
     ensures { Answers result (patches_of (windows_of (looked layout.entry) sources.now)) }
@@ -101,8 +104,8 @@ fn patches_by<R: Threads + Sync>(
     let count = count_windows(layout.program.tables, sources);
     if workers.count() > 1 && count >= LEAST_SHARED {
         let shared = shared_patches(rt, alloc, layout, targets, sources, count, workers)?;
-        if let Some(patches) = shared {
-            return Ok(patches);
+        if let Some(pieces) = shared {
+            return Ok(pieces);
         }
     }
     patches_in_turn(alloc, layout, targets, sources, count)
@@ -116,11 +119,11 @@ pub(crate) fn all_patches<R: Threads + Sync>(
     live: &[u32],
     places: &[u64],
     workers: Workers,
-) -> Result<Patches, LayoutError>
+) -> Result<Pieces, LayoutError>
     requires { AreThere layout }
     ensures { Answers result (patches_of (moved_sources (looked layout.entry) live.now places.now)) }
 {
-    let sources = sources_of(alloc, layout, live, places)?;
-    let targets = layout.targets(alloc)?;
+    let sources = sources_of(rt, alloc, layout, live, places, workers)?;
+    let targets = usual_targets(rt, alloc, layout, workers)?;
     patches_by(rt, alloc, layout, &targets, &sources, workers)
 }

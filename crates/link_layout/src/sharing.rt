@@ -1,25 +1,31 @@
-//! What is written into windows, by several workers.
-ghost use Rattle.std.specs.Prelude.{◌≡◌, ◌+◌, ◌++◌, ◌<◌, ◌≤◌, ◌^◌, [], true, Ok, map, take, length, slice_range, All, IfOk, IfSome, IsTrue};
-ghost use Rattle.link_program.specs.reloc_apply.Windows.{patches_of, patched_on};
+//! What is written into windows, by several workers: each makes the list of a range of sources.
+ghost use Rattle.std.specs.Prelude.{◌≡◌, ◌+◌, ◌<◌, ◌≤◌, ◌^◌, map, length, slice_range, Ok, All, IfOk, IfSome};
+ghost use Rattle.link_program.specs.reloc_apply.Windows.{patches_of};
 ghost use Rattle.link_program.specs.Seen.{NamesOne};
+ghost use Rattle.wl_rows.specs.Ranges.{Rising, AreRanges};
 ghost use Rattle.link_layout.specs.Seen.{AreTargets, usual_target};
-ghost use Rattle.link_layout.specs.Sources.{source_windows, windows_of};
-ghost use Rattle.link_layout.specs.Parts.{Rising, sources_in, is_unwritten, IsWritten};
+ghost use Rattle.link_layout.specs.Sources.{windows_of};
+ghost use Rattle.link_layout.specs.Parts.{sources_in, IsWritten, AreWritten, AreJoined};
 ghost use Rattle.link_layout.specs.PartLaws.{rows_prop};
 ghost use Rattle.link_layout.specs.Layout.{looked, AreThere};
 
 use crate::Layout;
-use crate::dividing::{Division, UNWRITTEN, divide};
-use crate::gathering::Source;
-use crate::patches::push_source;
-use reloc_apply::{Patch, Patches};
+use crate::gathering::{Source, count_windows};
+use crate::patches::push_sources;
+use link_program::{Tables, row_at};
+use patch_pieces::Pieces;
+use reloc_apply::Patches;
 use std::alloc::Global;
 use std::thread::Threads;
-use wl_base::{OutOfMemory, Seq};
+use wl_base::OutOfMemory;
 use wl_fan::{Slices, Workers, each_slice};
+use wl_rows::Ranges;
 
 /// So many windows are worth a thread: starting one costs 15 to 40 microseconds, and a window some 20 nanoseconds.
 const GRAIN: usize = 1 << 14;
+
+/// What a worker leaves: nothing where a value is out of range, or where memory is refused to it.
+type Slot = Option<Patches>;
 
 /// The sources from one place to another.
 fn between(sources: &[Source], from: usize, to: usize) -> &[Source]
@@ -30,156 +36,155 @@ fn between(sources: &[Source], from: usize, to: usize) -> &[Source]
     &sources[from..][..to - from]
 }
 
-/// Puts patches over a list from a place on; the place behind them. `None` where there is no room.
-fn put_over(patches: &mut [Patch], at: usize, row: &[Patch]) -> Option<usize>
-    ensures { IfSome result (λ end. take end patches.new ≡ take at patches.old ++ row.now) }
-{
-    let Some(end) = at.checked_add(row.len()) else {
-        return None;
-    };
-    if end > patches.len() {
-        return None;
-    }
-    patches[at..end].copy_from_slice(row);
-    Some(end)
-}
-
-/// Writes what belongs into the windows of a source to a list from a place on; the place behind it. `None` where there is no room, or where
-/// a value is out of range. `row` is room for what belongs into them.
-fn write_source(
-    row: &mut Patches,
-    patches: &mut [Patch],
-    at: usize,
-    layout: Layout<'_>,
-    targets: &[u64],
-    source: Source,
-) -> Option<usize>
+/// What is written into the windows of sources.
+fn written(alloc: Global, layout: Layout<'_>, targets: &[u64], sources: &[Source]) -> Slot
     requires there { AreThere layout }
     requires targets { AreTargets (looked layout) targets.now }
-    ensures { IfSome result (λ end. patched_on (take at patches.old) (source_windows (looked layout.entry) source) ≡ Ok (take end patches.new)) }
+    ensures { IfSome result (IsWritten (looked layout.entry) sources.now) }
 {
-    row.patches.truncate(0);
-    let Ok(()) = push_source(row, layout, targets, source) else {
+    let count = count_windows(layout.program.tables, sources);
+    let Ok(mut patches) = Patches::with_capacity(alloc, count) else {
         return None;
     };
-    put_over(patches, at, row.patches.as_slice())
-}
-
-/// Writes what belongs into the windows of sources; whether the list is full of it.
-fn write_sources(
-    alloc: Global,
-    patches: &mut [Patch],
-    layout: Layout<'_>,
-    targets: &[u64],
-    sources: &[Source],
-) -> bool
-    requires there { AreThere layout }
-    requires targets { AreTargets (looked layout) targets.now }
-    ensures { IsTrue result → patched_on [] (windows_of (looked layout.entry) sources.now) ≡ Ok patches.new }
-{
-    let Ok(mut row) = Patches::with_capacity(alloc, 0) else {
-        return false;
+    let Ok(()) = push_sources(&mut patches, layout, targets, sources) else {
+        return None;
     };
-    let mut end = 0;
-    for source in sources {
-        let Some(next) = write_source(&mut row, patches, end, layout, targets, *source) else {
-            return false;
-        };
-        end = next;
-    }
-    end == patches.len()
+    Some(patches)
 }
 
-/// Leaves the first place as one where nothing is written.
-fn refuse(patches: &mut [Patch])
-    ensures { is_unwritten patches.new 0 ≡ true }
-{
-    if !patches.is_empty() {
-        patches[0] = UNWRITTEN;
-    }
-}
-
-/// Writes what belongs into the windows of sources. Where one of them is refused, the first place is left unwritten.
-fn write_or_refuse(
-    alloc: Global,
-    patches: &mut [Patch],
-    layout: Layout<'_>,
-    targets: &[u64],
-    sources: &[Source],
-)
-    requires there { AreThere layout }
-    requires targets { AreTargets (looked layout) targets.now }
-    ensures { IsWritten (looked layout.entry) sources.now patches.new }
-{
-    if write_sources(alloc, patches, layout, targets, sources) {
-        return;
-    }
-    refuse(patches);
-}
-
-/// Sources whose windows are written by parts.
+/// Sources whose windows are written by ranges.
 #[derive(Drop)]
 struct Sharing<'a> {
     alloc: Global,
     layout: Layout<'a>,
     targets: &'a [u64],
     sources: &'a [Source],
-    division: &'a Division,
+    ranges: &'a Ranges,
     ghost rows: { All (λ row. All (NamesOne layout.program.tables.now.symbols layout.program.tables.now.types) row) layout.program.tables.now.named } by { rows_prop layout.program.tables.now.symbols layout.program.tables.now.types layout.program.tables.now.named },
     ghost types: { length layout.numbering.now.type_numbers ≡ length layout.program.tables.now.types },
     ghost are: { targets.now ≡ map (usual_target (looked layout)) layout.program.tables.now.symbols },
     ghost small: { All (λ t. t < 2 ^ 33) targets.now },
-    ghost rising: { Rising division.now.cuts division.now.end },
-    ghost few: { length division.now.cuts < 64 },
-    ghost whole: { division.now.end.source ≡ length sources.now },
+    ghost rising: { Rising ranges.now.cuts ranges.now.count },
+    ghost whole: { ranges.now.count ≡ length sources.now },
 }
 
 impl Sharing<'_> {
-    /// The sources of a part.
-    fn part(&self, part: u32) -> &[Source]
-        requires { part + 1 < 2 ^ 32 }
-        ensures { result.now ≡ sources_in self.now.sources.now self.now.division.now.cuts self.now.division.now.end part }
+    /// The sources of a worker.
+    fn part(&self, worker: u32) -> &[Source]
+        requires { worker + 1 < 2 ^ 32 }
+        ensures { result.now ≡ sources_in self.now.sources.now self.now.ranges.now.cuts self.now.ranges.now.count worker }
     {
-        let from = self.division.cut(part).source;
-        let to = self.division.cut(part + 1).source;
+        let from = self.ranges.first(worker) as usize;
+        let to = self.ranges.first(worker + 1) as usize;
         between(self.sources, from, to)
     }
+
+    /// What a worker makes.
+    fn made(&self, worker: u32) -> Slot
+        requires { worker + 1 < 2 ^ 32 }
+        ensures { IfSome result (IsWritten (looked self.now.layout) (sources_in self.now.sources.now self.now.ranges.now.cuts self.now.ranges.now.count worker)) }
+    {
+        let sources = self.part(worker);
+        written(self.alloc, self.layout, self.targets, sources)
+    }
 }
 
-impl Slices<Patch> for Sharing<'_> {
+impl Slices<Slot> for Sharing<'_> {
     ghost use Rattle.std.specs.Prelude.{◌≡◌, ◌+◌};
-    ghost use Rattle.link_layout.specs.Parts.{cut_at, sources_in, IsWritten};
+    ghost use Rattle.link_layout.specs.Parts.{sources_in, IsFirst};
     ghost use Rattle.link_layout.specs.Layout.{looked};
 
-    ghost begins = { λ s part. (cut_at s.division.now.cuts s.division.now.end part).window };
+    ghost begins = { λ s worker. worker };
 
-    ghost worked = { λ s part old new. IsWritten (looked s.layout) (sources_in s.sources.now s.division.now.cuts s.division.now.end part) new };
+    ghost worked = { λ s worker old new. IsFirst (looked s.layout) (sources_in s.sources.now s.ranges.now.cuts s.ranges.now.count worker) new };
 
-    ghost rises = { λ s p q le below. (s.rising p q le).1 };
+    ghost rises = { λ s p q le below. le };
 
-    fn cut(&self, part: u32) -> usize {
-        self.division.cut(part).window
+    fn cut(&self, worker: u32) -> usize {
+        worker as usize
     }
 
-    fn work(&self, part: u32, items: &mut [Patch]) {
-        let sources = self.part(part);
-        write_or_refuse(self.alloc, items, self.layout, self.targets, sources);
+    fn work(&self, worker: u32, slots: &mut [Slot]) {
+        slots[0] = self.made(worker);
     }
 }
 
-/// Writes what belongs into the windows of all parts; whether each of them is written.
-fn write_parts<R: Threads + Sync>(rt: &R, sharing: &Sharing<'_>, patches: &mut [Patch]) -> bool
-    requires { length patches.old ≡ sharing.now.division.now.end.window }
-    ensures { IsTrue result → patched_on [] (windows_of (looked sharing.now.layout) sharing.now.sources.now) ≡ Ok patches.new }
+/// So many empty slots.
+fn empty_slots(alloc: Global, workers: u32) -> Result<Vec<Slot>, OutOfMemory>
+    ensures { IfOk result (λ slots. length slots.items ≡ workers) }
 {
-    let parts = sharing.division.parts();
-    each_slice(rt, sharing, patches, 0, parts);
-    sharing.division.are_begun(patches)
+    let mut slots = Vec::new(alloc);
+    for _worker in 0..workers {
+        slots.push(None)?;
+    }
+    Ok(slots)
 }
 
-/// What is written into the windows of sources, of which there are so many, by the workers. `None` where a value is out of range.
-///
-/// Whether the parts are written is looked at behind the work, so that nothing need be known of how the windows were counted.
+/// What each worker makes.
+fn made_slots<R: Threads + Sync>(
+    rt: &R,
+    alloc: Global,
+    layout: Layout<'_>,
+    targets: &[u64],
+    sources: &[Source],
+    ranges: &Ranges,
+) -> Result<Vec<Slot>, OutOfMemory>
+    requires there { AreThere layout }
+    requires targets { AreTargets (looked layout) targets.now }
+    requires ranges { AreRanges 63 ranges.now.cuts ranges.now.count }
+    requires count { ranges.now.count ≡ length sources.now }
+    ensures { IfOk result (λ slots. AreWritten (looked layout.entry) sources.now ranges.now.cuts ranges.now.count slots.items) }
+{
+    let workers = ranges.workers();
+    let mut slots = empty_slots(alloc, workers)?;
+    let sharing = Sharing {
+        alloc,
+        layout,
+        targets,
+        sources,
+        ranges,
+    };
+    each_slice(rt, &sharing, slots.as_mut_slice(), 0, workers);
+    Ok(slots)
+}
+
+/// The sources of each worker, who has as many windows as the others, as far as whole sources allow it.
+fn ranges_for(
+    alloc: Global,
+    tables: &Tables,
+    sources: &[Source],
+    count: usize,
+    workers: Workers,
+) -> Result<Ranges, OutOfMemory>
+    ensures ranges { IfOk result (λ r. AreRanges 63 r.cuts r.count) }
+    ensures count { IfOk result (λ r. r.count ≡ length sources.now) }
+{
+    let workers = workers.count() as usize;
+    let share = (count / workers).max(GRAIN);
+    let mut ranges = Ranges::new(alloc);
+    for source in sources {
+        ranges.add(row_at(tables, source.number).len(), share, workers - 1)?;
+    }
+    Ok(ranges)
+}
+
+/// The lists of so many workers, one behind another; `None` where a slot is empty.
+fn joined(alloc: Global, slots: Vec<Slot>, workers: u32) -> Result<Option<Pieces>, OutOfMemory>
+    ensures { IfOk result (λ all. IfSome all (AreJoined workers slots.items)) }
+{
+    let mut left = slots.into_iter();
+    let mut pieces = Pieces::new(alloc);
+    for _worker in 0..workers {
+        let Some(Some(patches)) = left.next() else {
+            return Ok(None);
+        };
+        pieces.push(patches)?;
+    }
+    Ok(Some(pieces))
+}
+
+/// What is written into the windows of sources, of which there are so many, by the workers. `None` where a value is out of range, or where
+/// memory is refused to a worker.
 pub(crate) fn shared_patches<R: Threads + Sync>(
     rt: &R,
     alloc: Global,
@@ -188,27 +193,12 @@ pub(crate) fn shared_patches<R: Threads + Sync>(
     sources: &[Source],
     count: usize,
     workers: Workers,
-) -> Result<Option<Patches>, OutOfMemory>
+) -> Result<Option<Pieces>, OutOfMemory>
     requires there { AreThere layout }
     requires targets { AreTargets (looked layout) targets.now }
-    ensures { IfOk result (λ shared. IfSome shared (λ patches. patches_of (windows_of (looked layout.entry) sources.now) ≡ Ok patches)) }
+    ensures { IfOk result (λ shared. IfSome shared (λ pieces. patches_of (windows_of (looked layout.entry) sources.now) ≡ Ok pieces)) }
 {
-    let workers = workers.count() as usize;
-    let share = (count / workers).max(GRAIN);
-    let division = divide(alloc, layout.program.tables, sources, share, workers - 1)?;
-    let mut patches = vec![in alloc; UNWRITTEN; division.end.window]?;
-    let sharing = Sharing {
-        alloc,
-        layout,
-        targets,
-        sources,
-        division: &division,
-    };
-    let written = write_parts(rt, &sharing, patches.as_mut_slice());
-    if !written {
-        return Ok(None);
-    }
-    Ok(Some(Patches {
-        patches: Seq::from_vec(patches),
-    }))
+    let ranges = ranges_for(alloc, layout.program.tables, sources, count, workers)?;
+    let slots = made_slots(rt, alloc, layout, targets, sources, &ranges)?;
+    joined(alloc, slots, ranges.workers())
 }

@@ -1,5 +1,5 @@
 //! What windows hold.
-ghost use Rattle.std.specs.Prelude.{◌≡◌, ◌<◌, ◌^◌, length, slice_index_or, IfOk, IsTrue};
+ghost use Rattle.std.specs.Prelude.{◌≡◌, ◌<◌, ◌^◌, length, slice_index_or, IsTrue};
 ghost use Rattle.link_program.specs.made_symbols.declared.mode.Mode.TheVariants.{Plain};
 ghost use Rattle.link_program.specs.name_rules.Entries.{InputSymbol};
 ghost use Rattle.link_program.specs.wl_base.Answers.{Answers};
@@ -25,11 +25,12 @@ use linking_section::SymbolKind;
 use made_symbols::{Mode, Role, count, role};
 use mark_bits::{Chunk, kinds as chunk_kinds};
 use memory_layout::Places;
-use reloc_apply::{Form, Patches, Window};
+use patch_pieces::Pieces;
+use reloc_apply::{Form, Window};
 use reloc_section::kinds;
 use std::alloc::Global;
 use std::thread::Threads;
-use wl_base::{LayoutError, OutOfMemory};
+use wl_base::LayoutError;
 use wl_fan::Workers;
 
 /// A program with all numbers of its output and the places of its segments, by reference.
@@ -140,7 +141,7 @@ fn addend_of(kind: u8, lead: Lead, addend: i32) -> i32
 }
 
 /// The usual type of a reference to a symbol of a kind.
-fn usual(kind: SymbolKind) -> u8
+pub(crate) fn usual(kind: SymbolKind) -> u8
     ensures { result ≡ usual kind }
 {
     match kind {
@@ -235,7 +236,7 @@ impl<'a> Layout<'a> {
     }
 
     /// The number that a reference stands for, by its relocation's type. The table is number 0.
-    fn target_of(self, kind: u8, symbol: Symbol) -> u64
+    pub(crate) fn target_of(self, kind: u8, symbol: Symbol) -> u64
         ensures is { result ≡ target_of (looked self.entry) symbol (asks kind) }
         ensures small { result < 2 ^ 33 }
     {
@@ -269,18 +270,6 @@ impl<'a> Layout<'a> {
             target: i64::from(self.numbering.type_number(number)),
             addend: 0,
         }
-    }
-
-    /// The number that a usual reference stands for, of each symbol.
-    pub(crate) fn targets(self, alloc: Global) -> Result<Vec<u64>, OutOfMemory>
-        ensures { IfOk result (λ targets. AreTargets (looked self.entry) targets.items) }
-    {
-        let symbols = self.program.tables.symbols.as_slice();
-        let mut targets = Vec::with_capacity(alloc, symbols.len())?;
-        for symbol in symbols {
-            targets.push(self.target_of(usual(symbol.kind), *symbol))?;
-        }
-        Ok(targets)
     }
 
     /// The number that a reference to the symbol of a place stands for.
@@ -355,7 +344,7 @@ impl<'a> Layout<'a> {
         live: &[u32],
         places: &[u64],
         workers: Workers,
-    ) -> Result<Patches, LayoutError>
+    ) -> Result<Pieces, LayoutError>
         ghost s: { Stage }
         requires is { IsLayout s.program s.parts s.exports self }
         requires live { AreLive s.program live.now s.parts }

@@ -6,7 +6,10 @@ use link_program::{Definition, Lead, Symbol, chunk_number};
 use linking_section::SymbolKind;
 use mark_bits::{Chunk, ChunkTable, kinds as chunk_kinds};
 use std::alloc::Global;
+use std::thread::Threads;
 use wl_base::OutOfMemory;
+use wl_each::{Each, each_item};
+use wl_fan::Workers;
 
 /// The chunk of a definition. The linker's data and its table are no chunks.
 fn chunk_of(definition: Definition) -> Option<Chunk>
@@ -46,17 +49,40 @@ pub fn number_led(chunks: &ChunkTable, lead: Lead) -> Option<u32>
     }
 }
 
-/// The same for each symbol.
-pub(crate) fn numbers_led(
+/// Symbols whose chunks are looked up.
+#[derive(Drop)]
+struct Leading<'a> {
+    chunks: &'a ChunkTable,
+    symbols: &'a [Symbol],
+}
+
+impl Each<Option<u32>> for Leading<'_> {
+    ghost use Rattle.std.specs.Prelude.{slice_index_or};
+    ghost use Rattle.link_program.specs.Seen.{no_symbol};
+    ghost use Rattle.link_marks.specs.Seen.{led_number};
+
+    ghost value = { λ s at. led_number s.chunks.now (slice_index_or s.symbols.now at no_symbol).lead };
+
+    #[tactic(auto, using(link_program::proofs::ReadAt::read))]
+    fn item(&self, at: usize) -> Option<u32> {
+        match self.symbols.get(at) {
+            Some(symbol) => number_led(self.chunks, symbol.lead),
+            None => None,
+        }
+    }
+}
+
+/// The same for each symbol, by the workers: each look-up misses the cache.
+pub(crate) fn numbers_led<R: Threads + Sync>(
+    rt: &R,
     alloc: Global,
     chunks: &ChunkTable,
     symbols: &[Symbol],
+    workers: Workers,
 ) -> Result<Vec<Option<u32>>, OutOfMemory>
     ensures { IfOk result (λ led. led.items ≡ led_numbers chunks.now symbols.now) }
 {
-    let mut led = Vec::with_capacity(alloc, symbols.len())?;
-    for symbol in symbols {
-        led.push(number_led(chunks, symbol.lead))?;
-    }
+    let leading = Leading { chunks, symbols };
+    let led = each_item(rt, alloc, &leading, symbols.len(), None, workers)?;
     Ok(led)
 }

@@ -7,7 +7,9 @@ use crate::numbers::push_some;
 use link_program::{Named, Tables};
 use live_mark::Edges;
 use std::alloc::Global;
+use std::thread::Threads;
 use wl_base::{OutOfMemory, Seq};
+use wl_fan::Workers;
 use wl_lists::Lists;
 use wl_rows::Rows;
 
@@ -40,7 +42,7 @@ fn set_targets(
 }
 
 /// The same for each part.
-fn all_targets(
+pub(crate) fn all_targets(
     alloc: Global,
     led: &[Option<u32>],
     rows: &Rows<Named>,
@@ -57,10 +59,21 @@ fn all_targets(
 }
 
 /// What the chunks refer to. A symbol's chunk is looked up once, however often the symbol is named.
-pub(crate) fn edges_of(alloc: Global, tables: &Tables) -> Result<Edges, OutOfMemory>
+pub(crate) fn edges_of<R: Threads + Sync>(
+    rt: &R,
+    alloc: Global,
+    tables: &Tables,
+    workers: Workers,
+) -> Result<Edges, OutOfMemory>
     ensures { IfOk result (λ e. e.targets ≡ targets_seen (led_numbers tables.now.chunks tables.now.symbols) tables.now.named) }
 {
-    let led = numbers_led(alloc, &tables.chunks, tables.symbols.as_slice())?;
+    let led = numbers_led(
+        rt,
+        alloc,
+        &tables.chunks,
+        tables.symbols.as_slice(),
+        workers,
+    )?;
     let targets = all_targets(alloc, &led, &tables.named)?;
     Ok(Edges { targets })
 }

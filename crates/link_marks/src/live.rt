@@ -55,7 +55,7 @@ pub fn live_parts<R: Threads + Sync, G: Gate>(
     requires exports { exports.now ≡ map (told_winner program.names.now.names) w.exports }
     ensures { IfOk result (λ l. IsLive w.program l (marks.live w.program w.exports)) }
 {
-    let edges = edges_of(alloc, program.tables)?;
+    let edges = edges_of(rt, alloc, program.tables, workers)?;
     let roots = roots_of(alloc, program.tables, program.plan.gc, exports)?;
     if roots.len() > u32::MAX as usize {
         return Err(OutOfMemory);

@@ -3,7 +3,8 @@ ghost use Rattle.std.specs.Prelude.{◌≡◌, length, nat_lt};
 ghost use Rattle.std.specs.List.{list_all};
 
 use crate::asked::asked_names;
-use crate::edges::edges_of;
+use crate::chunks::number_led;
+use crate::edges::all_targets;
 use crate::exported::chosen;
 use crate::repeated::first_repeat;
 use crate::roots::roots_of;
@@ -239,18 +240,28 @@ fn tables(alloc: Global) -> Option<Tables> {
     })
 }
 
+/// The numbers of the chunks to which the symbols lead.
+fn numbers(alloc: Global, tables: &Tables) -> Result<Vec<Option<u32>>, OutOfMemory> {
+    let mut numbers = Vec::new(alloc);
+    for symbol in tables.symbols.as_slice() {
+        numbers.push(number_led(&tables.chunks, symbol.lead))?;
+    }
+    Ok(numbers)
+}
+
 #[test]
 fn parts_refer_to_chunks(rt: HostRuntime) -> Result<(), Fail> {
     let tables = tables(rt.alloc()).ok_or("tables")?;
-    let edges = edges_of(rt.alloc(), &tables)?;
-    assert_eq!(rt; edges.targets.len(), 4);
-    for (row, targets) in [
+    let led = numbers(rt.alloc(), &tables)?;
+    let targets = all_targets(rt.alloc(), &led, &tables.named)?;
+    assert_eq!(rt; targets.len(), 4);
+    for (row, expected) in [
         (0usize, [].as_slice()),
         (1, &[3, 2]),
         (2, &[2, 2]),
         (3, &[]),
     ] {
-        assert_eq!(rt; edges.targets.get(row), Some(targets));
+        assert_eq!(rt; targets.get(row), Some(expected));
     }
     Ok(())
 }

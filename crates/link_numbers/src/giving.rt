@@ -24,8 +24,10 @@ use link_keys::{
 };
 use link_program::{Entries, FunctionKey, GlobalKey, Program, Winner};
 use std::alloc::Global;
+use std::thread::Threads;
 use wasm_types::FuncType;
 use wl_base::{LayoutError, OutOfMemory, Seq, What};
+use wl_fan::Workers;
 
 /// The number of the first slot; slot 0 stays empty.
 const FIRST_SLOT: u32 = 1;
@@ -175,12 +177,14 @@ fn numbers_marked(
 }
 
 /// The numbers by what the data tell.
-fn numbers_told(
+fn numbers_told<R: Threads + Sync>(
+    rt: &R,
     alloc: Global,
     program: Program<'_>,
     entries: Entries<'_>,
     exports: &[Winner],
     live: &[u32],
+    workers: Workers,
 ) -> Result<Numbering, LayoutError>
     requires fits { FitsObjects entries }
     requires rows { length program.names.now.symbols ≡ length entries.objects.now }
@@ -192,19 +196,21 @@ fn numbers_told(
 {
     let imports = program.resolution.imports() as usize;
     let names = program.names.count() as usize;
-    let marks = marks_of(alloc, program.tables, live, imports, names)?;
+    let marks = marks_of(rt, alloc, program.tables, live, imports, names, workers)?;
     numbers_marked(alloc, program, entries, exports, live, &marks)
 }
 
 /// The numbers of the functions, slots, globals and types of the output, by the live parts of a program, in the order of the chunk
 /// table, and by its exports. It is refused with `TableSize` where the end of the slots is above 2^32 - 1; a list of 2^32 items and more is
-/// answered as want of memory.
-pub fn number(
+/// answered as want of memory. What the live parts ask for is noted by the workers.
+pub fn number<R: Threads + Sync>(
+    rt: &R,
     alloc: Global,
     program: Program<'_>,
     entries: Entries<'_>,
     exports: &[Winner],
     live: &[u32],
+    workers: Workers,
 ) -> Result<Numbering, LayoutError>
     ghost link: { Linked }
     requires fits { Fits modes.Plain entries }
@@ -220,6 +226,6 @@ pub fn number(
     ensures table { TellsOverflow result (table_overflow (numbers modes.Plain link.program link.parts link.exports).first_slot
         (length (numbers modes.Plain link.program link.parts link.exports).slots)) }
 {
-    let numbering = numbers_told(alloc, program, entries, exports, live)?;
+    let numbering = numbers_told(rt, alloc, program, entries, exports, live, workers)?;
     Ok(numbering)
 }

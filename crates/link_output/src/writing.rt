@@ -6,7 +6,7 @@ ghost use Rattle.link_program.specs.image_emit.Bytes.{tree_of, bytes_of};
 ghost use Rattle.link_program.specs.image_emit.Measures.{LieIn, image_measure};
 
 use image_emit::{Image, Measured, emit};
-use reloc_apply::{Patches, fill};
+use patch_pieces::{Pieces, fill};
 use std::alloc::Global;
 use std::thread::Threads;
 use wl_base::{OutOfMemory, Seq};
@@ -22,7 +22,7 @@ pub fn write<R: Threads + Sync, G: Gate>(
     files: &[Seq<u8>],
     image: &Image,
     m: &Measured,
-    patches: &Patches,
+    patches: &Pieces,
     workers: Workers,
     gate: &G,
 ) -> Result<Seq<u8>, OutOfMemory>
@@ -52,7 +52,7 @@ fn put<R: Threads + Sync, G: Gate>(
     files: &[Seq<u8>],
     image: &Image,
     m: &Measured,
-    patches: &Patches,
+    patches: &Pieces,
     out: &mut [u8],
     workers: Workers,
     gate: &G,

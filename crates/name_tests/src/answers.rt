@@ -1,17 +1,16 @@
 //! What the names of two small objects answer: which parts define them, and the least clash and duplicate.
 ghost use Rattle.name_entries.specs.made_symbols.declared.mode.Mode.TheVariants.{Plain};
-ghost use Rattle.name_entries.specs.link_names.Numbered.{AreNumbers};
-ghost use Rattle.name_entries.specs.View.{InputsRise};
 ghost use Rattle.name_entries.specs.Fits.{Fits, FitsObjects};
 
-use crate::objects::{grouped, named, strong, weak};
+use crate::looking::{Look, Seen, look_at};
+use crate::meanings::meant_by;
+use crate::objects::{grouped, strong, weak};
 use made_symbols::Mode;
-use name_entries::{Entries, EntryTable, Names, Object, PairCase};
+use name_entries::{Entries, PairCase};
 use std::alloc::Global;
 use std::thread::Threads;
-use weak_rules::{first_clash, first_duplicate, group_winners, name_winners, resolve};
+use weak_rules::{first_clash, first_duplicate};
 use wl_fan::Workers;
-use wl_outside::OpenGate;
 
 /// An object with a function that is `f`, weak and with a parameter.
 fn with_parameter() -> &'static [u8] {
@@ -25,8 +24,8 @@ fn explicit() -> &'static [u8] {
 
 /// Whether the first symbols of both objects define their names, the inputs of the least clash and of the least duplicate, and how many
 /// imports are meant.
-#[derive(Clone, Copy, Debug, PartialEq, Eq)]
-struct Answers {
+#[derive(Clone, Copy, PartialEq, Eq)]
+pub struct Answers {
     defines: [bool; 2],
     clash: Option<(u32, u32)>,
     duplicate: Option<(u32, u32)>,
@@ -44,63 +43,67 @@ fn defines(entries: &Entries<'_>, object: u32) -> bool
 }
 
 /// The inputs of a case.
-fn inputs_of(case: Option<PairCase>) -> Option<(u32, u32)> {
+fn inputs_of(case: &Option<PairCase>) -> Option<(u32, u32)> {
     match case {
         Some(case) => Some((case.first, case.other)),
         None => None,
     }
 }
 
-/// How many imports are meant.
-fn imports_of<R: Threads + Sync>(rt: &R, alloc: Global, entries: Entries<'_>) -> Option<u32>
+/// The inputs of the least clash.
+fn clash_of<R: Threads + Sync>(
+    rt: &R,
+    alloc: Global,
+    entries: Entries<'_>,
+    workers: Workers,
+) -> Option<Option<(u32, u32)>>
     requires { Fits Plain entries }
 {
-    let workers = Workers::new(2)?;
-    let winners = name_winners(rt, alloc, entries, Mode::Plain, workers, &OpenGate).ok()?;
-    let resolution = resolve(alloc, entries, &winners, false, Mode::Plain).ok()?;
-    Some(resolution.imports())
+    let case = first_clash(rt, alloc, entries, Mode::Plain, workers).ok()?;
+    Some(inputs_of(&case))
+}
+
+/// The inputs of the least duplicate.
+fn duplicate_of<R: Threads + Sync>(
+    rt: &R,
+    alloc: Global,
+    entries: Entries<'_>,
+    workers: Workers,
+) -> Option<Option<(u32, u32)>>
+    requires { Fits Plain entries }
+{
+    let case = first_duplicate(rt, alloc, entries, Mode::Plain, workers).ok()?;
+    Some(inputs_of(&case))
 }
 
 /// What is compared.
-fn told_of<R: Threads + Sync>(rt: &R, alloc: Global, entries: Entries<'_>) -> Option<Answers>
+pub fn answers_of<R: Threads + Sync>(
+    rt: &R,
+    alloc: Global,
+    entries: Entries<'_>,
+    workers: Workers,
+) -> Option<Answers>
     requires { Fits Plain entries }
 {
-    let workers = Workers::new(2)?;
-    let clash = first_clash(rt, alloc, entries, Mode::Plain, workers).ok()?;
-    let duplicate = first_duplicate(rt, alloc, entries, Mode::Plain, workers).ok()?;
     Some(Answers {
         defines: [defines(&entries, 0), defines(&entries, 1)],
-        clash: inputs_of(clash),
-        duplicate: inputs_of(duplicate),
-        imports: imports_of(rt, alloc, entries)?,
+        clash: clash_of(rt, alloc, entries, workers)?,
+        duplicate: duplicate_of(rt, alloc, entries, workers)?,
+        imports: meant_by(rt, alloc, entries, workers, false)?.imports,
     })
 }
 
-/// What the names of these objects answer.
-fn told<R: Threads + Sync>(
-    rt: &R,
-    alloc: Global,
-    objects: &[Object],
-    names: &Names,
-) -> Option<Answers>
-    requires inputs { InputsRise 0 objects.now }
-    requires numbers { AreNumbers Plain objects.now names.now }
-{
-    let workers = Workers::new(2)?;
-    let groups = group_winners(rt, alloc, objects, names, workers, &OpenGate).ok()?;
-    let table = EntryTable::new(alloc, objects, names, &groups).ok()?;
-    told_of(rt, alloc, table.view(objects, names))
-}
+/// Two files, whether their first symbols define their names, the least clash, the least duplicate, and how many imports there are.
+type Case = (
+    [&'static [u8]; 2],
+    [bool; 2],
+    Option<(u32, u32)>,
+    Option<(u32, u32)>,
+    u32,
+);
 
-/// What the names of these files answer.
-fn told_by<R: Threads + Sync>(rt: &R, alloc: Global, files: &[&[u8]]) -> Option<Answers> {
-    let all = named(alloc, files)?;
-    told(rt, alloc, all.objects.as_slice(), &all.names)
-}
-
-#[test]
-fn kept_parts_define_and_cases_are_the_least(rt: HostRuntime) {
-    let cases = [
+fn cases() -> [Case; 4] {
+    [
         // the function of the group that another input wins defines nothing
         ([grouped(), grouped()], [true, false], None, None, 0),
         // two strong definitions
@@ -115,14 +118,34 @@ fn kept_parts_define_and_cases_are_the_least(rt: HostRuntime) {
         ),
         // an import by its own name
         ([explicit(), weak()], [false, true], None, None, 1),
-    ];
+    ]
+}
+
+/// Whether these files are answered so.
+fn is_answered<R: Threads + Sync>(rt: &R, alloc: Global, files: &[&[u8]], wanted: Answers) -> bool {
+    match look_at(rt, alloc, files, 2, Look::Answers) {
+        Some(Seen::Answers(answers)) => answers == wanted,
+        _ => false,
+    }
+}
+
+/// Whether each case is answered so.
+fn are_answered<R: Threads + Sync>(rt: &R, alloc: Global, cases: &[Case]) -> bool {
     for (files, defines, clash, duplicate, imports) in cases {
         let wanted = Answers {
-            defines,
-            clash,
-            duplicate,
-            imports,
+            defines: *defines,
+            clash: *clash,
+            duplicate: *duplicate,
+            imports: *imports,
         };
-        assert_eq!(rt; told_by(&rt, rt.alloc(), &files), Some(wanted));
+        if !is_answered(rt, alloc, files, wanted) {
+            return false;
+        }
     }
+    true
+}
+
+#[test]
+fn kept_parts_define_and_cases_are_the_least(rt: HostRuntime) {
+    assert!(rt; are_answered(&rt, rt.alloc(), &cases()));
 }

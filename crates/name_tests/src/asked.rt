@@ -4,11 +4,13 @@ ghost use Rattle.name_entries.specs.link_names.Numbered.{AreNumbers};
 ghost use Rattle.name_entries.specs.View.{InputsRise};
 ghost use Rattle.name_entries.specs.Fits.{Fits};
 
-use crate::objects::{grouped, named, strong, weak};
+use crate::jobs::{winner_of_group, winner_of_name};
+use crate::looking::{Look, Seen, look_at};
+use crate::objects::{grouped, strong, weak};
 use comdat_pick::pick;
 use made_symbols::Mode;
-use name_entries::{Entries, EntryTable, Names, Object};
-use name_jobs::{GroupJobs, NameJobs, group_winners};
+use name_entries::{Entries, Names, Object};
+use name_jobs::{GroupJobs, NameJobs};
 use std::alloc::Global;
 use std::thread::Threads;
 use symbol_race::{race, rank};
@@ -29,10 +31,7 @@ fn groups_asked<R: Threads + Sync>(
 {
     let jobs = Counted::new(alloc, GroupJobs::new(objects, names))?;
     let winners = pick(rt, alloc, &jobs, names.count(), workers, &OpenGate).ok()?;
-    let won = names
-        .find(b"g".as_slice())
-        .and_then(|number| winners.of(number));
-    Some((won, jobs.asked()))
+    Some((winner_of_group(names, &winners), jobs.asked()))
 }
 
 /// The race for names over the real jobs: the rank of the definition of `f`, and how the jobs were asked.
@@ -47,15 +46,12 @@ fn names_asked<R: Threads + Sync>(
     let names = entries.names;
     let jobs = Counted::new(alloc, NameJobs::new(entries, Mode::Plain))?;
     let winners = race(rt, alloc, &jobs, names.count(), workers, &OpenGate).ok()?;
-    let won = names
-        .find(b"f".as_slice())
-        .and_then(|number| winners.of(number));
-    Some((won, jobs.asked()))
+    Some((winner_of_name(names, &winners), jobs.asked()))
 }
 
 /// Who won, and how the jobs were asked.
-#[derive(Clone, Copy, Debug, PartialEq, Eq)]
-struct BothRaces {
+#[derive(Clone, Copy, PartialEq, Eq)]
+pub struct BothRaces {
     group: Option<u32>,
     groups: Asked,
     name: Option<u64>,
@@ -63,59 +59,54 @@ struct BothRaces {
 }
 
 /// Both races.
-fn raced<R: Threads + Sync>(
+pub fn both_races<R: Threads + Sync>(
     rt: &R,
     alloc: Global,
-    objects: &[Object],
-    names: &Names,
+    entries: Entries<'_>,
     workers: Workers,
 ) -> Option<BothRaces>
-    requires inputs { InputsRise 0 objects.now }
-    requires numbers { AreNumbers Plain objects.now names.now }
+    requires { Fits Plain entries }
 {
-    let (group, groups_asked) = groups_asked(rt, alloc, objects, names, workers)?;
-    let groups = group_winners(rt, alloc, objects, names, workers, &OpenGate).ok()?;
-    let table = EntryTable::new(alloc, objects, names, &groups).ok()?;
-    let (name, names_asked) = names_asked(rt, alloc, table.view(objects, names), workers)?;
+    let (group, groups) = groups_asked(rt, alloc, entries.objects, entries.names, workers)?;
+    let (name, names) = names_asked(rt, alloc, entries, workers)?;
     Some(BothRaces {
         group,
-        groups: groups_asked,
+        groups,
         name,
-        names: names_asked,
+        names,
     })
 }
 
-/// Both races over these files, by so many workers.
-fn raced_over<R: Threads + Sync>(
-    rt: &R,
-    alloc: Global,
-    files: &[&[u8]],
-    workers: u32,
-) -> Option<BothRaces> {
-    let workers = Workers::new(workers)?;
-    let all = named(alloc, files)?;
-    raced(rt, alloc, all.objects.as_slice(), &all.names, workers)
+/// What both races answer over six objects.
+fn wanted() -> BothRaces {
+    let made = u64::from(made_symbols::count(Mode::Plain));
+    BothRaces {
+        group: Some(2),
+        groups: Asked {
+            once: 3,
+            otherwise: 0,
+            at_once: true,
+        },
+        name: Some(rank(0, 2, 0)),
+        names: Asked {
+            once: made + 6,
+            otherwise: 0,
+            at_once: true,
+        },
+    }
+}
+
+/// Whether each offer is asked for once, by so many workers at once.
+fn is_asked_once<R: Threads + Sync>(rt: &R, alloc: Global, files: &[&[u8]], workers: u32) -> bool {
+    match look_at(rt, alloc, files, workers, Look::Asked) {
+        Some(Seen::Asked(races)) => races == wanted(),
+        _ => false,
+    }
 }
 
 #[test]
 fn each_offer_is_asked_for_once_by_workers_at_once(rt: HostRuntime) {
     let files = [weak(), grouped(), grouped(), strong(), grouped(), strong()];
-    let made = u64::from(made_symbols::count(Mode::Plain));
-    for workers in [2u32, 64] {
-        let wanted = BothRaces {
-            group: Some(2),
-            groups: Asked {
-                once: 3,
-                otherwise: 0,
-                at_once: true,
-            },
-            name: Some(rank(0, 2, 0)),
-            names: Asked {
-                once: made + 6,
-                otherwise: 0,
-                at_once: true,
-            },
-        };
-        assert_eq!(rt; raced_over(&rt, rt.alloc(), &files, workers), Some(wanted));
-    }
+    assert!(rt; is_asked_once(&rt, rt.alloc(), &files, 2));
+    assert!(rt; is_asked_once(&rt, rt.alloc(), &files, 64));
 }

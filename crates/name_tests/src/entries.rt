@@ -1,17 +1,11 @@
 //! What is looked up of symbols: their types and imports, and which define their names where an object loses a group.
-ghost use Rattle.name_entries.specs.made_symbols.declared.mode.Mode.TheVariants.{Plain};
-ghost use Rattle.name_entries.specs.link_names.Numbered.{AreNumbers};
-ghost use Rattle.name_entries.specs.View.{InputsRise};
 ghost use Rattle.name_entries.specs.Fits.{FitsObjects};
 
-use crate::objects::named;
-use name_entries::{Entries, EntryTable, Names, Object, TypeRef};
+use crate::looking::{Look, Seen, look_at};
+use name_entries::{Entries, TypeRef};
 use std::alloc::Global;
 use std::thread::Threads;
 use wasm_types::{GlobalType, ValType};
-use weak_rules::group_winners;
-use wl_fan::Workers;
-use wl_outside::OpenGate;
 
 /// An object with imports: a table, a global `g`, and functions `f` and `h`, of which `h` takes an i32; and
 /// with a function that takes one. Its symbols are `f`, `h`, that function, `g`, the table and a datum.
@@ -27,16 +21,16 @@ fn grouped() -> &'static [u8] {
 
 /// A type, as far as it is compared: how many parameters a function has, and whether a global is an i64
 /// that may change.
-#[derive(Clone, Copy, Debug, PartialEq, Eq)]
-enum Kind {
+#[derive(Clone, Copy, PartialEq, Eq)]
+pub enum Kind {
     Function(usize),
     GlobalVar(bool),
     Untyped,
 }
 
 /// What is looked up of a symbol; of the field of its import the first byte.
-#[derive(Clone, Copy, Debug, PartialEq, Eq)]
-struct Found {
+#[derive(Clone, Copy, PartialEq, Eq)]
+pub struct Found {
     kind: Kind,
     field: Option<u8>,
     imported: bool,
@@ -77,7 +71,7 @@ fn look_up(entries: &Entries<'_>, object: u32, place: u32) -> Option<Found>
 }
 
 /// What is found of the first six symbols of an object.
-fn all_found(entries: &Entries<'_>, object: u32) -> [Option<Found>; 6]
+pub fn all_found(entries: &Entries<'_>, object: u32) -> [Option<Found>; 6]
     requires { FitsObjects entries.now }
 {
     [
@@ -88,34 +82,6 @@ fn all_found(entries: &Entries<'_>, object: u32) -> [Option<Found>; 6]
         look_up(entries, object, 4),
         look_up(entries, object, 5),
     ]
-}
-
-/// What is found of an object among these.
-fn looked_up<R: Threads + Sync>(
-    rt: &R,
-    alloc: Global,
-    objects: &[Object],
-    names: &Names,
-    object: u32,
-) -> Option<[Option<Found>; 6]>
-    requires inputs { InputsRise 0 objects.now }
-    requires numbers { AreNumbers Plain objects.now names.now }
-{
-    let workers = Workers::new(1)?;
-    let groups = group_winners(rt, alloc, objects, names, workers, &OpenGate).ok()?;
-    let table = EntryTable::new(alloc, objects, names, &groups).ok()?;
-    Some(all_found(&table.view(objects, names), object))
-}
-
-/// What is found of an object, by its place among these files.
-fn told<R: Threads + Sync>(
-    rt: &R,
-    alloc: Global,
-    files: &[&[u8]],
-    object: u32,
-) -> Option<[Option<Found>; 6]> {
-    let all = named(alloc, files)?;
-    looked_up(rt, alloc, all.objects.as_slice(), &all.names, object)
 }
 
 /// A symbol that stands on an import of this field, and defines nothing.
@@ -140,6 +106,20 @@ const fn own(kind: Kind, defines: bool, index: u32) -> Option<Found> {
     })
 }
 
+/// Whether this is found of the first symbols of an object, by its place among these files.
+fn are_found<R: Threads + Sync>(
+    rt: &R,
+    alloc: Global,
+    files: &[&[u8]],
+    object: u32,
+    wanted: [Option<Found>; 6],
+) -> bool {
+    match look_at(rt, alloc, files, 1, Look::Symbols(object)) {
+        Some(Seen::Symbols(found)) => found == wanted,
+        _ => false,
+    }
+}
+
 #[test]
 fn indexes_name_imports_and_then_definitions(rt: HostRuntime) {
     let wanted = [
@@ -150,21 +130,25 @@ fn indexes_name_imports_and_then_definitions(rt: HostRuntime) {
         imported(Kind::Untyped, b'_'),
         own(Kind::Untyped, false, 0),
     ];
-    assert!(rt; told(&rt, rt.alloc(), &[importing()], 0) == Some(wanted));
+    assert!(rt; are_found(&rt, rt.alloc(), &[importing()], 0, wanted));
+}
+
+/// The symbols of an object that keeps its group, or loses it.
+fn with_group(is_kept: bool) -> [Option<Found>; 6] {
+    let function = Kind::Function(0);
+    [
+        own(function, is_kept, 0),
+        own(function, true, 1),
+        own(Kind::Untyped, is_kept, 0),
+        own(Kind::Untyped, true, 1),
+        None,
+        None,
+    ]
 }
 
 #[test]
 fn members_of_a_lost_group_define_nothing(rt: HostRuntime) {
-    let function = Kind::Function(0);
-    for (object, is_kept) in [(0u32, true), (1, false)] {
-        let wanted = [
-            own(function, is_kept, 0),
-            own(function, true, 1),
-            own(Kind::Untyped, is_kept, 0),
-            own(Kind::Untyped, true, 1),
-            None,
-            None,
-        ];
-        assert!(rt; told(&rt, rt.alloc(), &[grouped(), grouped()], object) == Some(wanted));
-    }
+    let files = [grouped(), grouped()];
+    assert!(rt; are_found(&rt, rt.alloc(), &files, 0, with_group(true)));
+    assert!(rt; are_found(&rt, rt.alloc(), &files, 1, with_group(false)));
 }

@@ -1,15 +1,16 @@
 //! Both races over objects that were read, by one worker and by several.
 ghost use Rattle.name_entries.specs.made_symbols.declared.mode.Mode.TheVariants.{Plain};
-ghost use Rattle.name_entries.specs.link_names.Numbered.{AreNumbers};
-ghost use Rattle.name_entries.specs.View.{InputsRise};
+ghost use Rattle.name_entries.specs.Fits.{Fits};
 
-use crate::objects::{grouped, named, strong, weak};
+use crate::looking::{Look, Seen, look_at};
+use crate::objects::{grouped, strong, weak};
+use comdat_pick::ComdatWinners;
 use made_symbols::Mode;
-use name_entries::{EntryTable, Names, Object};
-use name_jobs::{group_winners, name_winners};
+use name_entries::{Entries, Names};
+use name_jobs::name_winners;
 use std::alloc::Global;
 use std::thread::Threads;
-use symbol_race::rank;
+use symbol_race::{Winners, rank};
 use wl_fan::Workers;
 use wl_outside::OpenGate;
 
@@ -19,52 +20,53 @@ fn weak_grouped() -> &'static [u8] {
 }
 
 /// Who won: the group `g`, by its input, and the name `f`, by the rank of its definition.
-#[derive(Clone, Copy, Debug, PartialEq, Eq)]
-struct Won {
+#[derive(Clone, Copy, PartialEq, Eq)]
+pub struct Won {
     group: Option<u32>,
     name: Option<u64>,
 }
 
+/// The input that has the group `g`.
+pub fn winner_of_group(names: &Names, winners: &ComdatWinners) -> Option<u32> {
+    match names.find(b"g".as_slice()) {
+        Some(number) => winners.of(number),
+        None => None,
+    }
+}
+
+/// The rank of the definition of `f`.
+pub fn winner_of_name(names: &Names, winners: &Winners) -> Option<u64> {
+    match names.find(b"f".as_slice()) {
+        Some(number) => winners.of(number),
+        None => None,
+    }
+}
+
 /// The winners by both races.
-fn raced<R: Threads + Sync>(
+pub fn won_by<R: Threads + Sync>(
     rt: &R,
     alloc: Global,
-    objects: &[Object],
-    names: &Names,
+    entries: Entries<'_>,
+    groups: &ComdatWinners,
     workers: Workers,
 ) -> Option<Won>
-    requires inputs { InputsRise 0 objects.now }
-    requires numbers { AreNumbers Plain objects.now names.now }
+    requires { Fits Plain entries }
 {
-    let groups = group_winners(rt, alloc, objects, names, workers, &OpenGate).ok()?;
-    let table = EntryTable::new(alloc, objects, names, &groups).ok()?;
-    let entries = table.view(objects, names);
-    let winners = name_winners(rt, alloc, entries, Mode::Plain, workers, &OpenGate).ok()?;
+    let names = entries.names;
+    let Ok(winners) = name_winners(rt, alloc, entries, Mode::Plain, workers, &OpenGate) else {
+        return None;
+    };
     Some(Won {
-        group: names
-            .find(b"g".as_slice())
-            .and_then(|number| groups.of(number)),
-        name: names
-            .find(b"f".as_slice())
-            .and_then(|number| winners.of(number)),
+        group: winner_of_group(names, groups),
+        name: winner_of_name(names, &winners),
     })
 }
 
-/// The winners of these objects, by so many workers.
-fn winners_of<R: Threads + Sync>(
-    rt: &R,
-    alloc: Global,
-    files: &[&[u8]],
-    workers: u32,
-) -> Option<Won> {
-    let workers = Workers::new(workers)?;
-    let all = named(alloc, files)?;
-    raced(rt, alloc, all.objects.as_slice(), &all.names, workers)
-}
+/// Three files, the input that has the group, and the rank of the definition.
+type Case = ([&'static [u8]; 3], Option<u32>, u64);
 
-#[test]
-fn the_least_wins_whoever_works(rt: HostRuntime) {
-    let cases = [
+fn cases() -> [Case; 4] {
+    [
         // a strong definition wins over a weak one that came first
         ([weak(), strong(), weak()], None, rank(0, 2, 0)),
         // of two weak ones the first wins
@@ -77,12 +79,40 @@ fn the_least_wins_whoever_works(rt: HostRuntime) {
             Some(1),
             rank(0, 3, 0),
         ),
-    ];
+    ]
+}
+
+/// Whether these win of the files, by so many workers.
+fn wins<R: Threads + Sync>(
+    rt: &R,
+    alloc: Global,
+    files: &[&[u8]],
+    workers: u32,
+    wanted: Won,
+) -> bool {
+    match look_at(rt, alloc, files, workers, Look::Winners) {
+        Some(Seen::Winners(won)) => won == wanted,
+        _ => false,
+    }
+}
+
+/// Whether these win in each case, whoever works.
+fn win<R: Threads + Sync>(rt: &R, alloc: Global, cases: &[Case]) -> bool {
     for (files, group, name) in cases {
+        let wanted = Won {
+            group: *group,
+            name: Some(*name),
+        };
         for workers in [1u32, 2, 64] {
-            let name = Some(name);
-            let won = winners_of(&rt, rt.alloc(), &files, workers);
-            assert!(rt; won == Some(Won { group, name }));
+            if !wins(rt, alloc, files, workers, wanted) {
+                return false;
+            }
         }
     }
+    true
+}
+
+#[test]
+fn the_least_wins_whoever_works(rt: HostRuntime) {
+    assert!(rt; win(&rt, rt.alloc(), &cases()));
 }

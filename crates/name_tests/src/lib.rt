@@ -11,6 +11,8 @@ mod entries;
 #[cfg(test)]
 mod jobs;
 #[cfg(test)]
+mod looking;
+#[cfg(test)]
 mod made;
 #[cfg(test)]
 mod meanings;

@@ -1,13 +1,13 @@
 //! What symbols of small objects mean.
 ghost use Rattle.name_entries.specs.made_symbols.declared.mode.Mode.TheVariants.{Plain};
-ghost use Rattle.name_entries.specs.link_names.Numbered.{AreNumbers};
-ghost use Rattle.name_entries.specs.View.{InputsRise};
+ghost use Rattle.name_entries.specs.Fits.{Fits};
 ghost use Rattle.name_unresolved.specs.Unresolved.{AreMeant};
 
-use crate::objects::{grouped, named};
+use crate::looking::{Look, Seen, look_at};
+use crate::objects::grouped;
 use made_symbols::Mode;
-use name_entries::{EntryTable, Meaning, Names, Object};
-use name_jobs::{group_winners, name_winners};
+use name_entries::{Entries, Meaning, Object};
+use name_jobs::name_winners;
 use name_meanings::{Resolution, resolve};
 use name_unresolved::laws::resolved_is_meant;
 use std::alloc::Global;
@@ -41,11 +41,11 @@ fn local() -> &'static [u8] {
 }
 
 /// What is meant by the first symbols of the inputs 1 and 2, how many imports there are, and whether the first is of `env`.
-#[derive(Clone, Copy, Debug, PartialEq, Eq)]
-struct Meant {
+#[derive(Clone, Copy)]
+pub struct Meant {
     first: Meaning,
     second: Meaning,
-    imports: u32,
+    pub imports: u32,
     of_env: bool,
 }
 
@@ -81,25 +81,16 @@ fn summary(resolution: &Resolution, objects: &[Object]) -> Option<Meant>
     })
 }
 
-/// What the symbols of these objects mean.
-fn resolved<R: Threads + Sync>(
+/// What the first symbols mean.
+pub fn meant_by<R: Threads + Sync>(
     rt: &R,
     alloc: Global,
-    objects: &[Object],
-    names: &Names,
+    entries: Entries<'_>,
+    workers: Workers,
     allow_undefined: bool,
 ) -> Option<Meant>
-    requires inputs { InputsRise 0 objects.now }
-    requires numbers { AreNumbers Plain objects.now names.now }
+    requires { Fits Plain entries }
 {
-    let workers = Workers::new(1)?;
-    let Ok(groups) = group_winners(rt, alloc, objects, names, workers, &OpenGate) else {
-        return None;
-    };
-    let Ok(table) = EntryTable::new(alloc, objects, names, &groups) else {
-        return None;
-    };
-    let entries = table.view(objects, names);
     let Ok(winners) = name_winners(rt, alloc, entries, Mode::Plain, workers, &OpenGate) else {
         return None;
     };
@@ -107,28 +98,33 @@ fn resolved<R: Threads + Sync>(
         return None;
     };
     resolved_is_meant();
-    summary(&resolution, objects)
-}
-
-/// What the symbols of these files mean.
-fn meant_by<R: Threads + Sync>(
-    rt: &R,
-    alloc: Global,
-    files: &[&[u8]],
-    allow_undefined: bool,
-) -> Option<Meant> {
-    let all = named(alloc, files)?;
-    resolved(
-        rt,
-        alloc,
-        all.objects.as_slice(),
-        &all.names,
-        allow_undefined,
-    )
+    summary(&resolution, entries.objects)
 }
 
 /// Two files, whether undefined names are allowed, what their first symbols mean, and how many imports there are.
 type Case = ([&'static [u8]; 2], bool, Meaning, Meaning, u32);
+
+/// Whether both are the same.
+fn agree(meant: &Meant, wanted: &Meant) -> bool {
+    meant.first == wanted.first
+        && meant.second == wanted.second
+        && meant.imports == wanted.imports
+        && meant.of_env == wanted.of_env
+}
+
+/// Whether the symbols of these files mean this.
+fn is_meant<R: Threads + Sync>(
+    rt: &R,
+    alloc: Global,
+    files: &[&[u8]],
+    allow: bool,
+    wanted: &Meant,
+) -> bool {
+    match look_at(rt, alloc, files, 1, Look::Meanings(allow)) {
+        Some(Seen::Meanings(meant)) => agree(&meant, wanted),
+        _ => false,
+    }
+}
 
 /// Whether the symbols mean this in each case.
 fn mean<R: Threads + Sync>(rt: &R, alloc: Global, cases: &[Case]) -> bool {
@@ -139,7 +135,7 @@ fn mean<R: Threads + Sync>(rt: &R, alloc: Global, cases: &[Case]) -> bool {
             imports: *imports,
             of_env: *imports > 0,
         };
-        if meant_by(rt, alloc, files, *allow) != Some(wanted) {
+        if !is_meant(rt, alloc, files, *allow, &wanted) {
             return false;
         }
     }

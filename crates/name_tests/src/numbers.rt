@@ -16,30 +16,45 @@ fn add_symbols(to: &mut Symbols) -> Result<(), OutOfMemory> {
     to.push(symbol(SymbolKind::Datum, LOCAL | UNDEFINED, Some(b"g".as_slice())))
 }
 
+/// These symbols and one group.
+fn add_parts(alloc: Global, to: &mut Object, text: &str) -> Result<(), OutOfMemory> {
+    add_symbols(&mut to.symbols)?;
+    let group = group(alloc, text, &[])?;
+    to.groups.push(group)
+}
+
 /// An object with these symbols and one group.
-fn object_of(alloc: Global, input: u32, text: &str) -> Result<Object, OutOfMemory> {
+fn add_object(
+    alloc: Global,
+    to: &mut Seq<Object>,
+    input: u32,
+    text: &str,
+) -> Result<(), OutOfMemory> {
     let mut object = nothing(alloc, input);
-    add_symbols(&mut object.symbols)?;
-    object.groups.push(group(alloc, text, &[])?)?;
-    Ok(object)
+    add_parts(alloc, &mut object, text)?;
+    to.push(object)
 }
 
-fn objects_of(alloc: Global) -> Result<Seq<Object>, OutOfMemory> {
-    let mut objects = Seq::new(alloc);
-    objects.push(object_of(alloc, 1, "f")?)?;
-    objects.push(object_of(alloc, 2, "h")?)?;
-    Ok(objects)
+fn add_objects(alloc: Global, to: &mut Seq<Object>) -> Result<(), OutOfMemory> {
+    add_object(alloc, to, 1, "f")?;
+    add_object(alloc, to, 2, "h")
 }
 
-fn words_of(alloc: Global) -> Result<Seq<Name>, OutOfMemory> {
-    let mut words = Seq::new(alloc);
-    words.push(name(alloc, "w")?)?;
-    words.push(name(alloc, "g")?)?;
-    Ok(words)
+fn add_word(alloc: Global, to: &mut Seq<Name>, text: &str) -> Result<(), OutOfMemory> {
+    let word = name(alloc, text)?;
+    to.push(word)
 }
+
+fn add_words(alloc: Global, to: &mut Seq<Name>) -> Result<(), OutOfMemory> {
+    add_word(alloc, to, "w")?;
+    add_word(alloc, to, "g")
+}
+
+/// All numbers that are looked at.
+type Numbers = ([Option<u32>; 4], [Option<u32>; 2], [Option<u32>; 2], u32);
 
 /// The numbers that these names have beyond the linker-made ones, and how many there are.
-fn numbers(names: &Names) -> ([Option<u32>; 4], [Option<u32>; 2], [Option<u32>; 2], u32) {
+fn numbers(names: &Names) -> Numbers {
     (
         [
             names.symbol(0, 0),
@@ -53,21 +68,30 @@ fn numbers(names: &Names) -> ([Option<u32>; 4], [Option<u32>; 2], [Option<u32>; 
     )
 }
 
-fn told(
+fn told_of(
     alloc: Global,
+    words: &[Name],
+    objects: &[Object],
     limit: u32,
-) -> Result<([Option<u32>; 4], [Option<u32>; 2], [Option<u32>; 2], u32), NameFault> {
-    let (Ok(objects), Ok(words)) = (objects_of(alloc), words_of(alloc)) else {
-        return Err(NameFault::OutOfMemory);
-    };
-    let names = Names::new(
-        alloc,
-        Mode::Plain,
-        words.as_slice(),
-        objects.as_slice(),
-        limit,
-    )?;
+) -> Result<Numbers, NameFault> {
+    let names = Names::new(alloc, Mode::Plain, words, objects, limit)?;
     Ok(numbers(&names))
+}
+
+fn told_with(alloc: Global, objects: &[Object], limit: u32) -> Result<Numbers, NameFault> {
+    let mut words = Seq::new(alloc);
+    match add_words(alloc, &mut words) {
+        Ok(()) => told_of(alloc, words.as_slice(), objects, limit),
+        Err(_) => Err(NameFault::OutOfMemory),
+    }
+}
+
+fn told(alloc: Global, limit: u32) -> Result<Numbers, NameFault> {
+    let mut objects = Seq::new(alloc);
+    match add_objects(alloc, &mut objects) {
+        Ok(()) => told_with(alloc, objects.as_slice(), limit),
+        Err(_) => Err(NameFault::OutOfMemory),
+    }
 }
 
 fn are_numbered(alloc: Global) -> bool {

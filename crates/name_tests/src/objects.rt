@@ -62,15 +62,32 @@ pub struct NamedObjects {
     pub names: Names,
 }
 
-// The objects that these bytes are, as the inputs from 1 on.
-fn read(alloc: Global, files: &[&[u8]]) -> Option<Seq<Object>> {
-    let mut objects = Seq::new(alloc);
+// Puts the object that these bytes are behind the others.
+fn add(alloc: Global, to: &mut Seq<Object>, input: u32, file: &[u8]) -> Option<()> {
+    let object = read_object(alloc, input, file).ok()?;
+    to.push(object).ok()
+}
+
+// Puts the objects that these bytes are behind the others, as the inputs from 1 on.
+fn add_all(alloc: Global, to: &mut Seq<Object>, files: &[&[u8]]) -> Option<()> {
     let mut input: u32 = 1;
     for file in files {
-        objects.push(read_object(alloc, input, file).ok()?).ok()?;
+        add(alloc, to, input, file)?;
         input = input.checked_add(1)?;
     }
-    Some(objects)
+    Some(())
+}
+
+// The objects with their names, where the inputs rise.
+fn with_names(alloc: Global, objects: Seq<Object>) -> Option<NamedObjects>
+    ensures inputs { IfSome result (λ all. InputsRise 0 all.objects) }
+    ensures numbers { IfSome result (λ all. AreNumbers Plain all.objects all.names) }
+{
+    if !inputs_rise(objects.as_slice()) {
+        return None;
+    }
+    let names = numbered(alloc, objects.as_slice())?;
+    Some(NamedObjects { objects, names })
 }
 
 // The numbers of the names of these objects.
@@ -88,10 +105,7 @@ pub fn named(alloc: Global, files: &[&[u8]]) -> Option<NamedObjects>
     ensures inputs { IfSome result (λ all. InputsRise 0 all.objects) }
     ensures numbers { IfSome result (λ all. AreNumbers Plain all.objects all.names) }
 {
-    let objects = read(alloc, files)?;
-    if !inputs_rise(objects.as_slice()) {
-        return None;
-    }
-    let names = numbered(alloc, objects.as_slice())?;
-    Some(NamedObjects { objects, names })
+    let mut objects = Seq::new(alloc);
+    add_all(alloc, &mut objects, files)?;
+    with_names(alloc, objects)
 }

@@ -14,7 +14,6 @@ use name_meanings::Resolution;
 use name_unresolved::first_unresolved;
 use reloc_section::kinds::{FUNCTION_INDEX_LEB, MEMORY_ADDR_I32};
 use std::alloc::Global;
-use std::test::Fail;
 use std::thread::Threads;
 use test_kit::reloc;
 use weak_rules::inputs_rise;
@@ -92,25 +91,23 @@ fn add_parts(alloc: Global, to: &mut Object) -> Result<(), OutOfMemory> {
     add_inits(&mut to.inits)
 }
 
-fn object(alloc: Global, input: InputId) -> Result<Object, OutOfMemory> {
+fn add_object(alloc: Global, to: &mut Seq<Object>, input: InputId) -> Result<(), OutOfMemory> {
     let mut object = nothing(alloc, input);
     add_parts(alloc, &mut object)?;
-    Ok(object)
+    to.push(object)
 }
 
 /// Symbol 2 is null, and the others mean nothing.
-fn rows(alloc: Global) -> Result<Lists<Meaning>, OutOfMemory> {
+fn add_rows(to: &mut Lists<Meaning>) -> Result<(), OutOfMemory> {
     let row = [
         Meaning::Nothing,
         Meaning::Nothing,
         Meaning::Null,
         Meaning::Nothing,
     ];
-    let mut rows = Lists::new(alloc);
-    rows.push(&[])?;
-    rows.push(&row)?;
-    rows.push(&row)?;
-    Ok(rows)
+    to.push(&[])?;
+    to.push(&row)?;
+    to.push(&row)
 }
 
 /// How many meanings an input has.
@@ -137,24 +134,23 @@ fn are_meant(objects: &[Object], rows: &Lists<Meaning>) -> bool
 
 // ---- live chunks
 
-/// `__wasm_call_ctors`, the first object's segment and the second object's function.
-fn chunks(alloc: Global) -> Result<ChunkTable, OutOfMemory> {
-    let mut table = ChunkTable::new(alloc);
-    for (input, kind) in [
-        (0, kinds::FUNCTION),
-        (1, kinds::SEGMENT),
-        (2, kinds::FUNCTION),
-    ] {
-        let chunk = Chunk {
-            input,
-            kind,
-            index: 0,
-        };
-        if table.count() < 3 && table.find(chunk).is_none() {
-            table.add(chunk)?;
-        }
+fn add_chunk(to: &mut ChunkTable, input: InputId, kind: u8) -> Result<(), OutOfMemory> {
+    let chunk = Chunk {
+        input,
+        kind,
+        index: 0,
+    };
+    if to.count() < 3 && to.find(chunk).is_none() {
+        to.add(chunk)?;
     }
-    Ok(table)
+    Ok(())
+}
+
+/// `__wasm_call_ctors`, the first object's segment and the second object's function.
+fn add_chunks(to: &mut ChunkTable) -> Result<(), OutOfMemory> {
+    add_chunk(to, 0, kinds::FUNCTION)?;
+    add_chunk(to, 1, kinds::SEGMENT)?;
+    add_chunk(to, 2, kinds::FUNCTION)
 }
 
 fn mark(bits: &MarkBits, seat: &mut MarkSeat, chunk: u32, is_live: bool)
@@ -178,64 +174,93 @@ fn live_of(alloc: Global, are_live: [bool; 3]) -> Result<MarkSet, OutOfMemory> {
 }
 
 /// The inputs 1 and 2.
-fn objects(alloc: Global) -> Result<Seq<Object>, OutOfMemory> {
-    let mut objects = Seq::new(alloc);
-    for input in [1, 2] {
-        objects.push(object(alloc, input)?)?;
-    }
-    Ok(objects)
+fn add_objects(alloc: Global, to: &mut Seq<Object>) -> Result<(), OutOfMemory> {
+    add_object(alloc, to, 1)?;
+    add_object(alloc, to, 2)
 }
+
+/// The first unresolved symbol, if there is one.
+type First = Option<(InputId, u32)>;
 
 /// The first unresolved symbol, where all that is asked holds.
 fn first_of<R: Threads + Sync>(
     rt: &R,
     alloc: Global,
     objects: &[Object],
-    rows: Lists<Meaning>,
+    resolution: &Resolution,
     live: &MarkSet,
     chunks: &ChunkTable,
-) -> Result<Option<Option<(InputId, u32)>>, OutOfMemory> {
-    let fit = live.chunks == chunks.count();
-    if !fit || !inputs_rise(objects) || !are_meant(objects, &rows) {
-        return Ok(None);
+) -> Option<First>
+    requires { AreMeant resolution.now.rows objects.now }
+{
+    if live.chunks != chunks.count() || !inputs_rise(objects) {
+        return None;
+    }
+    let workers = Workers::new(2)?;
+    first_unresolved(rt, alloc, objects, resolution, live, chunks, workers).ok()
+}
+
+/// The first unresolved symbol of these objects, where the symbols mean this.
+fn first_by_rows<R: Threads + Sync>(
+    rt: &R,
+    alloc: Global,
+    objects: &[Object],
+    live: &MarkSet,
+    chunks: &ChunkTable,
+) -> Option<First> {
+    let mut rows = Lists::new(alloc);
+    add_rows(&mut rows).ok()?;
+    if !are_meant(objects, &rows) {
+        return None;
     }
     let resolution = Resolution::of_rows(alloc, rows);
-    let Some(workers) = Workers::new(2) else {
-        unreachable!()
-    };
-    let first = first_unresolved(rt, alloc, objects, &resolution, live, chunks, workers)?;
-    Ok(Some(first))
+    first_of(rt, alloc, objects, &resolution, live, chunks)
 }
 
 /// The first unresolved symbol of these objects, where these chunks are live.
-fn seen<R: Threads + Sync>(
+fn first_where<R: Threads + Sync>(
     rt: &R,
     alloc: Global,
     objects: &[Object],
     chunks: &ChunkTable,
     are_live: [bool; 3],
-) -> Result<Option<Option<(InputId, u32)>>, OutOfMemory> {
-    let live = live_of(alloc, are_live)?;
-    let rows = rows(alloc)?;
-    first_of(rt, alloc, objects, rows, &live, chunks)
+) -> Option<First> {
+    let live = live_of(alloc, are_live).ok()?;
+    first_by_rows(rt, alloc, objects, &live, chunks)
 }
 
-/// Whether this is told where these chunks are live.
-fn is_told<R: Threads + Sync>(
+/// The same, of these chunks.
+fn first_in<R: Threads + Sync>(
     rt: &R,
     alloc: Global,
+    objects: &[Object],
     are_live: [bool; 3],
-    first: Option<(InputId, u32)>,
-) -> Result<bool, OutOfMemory> {
-    let objects = objects(alloc)?;
-    let chunks = chunks(alloc)?;
-    let told = seen(rt, alloc, objects.as_slice(), &chunks, are_live)?;
-    Ok(told == Some(first))
+) -> Option<First> {
+    let mut chunks = ChunkTable::new(alloc);
+    add_chunks(&mut chunks).ok()?;
+    first_where(rt, alloc, objects, &chunks, are_live)
+}
+
+/// The first unresolved symbol where these chunks are live.
+fn told<R: Threads + Sync>(rt: &R, alloc: Global, are_live: [bool; 3]) -> Option<First> {
+    let mut objects = Seq::new(alloc);
+    add_objects(alloc, &mut objects).ok()?;
+    first_in(rt, alloc, objects.as_slice(), are_live)
+}
+
+/// Whether the first unresolved symbol is this, where these chunks are live.
+fn are_told<R: Threads + Sync>(rt: &R, alloc: Global, cases: &[([bool; 3], First)]) -> bool {
+    for (are_live, first) in cases {
+        if told(rt, alloc, *are_live) != Some(*first) {
+            return false;
+        }
+    }
+    true
 }
 
 #[test]
-fn the_least_symbol_of_live_chunks_is_told(rt: HostRuntime) -> Result<(), Fail> {
-    for (are_live, first) in [
+fn the_least_symbol_of_live_chunks_is_told(rt: HostRuntime) {
+    let cases = [
         ([false, false, false], None),
         // a null symbol doesn't count
         ([false, true, true], Some((1, 3))),
@@ -243,8 +268,6 @@ fn the_least_symbol_of_live_chunks_is_told(rt: HostRuntime) -> Result<(), Fail> 
         // the init function that is defined doesn't count
         ([true, false, false], Some((1, 1))),
         ([true, true, true], Some((1, 1))),
-    ] {
-        assert!(rt; is_told(&rt, rt.alloc(), are_live, first)?);
-    }
-    Ok(())
+    ];
+    assert!(rt; are_told(&rt, rt.alloc(), &cases));
 }

@@ -42,7 +42,7 @@ fn count_of_nothing<R: Threads + Sync>(rt: &R, alloc: Global) -> Option<usize> {
 /// Nothing is loaded where nothing is given.
 #[test]
 fn nothing_is_loaded(rt: HostRuntime) {
-    assert_eq!(rt; count_of_nothing(&rt, rt.alloc()), Some(0));
+    assert!(rt; count_of_nothing(&rt, rt.alloc()) == Some(0));
 }
 
 /// An object that refers to `a`, by a WEAK reference.
@@ -61,7 +61,7 @@ fn lying_library() -> &'static [u8] {
 }
 
 /// What a call answers, as far as the cases tell.
-#[derive(Clone, Copy, Debug, PartialEq, Eq)]
+#[derive(Clone, Copy, PartialEq, Eq)]
 enum Outcome {
     /// The first inputs that are loaded, in order.
     Loaded([Option<u32>; 4]),
@@ -70,14 +70,23 @@ enum Outcome {
     Other,
 }
 
-/// Objects as inputs 1 and 2, the second a lazy one.
-fn given(alloc: Global, plain: &[u8], lazy: &[u8]) -> Option<Seq<GivenObject>> {
-    let plain = read_object(alloc, 1, plain).ok()?;
-    let lazy = read_object(alloc, 2, lazy).ok()?;
-    let mut given = Seq::new(alloc);
-    given.push(GivenObject::of(alloc, plain, false).ok()?).ok()?;
-    given.push(GivenObject::of(alloc, lazy, true).ok()?).ok()?;
-    Some(given)
+/// Puts an object behind the others.
+fn add_object(
+    alloc: Global,
+    to: &mut Seq<GivenObject>,
+    input: u32,
+    bytes: &[u8],
+    lazy: bool,
+) -> Option<()> {
+    let object = read_object(alloc, input, bytes).ok()?;
+    let given = GivenObject::of(alloc, object, lazy).ok()?;
+    to.push(given).ok()
+}
+
+/// Puts objects as inputs 1 and 2 behind the others, the second a lazy one.
+fn add_objects(alloc: Global, to: &mut Seq<GivenObject>, plain: &[u8], lazy: &[u8]) -> Option<()> {
+    add_object(alloc, to, 1, plain, false)?;
+    add_object(alloc, to, 2, lazy, true)
 }
 
 /// Whether the objects are the inputs from 1 on.
@@ -116,23 +125,35 @@ fn input_at(loaded: &Loaded, at: usize) -> Option<u32> {
     Some(loaded.objects().get(at)?.input)
 }
 
-/// What the call answers.
-fn told(answer: Result<Loaded, RoundError>) -> Outcome {
-    match answer {
-        Ok(loaded) => Outcome::Loaded([
-            input_at(&loaded, 0),
-            input_at(&loaded, 1),
-            input_at(&loaded, 2),
-            input_at(&loaded, 3),
-        ]),
-        Err(RoundError::Refused(Fault::IndexLies { input, name })) => {
-            Outcome::IndexLies(input, name.as_slice() == b"a".as_slice())
+/// What is loaded.
+fn inputs_of(loaded: &Loaded) -> Outcome {
+    Outcome::Loaded([
+        input_at(loaded, 0),
+        input_at(loaded, 1),
+        input_at(loaded, 2),
+        input_at(loaded, 3),
+    ])
+}
+
+/// What an error says.
+fn outcome_of(error: &RoundError) -> Outcome {
+    match error {
+        RoundError::Refused(Fault::IndexLies { input, name }) => {
+            Outcome::IndexLies(*input, name.as_slice() == b"a".as_slice())
         }
-        Err(_) => Outcome::Other,
+        _ => Outcome::Other,
     }
 }
 
-/// The call with these objects and one library.
+/// What the call answers.
+fn told(answer: &Result<Loaded, RoundError>) -> Outcome {
+    match answer {
+        Ok(loaded) => inputs_of(loaded),
+        Err(error) => outcome_of(error),
+    }
+}
+
+/// What the call with these objects and one library answers.
 fn called<R: Threads + Sync>(
     rt: &R,
     alloc: Global,
@@ -140,7 +161,7 @@ fn called<R: Threads + Sync>(
     library: LibraryFile,
     file: Seq<u8>,
     workers: Workers,
-) -> Result<Loaded, RoundError>
+) -> Outcome
     requires numbered { (k : ℕ) (g : GivenObject) → slice_get given k ≡ Some g → g.object.input ≡ k + 1 }
     requires first { library.first ≡ length given + 1 }
     requires few { length given + length library.library.members < 2 ^ 20 }
@@ -148,7 +169,7 @@ fn called<R: Threads + Sync>(
 {
     let libraries = [library];
     let files = [file];
-    load_rounds(
+    let answer = load_rounds(
         rt,
         alloc,
         given,
@@ -157,7 +178,33 @@ fn called<R: Threads + Sync>(
         &[],
         Mode::Plain,
         workers,
-    )
+    );
+    told(&answer)
+}
+
+/// Whether these are two objects as inputs 1 and 2, and a library of at most two members behind them.
+fn fit(given: &[GivenObject], library: &LibraryFile) -> bool
+    ensures numbered { IsTrue result → (k : ℕ) (g : GivenObject) → slice_get given.now k ≡ Some g → g.object.input ≡ k + 1 }
+    ensures first { IsTrue result → library.now.first ≡ length given.now + 1 }
+    ensures few { IsTrue result → length given.now + length library.now.library.members < 2 ^ 20 }
+{
+    given.len() == 2 && library.library.count() <= 2 && library.first == 3 && are_numbered(given)
+}
+
+/// What is loaded of these objects and the library that the bytes are.
+fn loaded_with<R: Threads + Sync>(
+    rt: &R,
+    alloc: Global,
+    workers: Workers,
+    given: Seq<GivenObject>,
+    library: &[u8],
+) -> Option<Outcome> {
+    let file = Seq::from_slice(alloc, library).ok()?;
+    let library = read_library(alloc, file.as_slice())?;
+    if !fit(given.as_slice(), &library) {
+        return None;
+    }
+    Some(called(rt, alloc, given, library, file, workers))
 }
 
 /// What is loaded of these objects and this library, by so many workers.
@@ -170,17 +217,9 @@ fn what_is_loaded<R: Threads + Sync>(
     library: &[u8],
 ) -> Option<Outcome> {
     let workers = Workers::new(workers)?;
-    let given = given(alloc, plain, lazy)?;
-    let file = Seq::from_slice(alloc, library).ok()?;
-    let library = read_library(alloc, file.as_slice())?;
-    if !are_numbered(given.as_slice())
-        || given.len() != 2
-        || library.library.count() > 2
-        || library.first != 3
-    {
-        return None;
-    }
-    Some(told(called(rt, alloc, given, library, file, workers)))
+    let mut given = Seq::new(alloc);
+    add_objects(alloc, &mut given, plain, lazy)?;
+    loaded_with(rt, alloc, workers, given, library)
 }
 
 /// A plain object, a lazy one, a library, and what is loaded of them.

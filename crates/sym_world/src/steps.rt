@@ -90,7 +90,7 @@ fn found_world<R: Threads + Sync, G: Gate>(
     let chosen = choose(rt, alloc, program, entries, workers, gate)?;
     let exports = chosen.exports.as_slice();
     let live = chosen.live.numbers.as_slice();
-    let world = placed_world(alloc, program, entries, files, exports, live);
+    let world = placed_world(rt, alloc, program, entries, files, exports, live, workers);
     world
 }
 
@@ -120,13 +120,15 @@ fn choose<R: Threads + Sync, G: Gate>(
 }
 
 // Gives all that is live its place and its number.
-fn placed_world(
+fn placed_world<R: Threads + Sync>(
+    rt: &R,
     alloc: Global,
     program: Program<'_>,
     entries: Entries<'_>,
     files: &[Seq<u8>],
     exports: &[Winner],
     live: &[u32],
+    workers: Workers,
 ) -> Result<SymWorld, LinkError>
     ghost s: { Stage }
     requires is { IsLinking s.program program entries files.now }
@@ -135,7 +137,7 @@ fn placed_world(
     ensures { Told result (sym_laid_out s.program s.exports s.parts) }
 {
     let placed = place_segments(alloc, program, files, live)?;
-    let numbering = number(alloc, program, entries, exports, live)?;
+    let numbering = number(rt, alloc, program, entries, exports, live, workers)?;
     let layout = Layout {
         program,
         numbering: &numbering,

@@ -15,8 +15,11 @@ use wasm_types::{FuncType, ValType};
 use wl_base::{OutOfMemory, Seq};
 use wl_stack::Stack;
 
-/// What is open at the start of a body.
-fn begin(alloc: Global, results: &[ValType]) -> Result<Stack<Frame>, OutOfMemory>
+/// What is open at the start of a body with these results: the body itself.
+///
+/// # Errors
+/// Want of memory.
+pub fn begin(alloc: Global, results: &[ValType]) -> Result<Stack<Frame>, OutOfMemory>
     ensures { IfOk result (λ frames. frames ≡ whole results.now ∷ []) }
 {
     let kind = FuncType {

@@ -329,7 +329,11 @@ fn branches_by(
     Ok(true)
 }
 
-/// One instruction, in the innermost frame.
+/// One instruction, in the innermost frame, which is taken off `frames` before: whether it has a typing
+/// there. Then `frames` holds what is open behind it, the innermost first; else its contents are of no use.
+///
+/// # Errors
+/// Want of memory.
 #[tactic(auto, unfolding(valid_rules::specs::Reading::step))]
 pub fn reads(
     alloc: Global,

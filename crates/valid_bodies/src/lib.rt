@@ -3,6 +3,9 @@
 //! An instruction's shape is what typing sees of it: its index is looked up first (`meanings`), then
 //! its opcode (`shapes`, `numeric`, `accesses`). The shapes are read once, by the validation
 //! algorithm of Core, appendix A.3 (`frames`, `operands`).
+//!
+//! An instruction whose references aren't its indices, as in an object, has its shape by what it names
+//! (`shape_by`), and is read like any other (`begin`, `reads`).
 #![tactic(auto)]
 
 mod accesses;
@@ -15,5 +18,7 @@ mod operands;
 mod shapes;
 mod types;
 
-pub use bodies::first_untyped;
+pub use bodies::{begin, first_untyped};
+pub use frames::reads;
+pub use shapes::shape_by;
 pub use types::{Context, Meaning};

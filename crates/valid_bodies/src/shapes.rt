@@ -165,8 +165,12 @@ fn global_named(alloc: Global, op: u8, meaning: Meaning) -> Result<Shape, OutOfM
     }
 }
 
-/// An instruction of a function of this type with these locals, by what its index names.
-fn shape_by(
+/// An instruction of a function of this type with these locals, by what it names. `memory` says whether
+/// there is one.
+///
+/// # Errors
+/// Want of memory.
+pub fn shape_by(
     alloc: Global,
     memory: bool,
     kind: &FuncType,

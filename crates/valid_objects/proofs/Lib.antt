@@ -1,0 +1,5 @@
+pub mod Merge
+pub mod Named
+pub mod Accepting
+pub mod Judging
+pub mod Steps

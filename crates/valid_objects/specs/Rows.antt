@@ -81,6 +81,23 @@ behind_an_import : object_fault (record (object (function [] 4)) { imports = rec
 unfolding body_at locals_at runs_at run_at code_at class_of instr_at u32_at s32_at number_at end_of end_within read step plain numeric access
 behind_an_import = refl
 
+-- An object with an imported function of type (i32) to (), which its first symbol names, before its own of type () to ().
+abbrev importing : FunctionDef → Object
+importing f = record (object f) {
+  types = record { params = []; results = [] } ∷ record { params = I32 ∷ []; results = [] } ∷ [];
+  imports = record { «module» = []; field = []; kind = kinds.Function 1 } ∷ [];
+}
+
+-- A call has the type of its symbol's function, and not that of its index, which is that of the function itself.
+by_its_symbol : object_fault (importing (function (operands.Symbol 0 2 0 (pos 0) ∷ []) 8)) (0x00 ∷ 0x10 ∷ 0x81 ∷ 0x80 ∷ 0x80 ∷ 0x80 ∷ 0x00 ∷ 0x0B ∷ []) ≡ Some (Body 1)
+unfolding body_at locals_at runs_at run_at code_at class_of instr_at u32_at s32_at number_at end_of end_within read step plain numeric access
+by_its_symbol = refl
+
+-- The same behind a number.
+with_its_argument : object_fault (importing (function (operands.Symbol 0 4 0 (pos 0) ∷ []) 10)) (0x00 ∷ 0x41 ∷ 0x01 ∷ 0x10 ∷ 0x81 ∷ 0x80 ∷ 0x80 ∷ 0x80 ∷ 0x00 ∷ 0x0B ∷ []) ≡ None
+unfolding body_at locals_at runs_at run_at code_at class_of instr_at u32_at s32_at number_at end_of end_within read step plain numeric access
+with_its_argument = refl
+
 -- A global of i32 with an i64: the rules outside the bodies come first.
 global_of_other_type : object_fault (record (object (function [] 4)) { globals = record { kind = record { kind = I32; var = false }; value = constants.I64 (pos 1); span = record { start = 0; len = 0 } } ∷ [] }) (0x00 ∷ 0x41 ∷ 0x01 ∷ 0x0B ∷ []) ≡ Some Module
 global_of_other_type = refl

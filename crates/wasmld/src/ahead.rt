@@ -1,9 +1,9 @@
 //! Files that will be asked for are read before, by several threads: opening a file, and waiting for it, takes longer than what is done
-//! with a small one.
+//! with a small one. A file that is large and alone is read by all of them.
 ghost use Rattle.std.specs.Prelude.{◌<◌, ◌≤◌, ◌^◌, All, length};
 
 use crate::host_files::HostFiles;
-use host_outside::{Loaded, ReadAhead};
+use host_outside::{LEAST_LARGE, Loaded, ReadAhead, read_large};
 use link_words::{Plan, read_words};
 use std::alloc::Global;
 use std::thread;
@@ -41,15 +41,20 @@ pub struct Ahead {
     next: usize,
 }
 
-// Reads files in order until that was some work, and answers how many.
-fn read_first<R: HostFiles>(rt: &R, alloc: Global, files: &mut [Foreseen]) -> usize
+// Reads files in order until that was some work, and answers how many. Large ones are left unread.
+fn read_first<R: HostFiles>(
+    rt: &R,
+    alloc: Global,
+    files: &mut [Foreseen],
+    least_large: u64,
+) -> usize
     ensures { result ≤ length files.new }
 {
     let mut left = LEAST_WORK;
     let mut piece = Vec::new(alloc);
     for at in 0..files.len() {
-        let loaded = rt.read_file(alloc, files[at].name.as_str(), &mut piece);
-        files[at].loaded = Some(loaded);
+        let loaded = rt.read_shorter(alloc, files[at].name.as_str(), &mut piece, least_large);
+        files[at].loaded = loaded;
         let work = files[at].work();
         if work >= left {
             return at + 1;
@@ -59,12 +64,13 @@ fn read_first<R: HostFiles>(rt: &R, alloc: Global, files: &mut [Foreseen]) -> us
     files.len()
 }
 
-// Reads the files, each worker as many.
+// Reads those of the files that are unread, each worker as many of the list. Large ones are left unread.
 fn read_rest<R: HostFiles + Threads>(
     rt: &R,
     alloc: Global,
     files: &mut [Foreseen],
     workers: Workers,
+    least_large: u64,
 ) {
     let size = files.len() / workers.count() as usize + 1;
     thread::for_each_chunk_mut(
@@ -74,11 +80,80 @@ fn read_rest<R: HostFiles + Threads>(
         &|_, part| {
             let mut piece = Vec::new(alloc);
             for at in 0..part.len() {
-                let loaded = rt.read_file(alloc, part[at].name.as_str(), &mut piece);
-                part[at].loaded = Some(loaded);
+                if part[at].loaded.is_none() {
+                    let loaded = rt.read_shorter(
+                        alloc,
+                        part[at].name.as_str(),
+                        &mut piece,
+                        least_large,
+                    );
+                    part[at].loaded = loaded;
+                }
             }
         },
     );
+}
+
+// Reads a large file, all workers together. What can't be read so stays unread.
+fn read_by_all<R: HostFiles + Threads>(
+    rt: &R,
+    alloc: Global,
+    left: &mut Foreseen,
+    workers: Workers,
+) {
+    if let Some(file) = rt.open_file(left.name.as_str()) {
+        if let Some(bytes) = read_large(rt, alloc, &file, workers) {
+            left.loaded = Some(Ok(bytes));
+        }
+    }
+}
+
+// The place of the first file that is unread, or behind the last.
+fn first_unread(files: &[Foreseen]) -> usize
+    ensures { result ≤ length files.now }
+{
+    for at in 0..files.len() {
+        if files[at].loaded.is_none() {
+            return at;
+        }
+    }
+    files.len()
+}
+
+// How many of the files are unread.
+fn count_unread(files: &[Foreseen]) -> usize {
+    let mut count: usize = 0;
+    for at in 0..files.len() {
+        if files[at].loaded.is_none() {
+            count = count.saturating_add(1);
+        }
+    }
+    count
+}
+
+// Reads the files that were left: one by all workers, and several each by one, since fresh memory comes to each thread by itself.
+fn read_left<R: HostFiles + Threads>(
+    rt: &R,
+    alloc: Global,
+    files: &mut [Foreseen],
+    workers: Workers,
+) {
+    let count = count_unread(files);
+    let first = first_unread(files);
+    if count > 1 {
+        read_rest(rt, alloc, &mut files[first..], workers, u64::MAX);
+    } else if first < files.len() {
+        read_by_all(rt, alloc, &mut files[first], workers);
+    }
+}
+
+// From how many bytes on a file is left to all workers.
+fn least_large(workers: Workers) -> u64 {
+    if workers.count() == 1 {
+        u64::MAX
+    } else {
+        LEAST_LARGE
+    }
 }
 
 impl Ahead {
@@ -125,8 +200,10 @@ impl Ahead {
             return ahead;
         };
         let files = ahead.files.as_mut_slice();
-        let first = read_first(rt, alloc, files);
-        read_rest(rt, alloc, &mut files[first..], workers);
+        let least_large = least_large(workers);
+        let first = read_first(rt, alloc, files, least_large);
+        read_rest(rt, alloc, &mut files[first..], workers, least_large);
+        read_left(rt, alloc, files, workers);
         ahead
     }
 }

@@ -16,14 +16,15 @@ use driver_lines::say_error;
 use driver_shelf::DriverShelf;
 use driver_words::{Answer, translate};
 use host_files::HostFiles;
-use host_outside::{FileShelf, Loaded, OutputSink, WordsFault, read_whole, words_of};
+use host_outside::{FileShelf, Loaded, OutputSink, WordsFault, read_shorter, words_of};
 use link_command::link_command;
 use manual::answer;
 use std::alloc::Global;
-use std::env;
+use std::fs::File;
 use std::process::ExitCode;
 use std::rt::Files;
 use std::thread::Threads;
+use std::{env, fs};
 use wl_base::{Seq, Text};
 use wl_outside::OpenGate;
 use words::{LONGEST_NAME, driver_name, line_of};
@@ -36,8 +37,18 @@ const DRIVER_FAULT: u8 = 1;
 
 // The runtime is named here, since what other threads call has to be known whole.
 impl HostFiles for HostRuntime {
-    fn read_file(&self, alloc: Global, name: &str, piece: &mut Vec<u8>) -> Loaded {
-        read_whole(self, alloc, name, piece)
+    fn read_shorter(
+        &self,
+        alloc: Global,
+        name: &str,
+        piece: &mut Vec<u8>,
+        least_left: u64,
+    ) -> Option<Loaded> {
+        read_shorter(self, alloc, name, piece, least_left)
+    }
+
+    fn open_file(&self, name: &str) -> Option<File> {
+        fs::open(self, name).ok()
     }
 }
 

@@ -1,5 +1,7 @@
-use Rattle.std.proofs.Common.{Err, ap, sym, subst, ◌∙◌}
+use Rattle.std.proofs.Common.{Err, Ok, Result, ap, sym, subst, ◌∙◌}
 use Rattle.std.proofs.lemmas.Result.{err_from_is_err_and}
+use Rattle.link_program.specs.wl_base.declared.layout_error.LayoutError.{LayoutError}
+use Rattle.link_program.specs.reloc_apply.declared.window.Patches.{Patches}
 use Rattle.link_program.specs.reloc_apply.Windows.{patched_on, Puts}
 use Rattle.link_layout.specs.Layout.{looked}
 use Rattle.link_layout.specs.Sources.{windows_of}
@@ -19,3 +21,4 @@ pub returns : goal.returns
 returns c =
     let ws = windows_of (looked c.args.layout) c.args.sources.now in
     put_alone ws c.push_sources.new.patches.patches (ap (λ ps. patched_on ps ws) (sym c.in_ok-patches.ensures) ∙ c.in_ok-push_sources.ensures)
+    ∙ ap (λ (p : Patches). let r : Result Patches LayoutError = Ok p in r) (sym c.in_ok-pieces.ensures)

@@ -11,10 +11,10 @@ use Rattle.link_numbers.proofs.Begun.{a_row_each, told_numbers, told_overflow, o
 use Rattle.link_numbers.proofs.giving.number.Goals as goal
 
 pub numbers_told-requires-clause-fits : goal.numbers_told-requires-clause-fits
-numbers_told-requires-clause-fits g c = let fits : Fits Plain c.args.entries = search rules in fits.objects
+numbers_told-requires-clause-fits g c κs within = let fits : Fits Plain c.args.entries = search rules in fits.objects
 
 pub numbers_told-requires-clause-rows : goal.numbers_told-requires-clause-rows
-numbers_told-requires-clause-rows g c =
+numbers_told-requires-clause-rows g c κs within =
     let fits : Fits Plain c.args.entries = search rules in
     let same : c.args.entries.names.now ≡ c.args.program.names.now = search rules in
     a_row_each c.args.entries c.args.program.names.now fits.objects same

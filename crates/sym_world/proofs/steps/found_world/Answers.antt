@@ -42,7 +42,7 @@ returns-in_err-chosen g c =
     rw (p.1) (choose_failed (program_in g.l) c.in_err-chosen.field-0.0 p.0 p.2 found c.in_err-chosen.ensures)
 
 pub placed_world-world-requires : goal.placed_world-world-requires
-placed_world-world-requires g c =
+placed_world-world-requires g c κs within =
     let is : IsLinking (program_in g.l) c.program-program.result c.view-entries.result c.args.files.now =
     found_is_linked g.l c.args.plan.now c.args.inputs.now.loaded c.objects-objects.result.now c.requires.1.1.1.1.1.0 c.requires.1.1.1.1.1.1.1.0 c.objects-objects.ensures c.args.files.now
     c.args.inputs.now.homes c.in_ok-found.found c.program-program.result c.view-entries.result c.requires.1.1.1.1.0 c.requires.1.1.1.1.1.1.0 c.requires.1.1.1.1.1.1.1.1 c.parts_stand.ensures c.in_ok-found.ensures.1
@@ -51,7 +51,7 @@ placed_world-world-requires g c =
     subst (λ es. IsChosen (stage_of (program_in g.l)) c.program-program.result es c.as_slice-live.result.now) (sym c.as_slice-exports.ensures)
     (subst (λ ns. IsChosen (stage_of (program_in g.l)) c.program-program.result c.in_ok-chosen.chosen.exports ns) (sym c.as_slice-live.ensures) c.in_ok-chosen.ensures.1) in
     let stage : IsStage (stage_of (program_in g.l)) = refl in
-    (is, (chosen, stage))
+    (search rules, (search rules, (is, (chosen, stage))))
 
 pub returns : goal.returns
 returns g c =

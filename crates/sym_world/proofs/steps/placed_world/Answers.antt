@@ -18,10 +18,10 @@ returns-in_err-placed g c =
     rw (p.1) (place_failed g.s.program g.s.exports g.s.parts c.in_err-placed.field-0.0 p.0 p.2 c.in_err-placed.ensures)
 
 pub number-requires : goal.number-requires
-number-requires g c =
+number-requires g c κs within =
     let is : IsLinking g.s.program c.args.program c.args.entries c.args.files.now = search rules in
     let chosen : IsChosen g.s c.args.program c.args.exports.now c.args.live.now = search rules in
-    (is.fits, (is.objects, (is.names, (is.program, (is.stand, (chosen.live, (chosen.meant, chosen.exports)))))))
+    (search rules, (search rules, (is.fits, (is.objects, (is.names, (is.program, (is.stand, (chosen.live, (chosen.meant, chosen.exports)))))))))
 
 pub returns-in_err-numbering : goal.returns-in_err-numbering
 returns-in_err-numbering g c =
