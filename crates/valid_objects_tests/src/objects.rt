@@ -66,9 +66,11 @@ fn fails<'a>(code: &'a [u8], relocs: &'a [u8]) -> Case<'a> {
 /// The bytes of the object.
 fn bytes_of(alloc: Global, case: &Case<'_>) -> Result<Seq<u8>, OutOfMemory> {
     let mut bytes = Seq::new(alloc);
-    for part in [before(), case.declared, case.code, behind(), case.relocs] {
-        bytes.extend_from_slice(part)?;
-    }
+    bytes.extend_from_slice(before())?;
+    bytes.extend_from_slice(case.declared)?;
+    bytes.extend_from_slice(case.code)?;
+    bytes.extend_from_slice(behind())?;
+    bytes.extend_from_slice(case.relocs)?;
     Ok(bytes)
 }
 
