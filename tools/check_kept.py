@@ -1,63 +1,45 @@
 #!/usr/bin/env python3
-"""Checks a crate over the libraries that `rt ci` kept on this machine: check_kept.py CRATE [--build] [FLAG..], at the top of a checkout.
+"""Checks a crate over the libraries that climbs kept on this machine: check_kept.py CRATE [--build] [FLAG..], at the top of a checkout.
 
-`rt check` builds all libraries below a crate anew. This takes those that an earlier `rt ci` proved, the newest of each name, and asks
-nothing more of them: it is for proving, and `rt ci` is the judge. A library that `rt ci` never saw, or that the variable OWN names
-(OWN=a,b), is taken from crates/NAME/out/built here, where --build leaves it. FLAGs are the compiler's: --only PATH, --allow-holes, --test,
+`rt check` builds all libraries below a crate anew. This takes those that an earlier climb (climb.py) proved: of the sources that stand here, or else the
+newest of that name. It asks nothing more of them: it is for proving, and `rt ci` is the judge. A library that was never kept, or that the variable OWN
+names (OWN=a,b), is taken from crates/NAME/out/built here, where --build leaves it. FLAGs are the compiler's: --only PATH, --allow-holes, --test,
 --jobs N, --empty-contracts.
 """
 
 import glob
-import json
 import os
-import shutil
 import subprocess
 import sys
 
 import build
+import climb
 
-STORE = f"{os.path.dirname(build.KIT)}/rattle-kept"
-LIBRARIES = f"{build.TOP}/out/kept"
 OWN = set(filter(None, os.environ.get("OWN", "").split(",")))
 
 
 def newest():
-    """The newest entry of each library in the store."""
+    """Where the library of each name lies that was kept last."""
     found = {}
-    for path in glob.glob(f"{STORE}/proof-*"):
-        name = os.path.basename(path)[len("proof-") :].rsplit("-", 1)[0]
+    for path in glob.glob(f"{climb.STORE}/proof-*"):
+        name = os.path.basename(path).split("-")[1]
         if name not in found or os.stat(path).st_mtime > os.stat(found[name]).st_mtime:
             found[name] = path
     return found
 
 
-def linked(source, place):
-    """A second name of a file, or on another file system a copy."""
-    try:
-        os.link(source, place)
-    except OSError:
-        shutil.copyfile(source, place)
-
-
-def laid_out(name, entry):
-    """Whether the entry holds a library, whose files then lie in LIBRARIES/NAME."""
-    with open(f"{entry}/made.json", encoding="utf-8") as file:
-        files = [(number, path) for number, (path, _) in enumerate(json.load(file)["files"]) if path.startswith("rlib/")]
-    to = f"{LIBRARIES}/{name}"
-    shutil.rmtree(to, ignore_errors=True)
-    for number, path in files:
-        place = f"{to}/{path[len('rlib/'):]}"
-        os.makedirs(os.path.dirname(place), exist_ok=True)
-        linked(f"{entry}/{number}", place)
-    return bool(files)
+def kept_folder(name, entries):
+    """Where a kept library lies: that of these sources, or else the newest."""
+    own = climb.kept_at("proof", name)
+    return f"{own if os.path.isdir(own) else entries[name]}/rlib"
 
 
 def folders_below(crate):
     """Where each library below the crate lies."""
     entries, found = newest(), {}
     for name in build.below(crate):
-        if name not in OWN and name in entries and laid_out(name, entries[name]):
-            found[name] = f"{LIBRARIES}/{name}"
+        if name not in OWN and name in entries:
+            found[name] = kept_folder(name, entries)
         else:
             found[name] = build.folder_of(name)
             if not os.path.exists(build.library(name)):

@@ -2,7 +2,7 @@
 """Checks functions of a crate over changed libraries that no one built: check_sources.py CRATE [FLAG..], at the top of a checkout.
 
 CHANGED=a,b names the changed crates. They and those above them are taken as sources, and of these what the named functions rest on is checked
-with them; all other libraries are those that `rt ci` kept on this machine, as in check_kept.py. So goals of a crate high up are seen before
+with them; all other libraries are those that climbs kept on this machine, as in check_kept.py. So goals of a crate high up are seen before
 any library below is proved: a first check has the definitions and lemmas below too, and out/sources/CRATE keeps them for the next.
 FLAGs are the compiler's: --only PATH, --allow-holes, --progress, --jobs N. Without --only all functions of the sources are checked.
 """
@@ -27,8 +27,8 @@ def words_for(crate):
     for name in build.below(crate):
         if is_source(name):
             sources.append(name)
-        elif name in entries and check_kept.laid_out(name, entries[name]):
-            folders[name] = f"{check_kept.LIBRARIES}/{name}"
+        elif name in entries:
+            folders[name] = check_kept.kept_folder(name, entries)
         else:
             sys.exit(f"{name} was never kept")
     named = dict.fromkeys(name for it in [crate, *sources] for name in ["std", *build.listed()[it]])

@@ -27,4 +27,5 @@ pub use laws::{
 pub use operand::Operand;
 pub use operands::{Operands, OperandsRef, Reference};
 pub use reading::windows;
+pub use reloc_section::{Reloc, RelocSection, kinds, relocs_at};
 pub use scanning::scan;

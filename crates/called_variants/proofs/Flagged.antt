@@ -6,18 +6,18 @@ use Rattle.std.proofs.lemmas.Bool.Decides.{nat_tests}
 use Rattle.std.proofs.lemmas.List.Folds.{list_any-append}
 use Rattle.std.proofs.lemmas.List.Sums.{fold-append}
 use Rattle.std.proofs.lemmas.Option.{slice_get_within, same_Some}
-use Rattle.link_program.specs.wl_base.Names.{number_of}
-use Rattle.link_program.specs.wasm_types.declared.function.FuncType.{FuncType}
-use Rattle.link_program.specs.name_rules.Entries.{InputSymbol, ImportKey, is_entry, name_of}
-use Rattle.link_program.specs.name_entries.View.{entry_number}
-use Rattle.link_program.specs.link_rules.Program as rules
-use Rattle.link_program.specs.link_rules.Program.{Program, Part, Ref, a_symbol, a_type, named_ref, refs}
-use Rattle.link_program.specs.link_rules.Marks.{refs_of}
-use Rattle.link_program.specs.declared.symbol.Symbol.{Symbol}
-use Rattle.link_program.specs.declared.named.Named.{Named}
-use Rattle.link_program.specs.declared.named.Named.TheVariants as windows
-use Rattle.link_program.specs.declared.program.Tables.{Tables}
-use Rattle.link_program.specs.Seen.{SeenNamed, seen_symbol, seen_type, seen_named, told_named}
+use Rattle.link_keys.specs.link_program.wl_base.Names.{number_of}
+use Rattle.link_keys.specs.link_program.wasm_types.declared.function.FuncType.{FuncType}
+use Rattle.link_keys.specs.link_program.name_rules.Entries.{InputSymbol, ImportKey, is_entry, name_of}
+use Rattle.link_keys.specs.link_program.name_entries.View.{entry_number}
+use Rattle.link_keys.specs.link_program.link_rules.Program as rules
+use Rattle.link_keys.specs.link_program.link_rules.Program.{Program, Part, Ref, a_symbol, a_type, named_ref, refs}
+use Rattle.link_keys.specs.link_program.link_rules.Marks.{refs_of}
+use Rattle.link_keys.specs.link_program.declared.symbol.Symbol.{Symbol}
+use Rattle.link_keys.specs.link_program.declared.named.Named.{Named}
+use Rattle.link_keys.specs.link_program.declared.named.Named.TheVariants as windows
+use Rattle.link_keys.specs.link_program.declared.program.Tables.{Tables}
+use Rattle.link_keys.specs.link_program.Seen.{SeenNamed, seen_symbol, seen_type, seen_named, told_named}
 use Rattle.link_keys.specs.Noted.{where_so, flagged, is_at}
 use Rattle.link_keys.proofs.Equals.{position_held, stands}
 use Rattle.link_keys.proofs.Flags.{flags_set}

@@ -1,17 +1,17 @@
 -- What is told of functions that are called by another type than their definition has, where a call names them so.
 use Rattle.std.specs.Prelude.{ℕ, Bool, true, false, ◌==◌, ◌&&◌, List, [], filter, Result, Ok, Err}
 use Rattle.std.specs.List.{list_any}
-use Rattle.link_program.specs.wl_base.Choice.{unless, ◌>>=◌}
-use Rattle.link_program.specs.wl_base.declared.fault.Fault.{Fault}
-use Rattle.link_program.specs.reloc_section.declared.kinds.TheConstants as relocs
-use Rattle.link_program.specs.made_symbols.declared.mode.Mode.{Mode}
-use Rattle.link_program.specs.round_rules.Rounds.{load}
-use Rattle.link_program.specs.name_rules.Entries.{is_entry, is_named}
-use Rattle.link_program.specs.link_plan.declared.plan.Plan.{Plan}
-use Rattle.link_program.specs.link_rules.Candidates.{Readers, candidates_of}
-use Rattle.link_program.specs.link_rules.Program.{Program, Ref, program_of, variant_name}
-use Rattle.link_program.specs.link_rules.Marks.{refs_of}
-use Rattle.link_program.specs.link_rules.LinkOf.{asked_names, the_readers, mode_of}
+use Rattle.link_keys.specs.link_program.wl_base.Choice.{unless, ◌>>=◌}
+use Rattle.link_keys.specs.link_program.wl_base.declared.fault.Fault.{Fault}
+use Rattle.link_keys.specs.link_program.reloc_section.declared.kinds.TheConstants as relocs
+use Rattle.link_keys.specs.link_program.made_symbols.declared.mode.Mode.{Mode}
+use Rattle.link_keys.specs.link_program.round_rules.Rounds.{load}
+use Rattle.link_keys.specs.link_program.name_rules.Entries.{is_entry, is_named}
+use Rattle.link_keys.specs.link_program.link_plan.declared.plan.Plan.{Plan}
+use Rattle.link_keys.specs.link_program.link_rules.Candidates.{Readers, candidates_of}
+use Rattle.link_keys.specs.link_program.link_rules.Program.{Program, Ref, program_of, variant_name}
+use Rattle.link_keys.specs.link_program.link_rules.Marks.{refs_of}
+use Rattle.link_keys.specs.link_program.link_rules.LinkOf.{asked_names, the_readers, mode_of}
 use Rattle.mismatch_rules.specs.declared.mismatch.Mismatch.{Mismatch}
 use Rattle.mismatch_rules.specs.Mismatches.{mismatches, standing}
 

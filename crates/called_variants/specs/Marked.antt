@@ -1,15 +1,15 @@
 -- The names that calls name, as the data show them.
 use Rattle.std.specs.Prelude.{◌≡◌, ℕ, ◌==◌, Bool, false, List, map, fold, replicate, slice_index_or, Option, Some, None}
 use Rattle.std.specs.List.{list_any}
-use Rattle.link_program.specs.wl_base.Names.{number_of}
-use Rattle.link_program.specs.name_rules.Entries.{ImportKey}
-use Rattle.link_program.specs.link_rules.Program.{Program}
-use Rattle.link_program.specs.link_rules.Marks.{refs_of}
-use Rattle.link_program.specs.declared.symbol.Symbol.{Symbol}
-use Rattle.link_program.specs.declared.named.Named.{Named}
-use Rattle.link_program.specs.declared.named.Named.TheVariants as names
-use Rattle.link_program.specs.declared.program.Tables.{Tables}
-use Rattle.link_program.specs.Seen.{no_symbol, seen_named, told_named}
+use Rattle.link_keys.specs.link_program.wl_base.Names.{number_of}
+use Rattle.link_keys.specs.link_program.name_rules.Entries.{ImportKey}
+use Rattle.link_keys.specs.link_program.link_rules.Program.{Program}
+use Rattle.link_keys.specs.link_program.link_rules.Marks.{refs_of}
+use Rattle.link_keys.specs.link_program.declared.symbol.Symbol.{Symbol}
+use Rattle.link_keys.specs.link_program.declared.named.Named.{Named}
+use Rattle.link_keys.specs.link_program.declared.named.Named.TheVariants as names
+use Rattle.link_keys.specs.link_program.declared.program.Tables.{Tables}
+use Rattle.link_keys.specs.link_program.Seen.{no_symbol, seen_named, told_named}
 use Rattle.link_keys.specs.Noted.{where_so, flagged}
 use Rattle.called_variants.specs.Called.{calls}
 

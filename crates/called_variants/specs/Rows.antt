@@ -1,19 +1,19 @@
 -- What is told of worked links.
 use Rattle.std.specs.Prelude.{◌≡◌, List, [], ◌∷◌, refl, codes}
-use Rattle.link_program.specs.wasm_types.declared.function.FuncType.{FuncType}
-use Rattle.link_program.specs.wasm_types.declared.value.ValType.TheVariants.{I32}
-use Rattle.link_program.specs.object_file.declared.object.Object.{Object}
-use Rattle.link_program.specs.made_symbols.declared.mode.Mode.TheVariants.{Plain}
-use Rattle.link_program.specs.round_rules.Rounds.{load}
-use Rattle.link_program.specs.name_rules.Entries.{entries}
-use Rattle.link_program.specs.name_rules.Meanings.{resolve}
-use Rattle.link_program.specs.name_rules.Cases.{clash, loose_clash, duplicate}
-use Rattle.link_program.specs.link_plan.declared.plan.Plan.{Plan}
-use Rattle.link_program.specs.link_rules.Candidates.{candidates_of}
-use Rattle.link_program.specs.link_rules.Program.{init_calls, parts_of, winners_of, program_of}
-use Rattle.link_program.specs.link_rules.LinkOf.{asked_names, too_many_names}
-use Rattle.link_program.specs.link_rules.Examples.{exporting, read_as, body_at, span, names, plain_type}
-use Rattle.link_program.specs.link_rules.NameRows.{otherwise, defining_g, like_lld}
+use Rattle.link_keys.specs.link_program.wasm_types.declared.function.FuncType.{FuncType}
+use Rattle.link_keys.specs.link_program.wasm_types.declared.value.ValType.TheVariants.{I32}
+use Rattle.link_keys.specs.link_program.object_file.declared.object.Object.{Object}
+use Rattle.link_keys.specs.link_program.made_symbols.declared.mode.Mode.TheVariants.{Plain}
+use Rattle.link_keys.specs.link_program.round_rules.Rounds.{load}
+use Rattle.link_keys.specs.link_program.name_rules.Entries.{entries}
+use Rattle.link_keys.specs.link_program.name_rules.Meanings.{resolve}
+use Rattle.link_keys.specs.link_program.name_rules.Cases.{clash, loose_clash, duplicate}
+use Rattle.link_keys.specs.link_program.link_plan.declared.plan.Plan.{Plan}
+use Rattle.link_keys.specs.link_program.link_rules.Candidates.{candidates_of}
+use Rattle.link_keys.specs.link_program.link_rules.Program.{init_calls, parts_of, winners_of, program_of}
+use Rattle.link_keys.specs.link_program.link_rules.LinkOf.{asked_names, too_many_names}
+use Rattle.link_keys.specs.link_program.link_rules.Examples.{exporting, read_as, body_at, span, names, plain_type}
+use Rattle.link_keys.specs.link_program.link_rules.NameRows.{otherwise, defining_g, like_lld}
 use Rattle.mismatch_rules.specs.declared.mismatch.Mismatch.{Mismatch}
 use Rattle.mismatch_rules.specs.Mismatches.{mismatches}
 use Rattle.called_variants.specs.Called.{calls_told, calls_told_by}

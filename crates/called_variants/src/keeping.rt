@@ -1,12 +1,12 @@
 //! Of what is told of calls by another type, what a call names.
 ghost use Rattle.std.specs.Prelude.{◌≡◌, ◌∷◌, ◌++◌, [], filter, IfOk, OnOk};
-ghost use Rattle.link_program.specs.link_rules.Program.{Program};
+ghost use Rattle.link_keys.specs.link_program.link_rules.Program.{Program};
 ghost use Rattle.called_variants.specs.Called.{is_called};
 ghost use Rattle.called_variants.specs.Marked.{AreMarks, NameThese};
 
 use crate::marks::marks_of;
 use crate::naming::variant_name;
-use link_program::{Names, Tables};
+use link_keys::{Names, Tables};
 use mismatch_rules::Mismatch;
 use std::alloc::Global;
 use wl_base::{OutOfMemory, Seq};

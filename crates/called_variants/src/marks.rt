@@ -3,7 +3,7 @@ ghost use Rattle.std.specs.Prelude.{◌≡◌, fold, IfOk};
 ghost use Rattle.link_keys.specs.Noted.{flagged};
 ghost use Rattle.called_variants.specs.Marked.{name_called, marking, marked};
 
-use link_program::{Named, Symbol, Tables, symbol_at};
+use link_keys::{Named, Symbol, Tables, symbol_at};
 use reloc_section::kinds;
 use std::alloc::Global;
 use wl_base::OutOfMemory;

@@ -1,7 +1,7 @@
 //! The names of variants, by types of one's own.
 ghost use Rattle.std.specs.Prelude.{◌≡◌, ◌∷◌, ◌++◌, map, OnOk, IfOk};
-ghost use Rattle.link_program.specs.wasm_types.Types.{val_byte};
-ghost use Rattle.link_program.specs.link_rules.Program.{variant_name};
+ghost use Rattle.link_keys.specs.link_program.wasm_types.Types.{val_byte};
+ghost use Rattle.link_keys.specs.link_program.link_rules.Program.{variant_name};
 
 use std::alloc::Global;
 use wasm_types::{FuncType, ValType};

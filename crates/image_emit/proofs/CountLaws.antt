@@ -2,7 +2,7 @@
 use Rattle.std.proofs.Common.{ℕ, ◌+◌, ◌≤◌, List, [], ◌∷◌, ◌++◌, length, sym, subst, arith}
 use Rattle.std.specs.Prelude.{flat_map}
 use Rattle.std.proofs.lemmas.List.{length-append}
-use Rattle.wasm_instr.specs.leb_codec.Shortest.{u32}
+use Rattle.wasm_module.specs.wasm_instr.leb_codec.Shortest.{u32}
 use Rattle.wasm_module.specs.declared.parts.Element.{Element}
 use Rattle.image_emit.specs.Bytes.{Tree, vector, sized, section, func_type, limits, table, import_entry, global, export, element_head, element, data_section, custom_section, header, bytes_of}
 use Rattle.image_emit.specs.Spelled.{entries, named_in_elements}

@@ -4,9 +4,9 @@ use Rattle.std.proofs.lemmas.List.{length-take-le, length-drop, drop-drop}
 use Rattle.std.proofs.Math.Seq.{take-length}
 use Rattle.std.specs.List.{All, list_all}
 use Rattle.std.specs.Prelude.{if◌then◌else◌, slice_range}
-use Rattle.wasm_instr.specs.wl_base.declared.span.Span.{Span}
-use Rattle.wasm_instr.specs.wl_base.declared.fault.What.TheVariants.{OutputLength}
-use Rattle.wasm_instr.specs.wl_base.declared.layout_error.LayoutError.TheVariants.{Overflow}
+use Rattle.wasm_module.specs.wasm_instr.wl_base.declared.span.Span.{Span}
+use Rattle.wasm_module.specs.wasm_instr.wl_base.declared.fault.What.TheVariants.{OutputLength}
+use Rattle.wasm_module.specs.wasm_instr.wl_base.declared.layout_error.LayoutError.TheVariants.{Overflow}
 use Rattle.wl_fan.specs.Slices.{Works}
 use Rattle.wl_fan.proofs.Whole.{whole}
 use Rattle.image_emit.specs.declared.tree.Image.{Image}

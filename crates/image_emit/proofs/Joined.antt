@@ -1,8 +1,8 @@
 -- The pieces are the bytes.
 use Rattle.std.proofs.Common.{◌≡◌, ◌+◌, ◌-◌, ℕ, List, [], ◌∷◌, ◌++◌, length, map, replicate, refl, sym, ap, ◌∙◌, append_assoc, rules, arith}
 use Rattle.std.specs.List.{flat_map}
-use Rattle.wasm_instr.specs.wasm_types.declared.const_expr.ConstExpr.{ConstExpr}
-use Rattle.wasm_instr.specs.leb_codec.Shortest.{u32}
+use Rattle.wasm_module.specs.wasm_instr.wasm_types.declared.const_expr.ConstExpr.{ConstExpr}
+use Rattle.wasm_module.specs.wasm_instr.leb_codec.Shortest.{u32}
 use Rattle.image_emit.specs.Bytes.{Tree, Block, section, sized, laid, data_bytes, data_section, bytes_of, const_expr}
 use Rattle.image_emit.specs.Pieces.{Piece, joined, body_piece, code_head, front, data_head, block_pieces, data_pieces, pieces, sections}
 

@@ -3,9 +3,9 @@ use Rattle.std.proofs.Common.{◌≡◌, ℕ, suc, ◌+◌, ◌-◌, ◌≤◌, 
 use Rattle.std.specs.Prelude.{if◌then◌else◌}
 use Rattle.std.proofs.lemmas.List.{length-replicate, length-map}
 use Rattle.std.specs.List.{flat_map}
-use Rattle.wasm_instr.specs.wl_base.declared.span.Span.{Span}
-use Rattle.wasm_instr.specs.wasm_types.declared.const_expr.ConstExpr.{ConstExpr}
-use Rattle.wasm_instr.specs.leb_codec.Shortest.{u32}
+use Rattle.wasm_module.specs.wasm_instr.wl_base.declared.span.Span.{Span}
+use Rattle.wasm_module.specs.wasm_instr.wasm_types.declared.const_expr.ConstExpr.{ConstExpr}
+use Rattle.wasm_module.specs.wasm_instr.leb_codec.Shortest.{u32}
 use Rattle.image_emit.specs.declared.tree.Image.{Image}
 use Rattle.image_emit.specs.declared.tree.Source.{Source}
 use Rattle.image_emit.specs.declared.tree.Source.TheVariants.{File, Own}

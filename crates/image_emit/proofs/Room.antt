@@ -6,7 +6,7 @@ use Rattle.image_emit.specs.Put.{capped}
 use Rattle.std.proofs.Math.ListN.{get_or}
 use Rattle.std.proofs.lemmas.List.Folds.{length-flat_map-take}
 use Rattle.std.specs.List.{flat_map}
-use Rattle.wasm_instr.specs.leb_codec.Shortest.{u32, shortest}
+use Rattle.wasm_module.specs.wasm_instr.leb_codec.Shortest.{u32, shortest}
 
 pub u32_is : (n : ℕ) → u32 n ≡ shortest 4 n
 unfolding u32

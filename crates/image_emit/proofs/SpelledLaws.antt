@@ -7,29 +7,29 @@ use Rattle.std.proofs.lemmas.List.{length-append, append-nil}
 use Rattle.std.proofs.lemmas.List.Concat.{flat_map-cons}
 use Rattle.std.proofs.lemmas.List.Elements.{All-head, All-tail}
 use Rattle.std.proofs.lemmas.Slice.Zip.{AllZip-long}
-use Rattle.wasm_instr.specs.leb_codec.Shortest.{shortest, u32, s32, s64}
-use Rattle.wasm_instr.proofs.leb_codec_lemmas.Computed.{u32_spells, s32_spelled, s64_spelled}
-use Rattle.wasm_instr.specs.wasm_grammar.Grammar.{SpellsU32, SpellsName, SpellsBytes, SpellsSized, SpellsMany, SpellsVector, Then}
-use Rattle.wasm_instr.specs.wasm_types.Types.{val_byte, ref_byte, var_byte, SpellsValType, SpellsFuncType, SpellsLimits, SpellsBounds, SpellsGlobalType, SpellsTableType, SpellsImport, SpellsImportKind, SpellsExpr}
-use Rattle.wasm_instr.specs.wasm_types.declared.value.ValType.{ValType}
-use Rattle.wasm_instr.specs.wasm_types.declared.function.FuncType.{FuncType}
-use Rattle.wasm_instr.specs.wasm_types.declared.table.GlobalType.{GlobalType}
-use Rattle.wasm_instr.specs.wasm_types.declared.table.Limits.{Limits}
-use Rattle.wasm_instr.specs.wasm_types.declared.table.TableType.{TableType}
-use Rattle.wasm_instr.specs.wasm_types.declared.import.Import.{Import}
-use Rattle.wasm_instr.specs.wasm_types.declared.import.ImportKind.{ImportKind}
-use Rattle.wasm_instr.specs.wasm_types.declared.import.ImportKind.TheVariants as kinds
-use Rattle.wasm_instr.specs.wasm_types.declared.const_expr.ConstExpr.{ConstExpr}
-use Rattle.wasm_instr.specs.wasm_types.declared.const_expr.ConstExpr.TheVariants as constants
-use Rattle.wasm_instr.specs.declared.body.Body.{Body}
-use Rattle.wasm_instr.specs.Bodies.{SpellsBody}
+use Rattle.wasm_module.specs.wasm_instr.leb_codec.Shortest.{shortest, u32, s32, s64}
+use Rattle.wasm_module.proofs.wasm_instr_lemmas.leb_codec_lemmas.Computed.{u32_spells, s32_spelled, s64_spelled}
+use Rattle.wasm_module.specs.wasm_instr.wasm_grammar.Grammar.{SpellsU32, SpellsName, SpellsBytes, SpellsSized, SpellsMany, SpellsVector, Then}
+use Rattle.wasm_module.specs.wasm_instr.wasm_types.Types.{val_byte, ref_byte, var_byte, SpellsValType, SpellsFuncType, SpellsLimits, SpellsBounds, SpellsGlobalType, SpellsTableType, SpellsImport, SpellsImportKind, SpellsExpr}
+use Rattle.wasm_module.specs.wasm_instr.wasm_types.declared.value.ValType.{ValType}
+use Rattle.wasm_module.specs.wasm_instr.wasm_types.declared.function.FuncType.{FuncType}
+use Rattle.wasm_module.specs.wasm_instr.wasm_types.declared.table.GlobalType.{GlobalType}
+use Rattle.wasm_module.specs.wasm_instr.wasm_types.declared.table.Limits.{Limits}
+use Rattle.wasm_module.specs.wasm_instr.wasm_types.declared.table.TableType.{TableType}
+use Rattle.wasm_module.specs.wasm_instr.wasm_types.declared.import.Import.{Import}
+use Rattle.wasm_module.specs.wasm_instr.wasm_types.declared.import.ImportKind.{ImportKind}
+use Rattle.wasm_module.specs.wasm_instr.wasm_types.declared.import.ImportKind.TheVariants as kinds
+use Rattle.wasm_module.specs.wasm_instr.wasm_types.declared.const_expr.ConstExpr.{ConstExpr}
+use Rattle.wasm_module.specs.wasm_instr.wasm_types.declared.const_expr.ConstExpr.TheVariants as constants
+use Rattle.wasm_module.specs.wasm_instr.declared.body.Body.{Body}
+use Rattle.wasm_module.specs.wasm_instr.Bodies.{SpellsBody}
 use Rattle.wasm_module.specs.declared.parts.Export.{Export}
 use Rattle.wasm_module.specs.declared.parts.ModuleGlobal.{ModuleGlobal}
 use Rattle.wasm_module.specs.declared.parts.Element.{Element}
 use Rattle.wasm_module.specs.declared.structure.Module.{Module}
 use Rattle.wasm_module.specs.Parts.{SpellsGlobal, SpellsExport, SpellsElement, SpellsFunctions, SpellsDataSegment}
 use Rattle.wasm_module.specs.Sections.{BeginsWithName, AreCustoms, SpellsSection, SpellsGiven}
-use Rattle.wasm_instr.specs.wasm_grammar.ReaderLaws.{ok_is}
+use Rattle.wasm_module.specs.wasm_instr.wasm_grammar.ReaderLaws.{ok_is}
 use Rattle.wasm_module.specs.ModuleReading.{module_of}
 use Rattle.wasm_module.proofs.ModuleLaws.{module_again}
 use Rattle.wasm_module.specs.Modules.{IsModule}

@@ -5,14 +5,14 @@ use Rattle.std.specs.Prelude.{⊤, None, Ok}
 use Rattle.std.specs.List.{AllZip}
 use Rattle.std.proofs.lemmas.List.{append-nil}
 use Rattle.std.proofs.lemmas.Slice.Zip.{AllZip-long}
-use Rattle.wasm_instr.specs.wasm_grammar.Grammar.{SpellsNothing, SpellsU32, SpellsBytes, SpellsSized, SpellsMany, SpellsVector, Then}
-use Rattle.wasm_instr.specs.wasm_grammar.Readers.{IsReader}
-use Rattle.wasm_instr.specs.wasm_grammar.Reading.{Read}
-use Rattle.wasm_instr.specs.wasm_grammar.ReaderLaws.{ok_is, u32_reader, bytes_reader, vector_reader}
-use Rattle.wasm_instr.specs.wasm_types.Types.{SpellsFuncType, SpellsImport, SpellsTableType, SpellsLimits}
-use Rattle.wasm_instr.specs.wasm_types.TypeLaws.{func_type_reader, import_reader, table_type_reader, limits_reader}
-use Rattle.wasm_instr.specs.declared.body.Body.{Body}
-use Rattle.wasm_instr.specs.Bodies.{SpellsBody}
+use Rattle.wasm_module.specs.wasm_instr.wasm_grammar.Grammar.{SpellsNothing, SpellsU32, SpellsBytes, SpellsSized, SpellsMany, SpellsVector, Then}
+use Rattle.wasm_module.specs.wasm_instr.wasm_grammar.Readers.{IsReader}
+use Rattle.wasm_module.specs.wasm_instr.wasm_grammar.Reading.{Read}
+use Rattle.wasm_module.specs.wasm_instr.wasm_grammar.ReaderLaws.{ok_is, u32_reader, bytes_reader, vector_reader}
+use Rattle.wasm_module.specs.wasm_instr.wasm_types.Types.{SpellsFuncType, SpellsImport, SpellsTableType, SpellsLimits}
+use Rattle.wasm_module.specs.wasm_instr.wasm_types.TypeLaws.{func_type_reader, import_reader, table_type_reader, limits_reader}
+use Rattle.wasm_module.specs.wasm_instr.declared.body.Body.{Body}
+use Rattle.wasm_module.specs.wasm_instr.Bodies.{SpellsBody}
 use Rattle.wasm_module.specs.declared.structure.Module.{Module}
 use Rattle.wasm_module.specs.Parts.{SpellsGlobal, SpellsExport, SpellsElement, SpellsDataSegment}
 use Rattle.wasm_module.specs.PartLaws.{global_reader, export_reader, element_reader, data_segment_reader}

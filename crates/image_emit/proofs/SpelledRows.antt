@@ -3,15 +3,15 @@ use Rattle.std.proofs.Common.{◌≡◌, ℕ, List, [], ◌∷◌, length, refl,
 use Rattle.std.specs.Prelude.{Ok, codes, pos, IsUtf8}
 use Rattle.std.proofs.lemmas.List.Elements.{All-nil, All-cons}
 use Rattle.std.proofs.lemmas.Str.{IsUtf8-from_ascii}
-use Rattle.wasm_instr.specs.leb_codec.Shortest.{u32}
-use Rattle.wasm_instr.specs.leb_codec.Reading.{number_at, end_of, end_within}
-use Rattle.wasm_instr.specs.wasm_grammar.Reading.{u32_at, s32_at}
-use Rattle.wasm_instr.specs.declared.body.Body.{Body}
-use Rattle.wasm_instr.specs.declared.instr.Instr.TheVariants.{Plain, Call, I32Const}
-use Rattle.wasm_instr.specs.Classes.{class_of}
-use Rattle.wasm_instr.specs.Reading.{instr_at}
-use Rattle.wasm_instr.specs.Bodies.{runs_at, locals_at, code_at, body_at}
-use Rattle.wasm_instr.specs.BodyLaws.{body_found}
+use Rattle.wasm_module.specs.wasm_instr.leb_codec.Shortest.{u32}
+use Rattle.wasm_module.specs.wasm_instr.leb_codec.Reading.{number_at, end_of, end_within}
+use Rattle.wasm_module.specs.wasm_instr.wasm_grammar.Reading.{u32_at, s32_at}
+use Rattle.wasm_module.specs.wasm_instr.declared.body.Body.{Body}
+use Rattle.wasm_module.specs.wasm_instr.declared.instr.Instr.TheVariants.{Plain, Call, I32Const}
+use Rattle.wasm_module.specs.wasm_instr.Classes.{class_of}
+use Rattle.wasm_module.specs.wasm_instr.Reading.{instr_at}
+use Rattle.wasm_module.specs.wasm_instr.Bodies.{runs_at, locals_at, code_at, body_at}
+use Rattle.wasm_module.specs.wasm_instr.BodyLaws.{body_found}
 use Rattle.wasm_module.specs.declared.structure.Module.{Module}
 use Rattle.image_emit.specs.Bytes.{bytes_of}
 use Rattle.image_emit.specs.Rows.{call_tree, call_bytes}

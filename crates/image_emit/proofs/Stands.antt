@@ -1,8 +1,8 @@
 -- Each source stands at its place.
 use Rattle.std.proofs.Common.{◌≡◌, ℕ, zero, suc, ◌+◌, ◌<◌, ◌==◌, List, [], ◌∷◌, ◌++◌, length, map, take, drop, slice_index_or, false, refl, sym, ap, ◌∙◌, subst, arith, rules, append_assoc, length-append, Option, Some, None}
 use Rattle.std.specs.Prelude.{if◌then◌else◌}
-use Rattle.wasm_instr.specs.leb_codec.Shortest.{u32}
-use Rattle.wasm_instr.specs.wl_base.declared.span.Span.{Span}
+use Rattle.wasm_module.specs.wasm_instr.leb_codec.Shortest.{u32}
+use Rattle.wasm_module.specs.wasm_instr.wl_base.declared.span.Span.{Span}
 use Rattle.image_emit.specs.Bytes.{Tree, Block, bytes_of, vector, sized, section, data_section}
 use Rattle.image_emit.specs.Pieces.{Piece, joined, body_piece, block_pieces, data_pieces, pieces, front, sections, code_place, places, source_places, sources}
 use Rattle.image_emit.proofs.Joined.{pieces_are_bytes}

@@ -1,19 +1,19 @@
 -- The bytes of a module, by the binary format of the Core Specification 2.0 (chapter 5), whose sections are named here.
 -- Every number that stands in the module's own structure has its shortest spelling, which Core 5.2.2 leaves open.
 use Rattle.std.specs.Prelude.{ℕ, ◌+◌, ◌-◌, List, [], ◌∷◌, ◌++◌, length, map, take, drop, replicate, slice_index_or, ◌==◌, Bool, flat_map, if◌then◌else◌, Option, Some, None}
-use Rattle.wasm_instr.specs.leb_codec.Shortest.{u32, s32, s64}
-use Rattle.wasm_instr.specs.wl_base.declared.span.FileSpan.{FileSpan}
-use Rattle.wasm_instr.specs.wasm_types.Types.{val_byte}
-use Rattle.wasm_instr.specs.wasm_types.declared.value.ValType.{ValType}
-use Rattle.wasm_instr.specs.wasm_types.declared.function.FuncType.{FuncType}
-use Rattle.wasm_instr.specs.wasm_types.declared.table.GlobalType.{GlobalType}
-use Rattle.wasm_instr.specs.wasm_types.declared.table.Limits.{Limits}
-use Rattle.wasm_instr.specs.wasm_types.declared.table.TableType.{TableType}
-use Rattle.wasm_instr.specs.wasm_types.declared.import.Import.{Import}
-use Rattle.wasm_instr.specs.wasm_types.declared.import.ImportKind.{ImportKind}
-use Rattle.wasm_instr.specs.wasm_types.declared.import.ImportKind.TheVariants as kinds
-use Rattle.wasm_instr.specs.wasm_types.declared.const_expr.ConstExpr.{ConstExpr}
-use Rattle.wasm_instr.specs.wasm_types.declared.const_expr.ConstExpr.TheVariants as constants
+use Rattle.wasm_module.specs.wasm_instr.leb_codec.Shortest.{u32, s32, s64}
+use Rattle.wasm_module.specs.wasm_instr.wl_base.declared.span.FileSpan.{FileSpan}
+use Rattle.wasm_module.specs.wasm_instr.wasm_types.Types.{val_byte}
+use Rattle.wasm_module.specs.wasm_instr.wasm_types.declared.value.ValType.{ValType}
+use Rattle.wasm_module.specs.wasm_instr.wasm_types.declared.function.FuncType.{FuncType}
+use Rattle.wasm_module.specs.wasm_instr.wasm_types.declared.table.GlobalType.{GlobalType}
+use Rattle.wasm_module.specs.wasm_instr.wasm_types.declared.table.Limits.{Limits}
+use Rattle.wasm_module.specs.wasm_instr.wasm_types.declared.table.TableType.{TableType}
+use Rattle.wasm_module.specs.wasm_instr.wasm_types.declared.import.Import.{Import}
+use Rattle.wasm_module.specs.wasm_instr.wasm_types.declared.import.ImportKind.{ImportKind}
+use Rattle.wasm_module.specs.wasm_instr.wasm_types.declared.import.ImportKind.TheVariants as kinds
+use Rattle.wasm_module.specs.wasm_instr.wasm_types.declared.const_expr.ConstExpr.{ConstExpr}
+use Rattle.wasm_module.specs.wasm_instr.wasm_types.declared.const_expr.ConstExpr.TheVariants as constants
 use Rattle.wasm_module.specs.declared.parts.Export.{Export}
 use Rattle.wasm_module.specs.declared.parts.ModuleGlobal.{ModuleGlobal}
 use Rattle.wasm_module.specs.declared.parts.Element.{Element}

@@ -1,9 +1,9 @@
 -- How long an image is, and where its sources stand.
 use Rattle.std.specs.Prelude.{ℕ, ◌+◌, ◌-◌, ◌^◌, ◌≤◌, nat_lt, nat_le, Bool, true, ◌&&◌, min, pos, All, List, [], length, map, replicate, slice_index_or, if◌then◌else◌, Option, Result, Ok, Err}
-use Rattle.wasm_instr.specs.wl_base.declared.span.Span.{Span}
-use Rattle.wasm_instr.specs.wl_base.declared.fault.What.TheVariants.{OutputLength}
-use Rattle.wasm_instr.specs.wl_base.declared.layout_error.LayoutError.{LayoutError}
-use Rattle.wasm_instr.specs.wl_base.declared.layout_error.LayoutError.TheVariants.{Overflow}
+use Rattle.wasm_module.specs.wasm_instr.wl_base.declared.span.Span.{Span}
+use Rattle.wasm_module.specs.wasm_instr.wl_base.declared.fault.What.TheVariants.{OutputLength}
+use Rattle.wasm_module.specs.wasm_instr.wl_base.declared.layout_error.LayoutError.{LayoutError}
+use Rattle.wasm_module.specs.wasm_instr.wl_base.declared.layout_error.LayoutError.TheVariants.{Overflow}
 use Rattle.image_emit.specs.declared.tree.Image.{Image}
 use Rattle.image_emit.specs.declared.tree.Source.{Source}
 use Rattle.image_emit.specs.declared.tree.Source.TheVariants.{File, Own}

@@ -1,6 +1,6 @@
 -- How the bytes of a module are cut into parts: between pieces, by bytes.
 use Rattle.std.specs.Prelude.{◌≡◌, map, flat_map, ℕ, suc, ◌+◌, ◌-◌, ◌*◌, ◌/◌, ◌==◌, ◌≤◌, ◌<◌, nat_le, nat_lt, min, max, List, [], ◌∷◌, ◌++◌, length, take, replicate, slice_index_or, if◌then◌else◌}
-use Rattle.wasm_instr.specs.wasm_types.declared.const_expr.ConstExpr.{ConstExpr}
+use Rattle.wasm_module.specs.wasm_instr.wasm_types.declared.const_expr.ConstExpr.{ConstExpr}
 use Rattle.image_emit.specs.declared.tree.Image.{Image}
 use Rattle.image_emit.specs.Sizes.{bodies_len, data_len}
 use Rattle.image_emit.specs.Bytes.{Tree, Block, bytes_of, data_bytes, sized, source_bytes, block_of}

@@ -1,8 +1,8 @@
 -- The bytes of a module as pieces: what stands before the first source, and then each source behind what leads to it.
 use Rattle.std.specs.Prelude.{ℕ, ◌+◌, ◌-◌, ◌==◌, List, [], ◌∷◌, ◌++◌, length, map, replicate, if◌then◌else◌, Option, Some, None}
-use Rattle.wasm_instr.specs.leb_codec.Shortest.{u32}
-use Rattle.wasm_instr.specs.wl_base.declared.span.Span.{Span}
-use Rattle.wasm_instr.specs.wasm_types.declared.const_expr.ConstExpr.{ConstExpr}
+use Rattle.wasm_module.specs.wasm_instr.leb_codec.Shortest.{u32}
+use Rattle.wasm_module.specs.wasm_instr.wl_base.declared.span.Span.{Span}
+use Rattle.wasm_module.specs.wasm_instr.wasm_types.declared.const_expr.ConstExpr.{ConstExpr}
 use Rattle.image_emit.specs.Bytes.{Tree, Block, header, custom_section, section, func_type, import_entry, table, limits, global, export, element, sized, vector, const_expr, data_bytes}
 
 -- A source, which is a body or a block of data, behind what leads to it.

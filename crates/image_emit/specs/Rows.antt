@@ -1,9 +1,9 @@
 -- Worked modules. The bytes are taken from the Core Specification by hand.
 use Rattle.std.specs.Prelude.{◌≡◌, ℕ, List, [], ◌∷◌, None, Some, codes, pos, negsuc, refl, true, false}
-use Rattle.wasm_instr.specs.leb_codec.Shortest.{u32, s32, s64}
-use Rattle.wasm_instr.specs.wasm_types.declared.value.ValType.TheVariants.{I32, I64, F32, F64}
-use Rattle.wasm_instr.specs.wasm_types.declared.import.ImportKind.TheVariants as kinds
-use Rattle.wasm_instr.specs.wasm_types.declared.const_expr.ConstExpr.TheVariants as constants
+use Rattle.wasm_module.specs.wasm_instr.leb_codec.Shortest.{u32, s32, s64}
+use Rattle.wasm_module.specs.wasm_instr.wasm_types.declared.value.ValType.TheVariants.{I32, I64, F32, F64}
+use Rattle.wasm_module.specs.wasm_instr.wasm_types.declared.import.ImportKind.TheVariants as kinds
+use Rattle.wasm_module.specs.wasm_instr.wasm_types.declared.const_expr.ConstExpr.TheVariants as constants
 use Rattle.image_emit.specs.Bytes.{Tree, bytes_of}
 use Rattle.image_emit.specs.Pieces.{code_place}
 

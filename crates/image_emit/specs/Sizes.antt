@@ -1,8 +1,8 @@
 -- How long the parts of an image are, whatever its files hold.
 use Rattle.std.specs.Prelude.{ℕ, ◌+◌, ◌-◌, ◌==◌, List, [], ◌∷◌, ◌++◌, length, if◌then◌else◌, Option, Some, None}
-use Rattle.wasm_instr.specs.leb_codec.Shortest.{u32}
-use Rattle.wasm_instr.specs.wl_base.declared.span.Span.{Span}
-use Rattle.wasm_instr.specs.wasm_types.declared.const_expr.ConstExpr.{ConstExpr}
+use Rattle.wasm_module.specs.wasm_instr.leb_codec.Shortest.{u32}
+use Rattle.wasm_module.specs.wasm_instr.wl_base.declared.span.Span.{Span}
+use Rattle.wasm_module.specs.wasm_instr.wasm_types.declared.const_expr.ConstExpr.{ConstExpr}
 use Rattle.image_emit.specs.Bytes.{const_expr, tree_of}
 use Rattle.image_emit.specs.Pieces.{sections}
 use Rattle.image_emit.specs.declared.tree.Image.{Image}

@@ -1,16 +1,16 @@
 -- No spelling is empty.
 use Rattle.std.proofs.Common.{◌<◌, ◌+◌, ℕ, List, [], ◌∷◌, ◌++◌, length, arith, length-append, nat_lt, Bool, true, false, cond, Option, Some, None, ◌%◌, ◌/◌}
-use Rattle.wasm_instr.specs.leb_codec.Shortest.{u32, shortest}
-use Rattle.wasm_instr.specs.wasm_types.declared.value.ValType.{ValType}
-use Rattle.wasm_instr.specs.wasm_types.declared.function.FuncType.{FuncType}
-use Rattle.wasm_instr.specs.wasm_types.declared.table.Limits.{Limits}
-use Rattle.wasm_instr.specs.wasm_types.declared.table.GlobalType.{GlobalType}
-use Rattle.wasm_instr.specs.wasm_types.declared.table.TableType.{TableType}
-use Rattle.wasm_instr.specs.wasm_types.declared.import.Import.{Import}
-use Rattle.wasm_instr.specs.wasm_types.declared.import.ImportKind.{ImportKind}
-use Rattle.wasm_instr.specs.wasm_types.declared.import.ImportKind.TheVariants as kinds
-use Rattle.wasm_instr.specs.wasm_types.declared.const_expr.ConstExpr.{ConstExpr}
-use Rattle.wasm_instr.specs.wasm_types.declared.const_expr.ConstExpr.TheVariants as constants
+use Rattle.wasm_module.specs.wasm_instr.leb_codec.Shortest.{u32, shortest}
+use Rattle.wasm_module.specs.wasm_instr.wasm_types.declared.value.ValType.{ValType}
+use Rattle.wasm_module.specs.wasm_instr.wasm_types.declared.function.FuncType.{FuncType}
+use Rattle.wasm_module.specs.wasm_instr.wasm_types.declared.table.Limits.{Limits}
+use Rattle.wasm_module.specs.wasm_instr.wasm_types.declared.table.GlobalType.{GlobalType}
+use Rattle.wasm_module.specs.wasm_instr.wasm_types.declared.table.TableType.{TableType}
+use Rattle.wasm_module.specs.wasm_instr.wasm_types.declared.import.Import.{Import}
+use Rattle.wasm_module.specs.wasm_instr.wasm_types.declared.import.ImportKind.{ImportKind}
+use Rattle.wasm_module.specs.wasm_instr.wasm_types.declared.import.ImportKind.TheVariants as kinds
+use Rattle.wasm_module.specs.wasm_instr.wasm_types.declared.const_expr.ConstExpr.{ConstExpr}
+use Rattle.wasm_module.specs.wasm_instr.wasm_types.declared.const_expr.ConstExpr.TheVariants as constants
 use Rattle.wasm_module.specs.declared.parts.Export.{Export}
 use Rattle.wasm_module.specs.declared.parts.ModuleGlobal.{ModuleGlobal}
 use Rattle.wasm_module.specs.declared.parts.Element.{Element}

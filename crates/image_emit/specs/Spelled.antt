@@ -2,15 +2,15 @@
 -- 5, whose sections are named here).
 use Rattle.std.specs.Prelude.{◌≡◌, ℕ, ◌+◌, ◌<◌, ◌≤◌, ◌^◌, pos, neg_ℤ, ◌≤ℤ◌, ◌<ℤ◌, List, [], ◌∷◌, length, None, IfSome, All, IsUtf8, flat_map}
 use Rattle.std.specs.List.{AllZip}
-use Rattle.wasm_instr.specs.wasm_types.declared.table.Limits.{Limits}
-use Rattle.wasm_instr.specs.wasm_types.declared.table.TableType.{TableType}
-use Rattle.wasm_instr.specs.wasm_types.declared.import.Import.{Import}
-use Rattle.wasm_instr.specs.wasm_types.declared.import.ImportKind.{ImportKind}
-use Rattle.wasm_instr.specs.wasm_types.declared.import.ImportKind.TheVariants as kinds
-use Rattle.wasm_instr.specs.wasm_types.declared.const_expr.ConstExpr.{ConstExpr}
-use Rattle.wasm_instr.specs.wasm_types.declared.const_expr.ConstExpr.TheVariants as constants
-use Rattle.wasm_instr.specs.declared.body.Body.{Body}
-use Rattle.wasm_instr.specs.Bodies.{SpellsBody}
+use Rattle.wasm_module.specs.wasm_instr.wasm_types.declared.table.Limits.{Limits}
+use Rattle.wasm_module.specs.wasm_instr.wasm_types.declared.table.TableType.{TableType}
+use Rattle.wasm_module.specs.wasm_instr.wasm_types.declared.import.Import.{Import}
+use Rattle.wasm_module.specs.wasm_instr.wasm_types.declared.import.ImportKind.{ImportKind}
+use Rattle.wasm_module.specs.wasm_instr.wasm_types.declared.import.ImportKind.TheVariants as kinds
+use Rattle.wasm_module.specs.wasm_instr.wasm_types.declared.const_expr.ConstExpr.{ConstExpr}
+use Rattle.wasm_module.specs.wasm_instr.wasm_types.declared.const_expr.ConstExpr.TheVariants as constants
+use Rattle.wasm_module.specs.wasm_instr.declared.body.Body.{Body}
+use Rattle.wasm_module.specs.wasm_instr.Bodies.{SpellsBody}
 use Rattle.wasm_module.specs.declared.parts.Export.{Export}
 use Rattle.wasm_module.specs.declared.parts.ModuleGlobal.{ModuleGlobal}
 use Rattle.wasm_module.specs.declared.parts.Element.{Element}

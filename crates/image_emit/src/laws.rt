@@ -3,7 +3,7 @@ ghost use Rattle.std.specs.Prelude.{◌≡◌, ◌≤◌, ◌↔◌, [], length,
 ghost use Rattle.wasm_module.specs.declared.structure.Module.{Module};
 ghost use Rattle.wasm_module.specs.Modules.{IsModule};
 ghost use Rattle.wasm_module.specs.ModuleReading.{module_of};
-ghost use Rattle.wasm_instr.specs.wl_base.declared.span.Span.{Span as Place};
+ghost use Rattle.wasm_module.specs.wasm_instr.wl_base.declared.span.Span.{Span as Place};
 ghost use Rattle.image_emit.specs.Bytes.{Tree, bytes_of, sized, vector};
 ghost use Rattle.image_emit.specs.Pieces.{code_place};
 ghost use Rattle.image_emit.specs.Rows.{call_tree};

@@ -1,6 +1,6 @@
 //! How long an image is.
 ghost use Rattle.std.specs.Prelude.{◌≡◌, ◌+◌, ◌<◌, ◌≤◌, ◌^◌, ◌++◌, [], length, OnOk, IfOk};
-ghost use Rattle.wasm_instr.specs.wl_base.Answers.{Answers};
+ghost use Rattle.wasm_module.specs.wasm_instr.wl_base.Answers.{Answers};
 ghost use Rattle.image_emit.specs.Bytes.{tree_of};
 ghost use Rattle.image_emit.specs.Measures.{image_measure};
 ghost use Rattle.image_emit.specs.Pieces.{sections};

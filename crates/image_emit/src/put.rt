@@ -1,6 +1,6 @@
 //! What can be written into a slice, from left to right.
 ghost use Rattle.std.specs.Prelude.{◌≡◌, ◌+◌, ◌<◌, ◌≤◌, ◌^◌, ◌∷◌, [], List, ℕ, length};
-ghost use Rattle.wasm_instr.specs.leb_codec.Shortest.{u32 as shortest_u32};
+ghost use Rattle.wasm_module.specs.wasm_instr.leb_codec.Shortest.{u32 as shortest_u32};
 ghost use Rattle.image_emit.specs.Bytes.{vector, sized};
 ghost use Rattle.image_emit.specs.Put.{IsPut, HasRoom, capped};
 

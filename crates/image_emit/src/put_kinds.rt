@@ -10,7 +10,7 @@ use wasm_module::{Element, Export, ModuleGlobal};
 use wasm_types::{ConstExpr, FuncType, GlobalType, Import, ImportKind, Limits, TableType, ValType};
 
 impl Put for u32 {
-    ghost use Rattle.wasm_instr.specs.leb_codec.Shortest.{u32 as shortest_u32};
+    ghost use Rattle.wasm_module.specs.wasm_instr.leb_codec.Shortest.{u32 as shortest_u32};
     ghost use Rattle.image_emit.specs.Some.{u32_some};
 
     ghost spelled = { shortest_u32 };

@@ -3,7 +3,7 @@ use Rattle.std.proofs.Common.{◌≡◌, ◌⊎◌, inl, inr, ℕ, List, Option,
 use Rattle.wl_outside.specs.Shelf.{Shown, Same, SameBut, Grows, Torn, SaveFailed}
 use Rattle.link_plan.specs.declared.plan.Plan.{Plan}
 use Rattle.link_rules.specs.LinkOf.{link_of}
-use Rattle.link_runs.specs.Links.{Runs}
+use Rattle.link_core.specs.link_runs.Links.{Runs}
 use Rattle.link_command.specs.declared.status.Status.{Status}
 use Rattle.link_command.specs.declared.status.Status.TheVariants.{Linked, WriteFault}
 use Rattle.link_command.specs.Command.{Shows, IsTold, Saved, SavedRuns, Cut, files_of}

@@ -6,7 +6,7 @@ use Rattle.wl_outside.specs.Shelf.{Shown, Same, SameBut, Holds, Torn, LoadFailed
 use Rattle.link_plan.specs.declared.plan.Plan.{Plan}
 use Rattle.link_words.specs.Words.{plan_of, word}
 use Rattle.link_rules.specs.LinkOf.{link_of}
-use Rattle.link_runs.specs.Links.{Runs}
+use Rattle.link_core.specs.link_runs.Links.{Runs}
 use Rattle.case_objects.specs.Objects.{objects}
 use Rattle.link_command.specs.declared.status.Status.{Status}
 use Rattle.link_command.specs.declared.status.Status.TheVariants.{Linked, Refused, Usage, ReadFault, WriteFault, NoMemory}

@@ -2,7 +2,7 @@
 ghost use Rattle.std.specs.Prelude.{◌≡◌, ◌<◌, ◌^◌, IfSome, length, unwrap_or};
 ghost use Rattle.wl_outside.specs.Shelf.{Same, Grows};
 ghost use Rattle.link_plan.specs.Plan.{IsPlan};
-ghost use Rattle.called_variants.specs.Called.{calls_told_of};
+ghost use Rattle.link_core.specs.called_variants.Called.{calls_told_of};
 ghost use Rattle.link_command.specs.Telling.{WouldTell};
 
 use crate::command::read_plan;

@@ -2,44 +2,44 @@
 use Rattle.std.proofs.Common.{◌≡◌, ℕ, List, length, refl, sym, ap, ◌∙◌, subst, Option, Some, None, Result, Ok, Err, ℤ, pos, All, Contains}
 use Rattle.std.proofs.lemmas.List.Elements.{All-filter, All-contains_itself}
 use Rattle.std.specs.Prelude.{option_map}
-use Rattle.link_program.specs.wl_base.declared.fault.Fault.{Fault}
-use Rattle.link_program.specs.wl_base.declared.fault.Fault.TheVariants.{Overflow}
-use Rattle.link_program.specs.wl_base.declared.fault.What.TheVariants.{TableSize}
-use Rattle.link_program.specs.wl_base.declared.layout_error.LayoutError.{LayoutError}
-use Rattle.link_program.specs.wl_base.declared.layout_error.LayoutError.TheVariants as layouts
-use Rattle.link_program.specs.object_file.declared.object.Object.{Object}
-use Rattle.link_program.specs.made_symbols.declared.mode.Mode.TheVariants.{Plain}
-use Rattle.link_program.specs.round_rules.Rounds.{Candidate, load}
-use Rattle.link_program.specs.memory_layout.Memory.{memory_overflow}
-use Rattle.link_program.specs.table_layout.Slots.{table_overflow}
-use Rattle.link_program.specs.reloc_apply.declared.window.Window.{Window}
-use Rattle.link_program.specs.image_emit.declared.tree.Image.{Image}
-use Rattle.link_program.specs.image_emit.declared.measuring.Measured.{Measured}
-use Rattle.link_program.specs.image_emit.Bytes.{bytes_of, tree_of}
-use Rattle.link_program.specs.link_plan.declared.plan.Plan.{Plan}
-use Rattle.link_program.specs.name_rules.Entries.{InputSymbol}
-use Rattle.link_program.specs.link_rules.Candidates.{candidates_of}
-use Rattle.link_program.specs.link_rules.Program.{Program, Part, program_of}
-use Rattle.link_program.specs.link_rules.Marks.{exported, is_exported_by, repeated_export, live, unresolved, uncalled}
-use Rattle.link_program.specs.link_rules.Keys.{numbers}
-use Rattle.link_program.specs.link_rules.Values.{rules_of, shapes}
-use Rattle.link_program.specs.link_rules.Output.{layout, image, source_windows}
-use Rattle.link_program.specs.link_rules.LinkOf.{asked_names, the_readers, exporting, marked, laid_out, written, length_fault, link_program, link_of}
-use Rattle.link_inputs.specs.Inputs.{loaded_of}
+use Rattle.link_output.specs.link_program.wl_base.declared.fault.Fault.{Fault}
+use Rattle.link_output.specs.link_program.wl_base.declared.fault.Fault.TheVariants.{Overflow}
+use Rattle.link_output.specs.link_program.wl_base.declared.fault.What.TheVariants.{TableSize}
+use Rattle.link_output.specs.link_program.wl_base.declared.layout_error.LayoutError.{LayoutError}
+use Rattle.link_output.specs.link_program.wl_base.declared.layout_error.LayoutError.TheVariants as layouts
+use Rattle.link_output.specs.link_program.object_file.declared.object.Object.{Object}
+use Rattle.link_output.specs.link_program.made_symbols.declared.mode.Mode.TheVariants.{Plain}
+use Rattle.link_output.specs.link_program.round_rules.Rounds.{Candidate, load}
+use Rattle.link_output.specs.link_program.memory_layout.Memory.{memory_overflow}
+use Rattle.link_output.specs.link_program.table_layout.Slots.{table_overflow}
+use Rattle.link_output.specs.link_program.reloc_apply.declared.window.Window.{Window}
+use Rattle.link_output.specs.link_program.image_emit.declared.tree.Image.{Image}
+use Rattle.link_output.specs.link_program.image_emit.declared.measuring.Measured.{Measured}
+use Rattle.link_output.specs.link_program.image_emit.Bytes.{bytes_of, tree_of}
+use Rattle.link_output.specs.link_program.link_plan.declared.plan.Plan.{Plan}
+use Rattle.link_output.specs.link_program.name_rules.Entries.{InputSymbol}
+use Rattle.link_output.specs.link_program.link_rules.Candidates.{candidates_of}
+use Rattle.link_output.specs.link_program.link_rules.Program.{Program, Part, program_of}
+use Rattle.link_output.specs.link_program.link_rules.Marks.{exported, is_exported_by, repeated_export, live, unresolved, uncalled}
+use Rattle.link_output.specs.link_program.link_rules.Keys.{numbers}
+use Rattle.link_output.specs.link_program.link_rules.Values.{rules_of, shapes}
+use Rattle.link_output.specs.link_program.link_rules.Output.{layout, image, source_windows}
+use Rattle.link_output.specs.link_program.link_rules.LinkOf.{asked_names, the_readers, exporting, marked, laid_out, written, length_fault, link_program, link_of}
+use Rattle.link_runs.specs.link_inputs.Inputs.{loaded_of}
 use Rattle.program_build.specs.Found.{Finds, found_of}
-use Rattle.link_layout.specs.Placed.{AnswersPlaced, IsPlaced}
-use Rattle.link_numbers.specs.Numbered.{TellsOverflow, IsNumbering}
-use Rattle.link_program.specs.image_emit.Measures.{LieIn}
-use Rattle.link_program.specs.image_emit.Pieces.{sources}
-use Rattle.link_program.specs.Live.{AreLive, AllMeant}
-use Rattle.link_program.specs.Program.{IsProgram}
-use Rattle.link_program.specs.Stand.{PartsStand}
-use Rattle.link_layout.specs.Layout.{IsLayout}
-use Rattle.link_layout.specs.declared.values.Layout.{Layout as LayoutData}
+use Rattle.link_image.specs.link_layout.Placed.{AnswersPlaced, IsPlaced}
+use Rattle.link_image.specs.link_numbers.Numbered.{TellsOverflow, IsNumbering}
+use Rattle.link_output.specs.link_program.image_emit.Measures.{LieIn}
+use Rattle.link_output.specs.link_program.image_emit.Pieces.{sources}
+use Rattle.link_output.specs.link_program.Live.{AreLive, AllMeant}
+use Rattle.link_output.specs.link_program.Program.{IsProgram}
+use Rattle.link_output.specs.link_program.Stand.{PartsStand}
+use Rattle.link_image.specs.link_layout.Layout.{IsLayout}
+use Rattle.link_image.specs.link_layout.declared.values.Layout.{Layout as LayoutData}
 use Rattle.link_output.specs.Written.{Measures, Writes, StandInSources}
-use Rattle.link_program.specs.declared.error.LinkError.{LinkError}
-use Rattle.link_program.specs.declared.error.LinkError.TheVariants.{Refused, OutOfMemory}
-use Rattle.link_program.specs.Answers.{Fails, Stops, of_layout}
+use Rattle.link_output.specs.link_program.declared.error.LinkError.{LinkError}
+use Rattle.link_output.specs.link_program.declared.error.LinkError.TheVariants.{Refused, OutOfMemory}
+use Rattle.link_output.specs.link_program.Answers.{Fails, Stops, of_layout}
 use Rattle.link_core.specs.Answers.{Answers}
 use Rattle.link_core.proofs.Steps as steps
 

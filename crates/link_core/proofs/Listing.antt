@@ -3,34 +3,34 @@ use Rattle.std.proofs.Common.{◌≡◌, ◌==◌, Bool, true, false, length, Li
 use Rattle.std.specs.Prelude.{flat_map, slice_get, Some, Option, if◌then◌else◌, bytes_eq, ℕ}
 use Rattle.std.specs.List.{list_any}
 use Rattle.std.proofs.lemmas.Bool.{eqb-true}
-use Rattle.link_program.specs.wl_base.Choice.{distinct, distinct_onto, ◌>>=◌}
-use Rattle.link_program.specs.wl_base.declared.fault.Fault.{Fault}
-use Rattle.link_program.specs.wasm_types.declared.function.FuncType.{FuncType}
-use Rattle.link_program.specs.object_file.declared.object.Object.{Object}
-use Rattle.link_program.specs.made_symbols.declared.mode.Mode.{Mode}
-use Rattle.link_program.specs.made_symbols.declared.mode.Mode.TheVariants.{Plain}
-use Rattle.link_program.specs.round_rules.Rounds.{Candidate, load}
-use Rattle.link_program.specs.link_names.Numbered.{AreNumbers}
-use Rattle.link_program.specs.name_rules.Entries.{InputSymbol, entries, name_of}
-use Rattle.link_program.specs.name_rules.Meanings.{Meaning, Resolved, resolve}
-use Rattle.link_program.specs.name_entries.View.{InputsRise}
-use Rattle.link_program.specs.name_entries.Fits.{IsTable, Fits}
-use Rattle.link_program.specs.name_entries.declared.lookups.Entries.{Entries}
-use Rattle.link_program.specs.name_meanings.Means.{IsResolution}
-use Rattle.link_program.specs.link_plan.declared.plan.Plan.{Plan}
-use Rattle.link_program.specs.link_rules.Candidates.{candidates_of}
-use Rattle.link_program.specs.link_rules.Program.{Program, is_mismatch, variant, variants_among, variants_of, loose_variants, program_of, option_onto}
-use Rattle.link_program.specs.link_rules.LinkOf.{asked_names, the_readers}
-use Rattle.link_program.specs.declared.error.LinkError.{LinkError}
-use Rattle.link_program.specs.declared.error.LinkError.TheVariants.{Refused, OutOfMemory}
-use Rattle.link_program.specs.Answers.{Fails}
-use Rattle.link_program.specs.Program.{variant_names, variant_type}
-use Rattle.link_inputs.specs.Inputs.{loaded_of}
+use Rattle.link_output.specs.link_program.wl_base.Choice.{distinct, distinct_onto, ◌>>=◌}
+use Rattle.link_output.specs.link_program.wl_base.declared.fault.Fault.{Fault}
+use Rattle.link_output.specs.link_program.wasm_types.declared.function.FuncType.{FuncType}
+use Rattle.link_output.specs.link_program.object_file.declared.object.Object.{Object}
+use Rattle.link_output.specs.link_program.made_symbols.declared.mode.Mode.{Mode}
+use Rattle.link_output.specs.link_program.made_symbols.declared.mode.Mode.TheVariants.{Plain}
+use Rattle.link_output.specs.link_program.round_rules.Rounds.{Candidate, load}
+use Rattle.link_output.specs.link_program.link_names.Numbered.{AreNumbers}
+use Rattle.link_output.specs.link_program.name_rules.Entries.{InputSymbol, entries, name_of}
+use Rattle.link_output.specs.link_program.name_rules.Meanings.{Meaning, Resolved, resolve}
+use Rattle.link_output.specs.link_program.name_entries.View.{InputsRise}
+use Rattle.link_output.specs.link_program.name_entries.Fits.{IsTable, Fits}
+use Rattle.link_output.specs.link_program.name_entries.declared.lookups.Entries.{Entries}
+use Rattle.link_output.specs.link_program.name_meanings.Means.{IsResolution}
+use Rattle.link_output.specs.link_program.link_plan.declared.plan.Plan.{Plan}
+use Rattle.link_output.specs.link_program.link_rules.Candidates.{candidates_of}
+use Rattle.link_output.specs.link_program.link_rules.Program.{Program, is_mismatch, variant, variants_among, variants_of, loose_variants, program_of, option_onto}
+use Rattle.link_output.specs.link_program.link_rules.LinkOf.{asked_names, the_readers}
+use Rattle.link_output.specs.link_program.declared.error.LinkError.{LinkError}
+use Rattle.link_output.specs.link_program.declared.error.LinkError.TheVariants.{Refused, OutOfMemory}
+use Rattle.link_output.specs.link_program.Answers.{Fails}
+use Rattle.link_output.specs.link_program.Program.{variant_names, variant_type}
+use Rattle.link_runs.specs.link_inputs.Inputs.{loaded_of}
 use Rattle.mismatch_rules.specs.declared.mismatch.Mismatch.{Mismatch}
 use Rattle.mismatch_rules.specs.Mismatches.{mismatches, mismatches_among, mismatch_by, same_call, standing}
 use Rattle.called_variants.specs.Called.{is_called, calls_told, calls_if, told_of, calls_told_by, calls_told_of}
 use Rattle.called_variants.specs.Marked.{NameThese}
-use Rattle.loose_calls.proofs.Listing.{told_not}
+use Rattle.program_build.proofs.loose_calls_lemmas.Listing.{told_not}
 use Rattle.program_build.specs.declared.found.Found.{Found}
 use Rattle.program_build.specs.Found.{Finds, IsFound}
 use Rattle.link_core.specs.Telling.{Tells, TellsBeside}

@@ -1,21 +1,21 @@
 -- What is known of the loaded objects once their names are found.
 use Rattle.std.proofs.Common.{◌≡◌, ◌∙◌, ℕ, List, sym, ap, subst, Ok, Err}
-use Rattle.link_program.specs.object_file.declared.object.Object.{Object}
-use Rattle.link_program.specs.made_symbols.declared.mode.Mode.{Mode}
-use Rattle.link_program.specs.made_symbols.declared.mode.Mode.TheVariants.{Plain}
-use Rattle.link_program.specs.link_names.Numbered.{AreNumbers}
-use Rattle.link_program.specs.name_entries.declared.lookups.Entries.{Entries}
-use Rattle.link_program.specs.name_entries.Fits.{IsTable, Fits}
-use Rattle.link_program.specs.name_entries.View.{InputsRise}
-use Rattle.link_program.specs.link_plan.declared.plan.Plan.{Plan}
-use Rattle.link_program.specs.link_plan.Plan.{IsPlan}
-use Rattle.link_program.specs.link_rules.Program.{Program, program_of}
-use Rattle.link_program.specs.link_rules.LinkOf.{link_program}
-use Rattle.link_program.specs.declared.home.Home.{Home}
-use Rattle.link_program.specs.declared.error.LinkError.{LinkError}
-use Rattle.link_program.specs.declared.program.Program.{Program as Data}
-use Rattle.link_program.specs.Loaded.{IsLoaded}
-use Rattle.link_program.specs.Program.{IsProgram}
+use Rattle.link_output.specs.link_program.object_file.declared.object.Object.{Object}
+use Rattle.link_output.specs.link_program.made_symbols.declared.mode.Mode.{Mode}
+use Rattle.link_output.specs.link_program.made_symbols.declared.mode.Mode.TheVariants.{Plain}
+use Rattle.link_output.specs.link_program.link_names.Numbered.{AreNumbers}
+use Rattle.link_output.specs.link_program.name_entries.declared.lookups.Entries.{Entries}
+use Rattle.link_output.specs.link_program.name_entries.Fits.{IsTable, Fits}
+use Rattle.link_output.specs.link_program.name_entries.View.{InputsRise}
+use Rattle.link_output.specs.link_program.link_plan.declared.plan.Plan.{Plan}
+use Rattle.link_output.specs.link_program.link_plan.Plan.{IsPlan}
+use Rattle.link_output.specs.link_program.link_rules.Program.{Program, program_of}
+use Rattle.link_output.specs.link_program.link_rules.LinkOf.{link_program}
+use Rattle.link_output.specs.link_program.declared.home.Home.{Home}
+use Rattle.link_output.specs.link_program.declared.error.LinkError.{LinkError}
+use Rattle.link_output.specs.link_program.declared.program.Program.{Program as Data}
+use Rattle.link_output.specs.link_program.Loaded.{IsLoaded}
+use Rattle.link_output.specs.link_program.Program.{IsProgram}
 use Rattle.mismatch_rules.specs.Mismatches.{standing}
 use Rattle.called_variants.specs.Called.{told_of}
 use Rattle.program_build.specs.Found.{Finds, IsFound, found_of}

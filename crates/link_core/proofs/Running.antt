@@ -3,8 +3,8 @@ use Rattle.std.proofs.Common.{◌≡◌, ℕ, List, length}
 use Rattle.std.specs.Prelude.{Result, Ok, Err, unwrap_or, IfOk}
 use Rattle.link_plan.specs.declared.plan.Plan.{Plan}
 use Rattle.link_plan.specs.Plan.{IsPlan}
-use Rattle.link_program.specs.link_rules.LinkOf.{link_of}
-use Rattle.link_program.specs.declared.error.LinkError.{LinkError}
+use Rattle.link_output.specs.link_program.link_rules.LinkOf.{link_of}
+use Rattle.link_output.specs.link_program.declared.error.LinkError.{LinkError}
 use Rattle.link_runs.specs.Links.{Runs, LinksRun}
 use Rattle.link_core.specs.Answers.{Answers}
 

@@ -2,29 +2,29 @@
 use Rattle.std.proofs.Common.{◌≡◌, ℕ, List, [], length, map, refl, ap, ◌∙◌, Option, Some, None, Result, Ok, Err, ℤ, pos}
 use Rattle.std.specs.List.{flat_map}
 use Rattle.std.specs.Prelude.{option_map}
-use Rattle.link_program.specs.wl_base.Choice.{unless, ◌>>=◌}
-use Rattle.link_program.specs.wl_base.declared.fault.Fault.{Fault}
-use Rattle.link_program.specs.wl_base.declared.fault.Fault.TheVariants.{Overflow}
-use Rattle.link_program.specs.wl_base.declared.fault.What.TheVariants.{TableSize, Reference}
-use Rattle.link_program.specs.object_file.declared.object.Object.{Object}
-use Rattle.link_program.specs.made_symbols.declared.mode.Mode.TheVariants.{Plain}
-use Rattle.link_program.specs.round_rules.Rounds.{Candidate, load}
-use Rattle.link_program.specs.memory_layout.Memory.{Passed, memory_overflow}
-use Rattle.link_program.specs.table_layout.Slots.{table_overflow}
-use Rattle.link_program.specs.reloc_apply.declared.window.Window.{Window}
-use Rattle.link_program.specs.reloc_apply.Windows.{value_overflow, patch_of}
-use Rattle.link_program.specs.image_emit.declared.tree.Image.{Image}
-use Rattle.link_program.specs.image_emit.Bytes.{bytes_of, tree_of}
-use Rattle.link_program.specs.image_emit.Filled.{tree_filled}
-use Rattle.link_program.specs.link_plan.declared.plan.Plan.{Plan}
-use Rattle.link_program.specs.name_rules.Entries.{InputSymbol}
-use Rattle.link_program.specs.name_rules.Cases.{clash_by, duplicate}
-use Rattle.link_program.specs.link_rules.Candidates.{candidates_of}
-use Rattle.link_program.specs.link_rules.Program.{Program, Part, program_of}
-use Rattle.link_program.specs.link_rules.Marks.{exported, repeated_export, live, pic_fault, unresolved, uncalled}
-use Rattle.link_program.specs.link_rules.Values.{Layout, rules_of, shapes}
-use Rattle.link_program.specs.link_rules.Output.{layout, image, source_windows}
-use Rattle.link_program.specs.link_rules.LinkOf.{asked_names, the_readers, too_many_names, exporting, marked, laid_out, written, memory_fault, table_fault, output_fault, reference_fault, length_fault, passed_fault, output_bytes, link_program, link_by, link_of}
+use Rattle.link_output.specs.link_program.wl_base.Choice.{unless, ◌>>=◌}
+use Rattle.link_output.specs.link_program.wl_base.declared.fault.Fault.{Fault}
+use Rattle.link_output.specs.link_program.wl_base.declared.fault.Fault.TheVariants.{Overflow}
+use Rattle.link_output.specs.link_program.wl_base.declared.fault.What.TheVariants.{TableSize, Reference}
+use Rattle.link_output.specs.link_program.object_file.declared.object.Object.{Object}
+use Rattle.link_output.specs.link_program.made_symbols.declared.mode.Mode.TheVariants.{Plain}
+use Rattle.link_output.specs.link_program.round_rules.Rounds.{Candidate, load}
+use Rattle.link_output.specs.link_program.memory_layout.Memory.{Passed, memory_overflow}
+use Rattle.link_output.specs.link_program.table_layout.Slots.{table_overflow}
+use Rattle.link_output.specs.link_program.reloc_apply.declared.window.Window.{Window}
+use Rattle.link_output.specs.link_program.reloc_apply.Windows.{value_overflow, patch_of}
+use Rattle.link_output.specs.link_program.image_emit.declared.tree.Image.{Image}
+use Rattle.link_output.specs.link_program.image_emit.Bytes.{bytes_of, tree_of}
+use Rattle.link_output.specs.link_program.image_emit.Filled.{tree_filled}
+use Rattle.link_output.specs.link_program.link_plan.declared.plan.Plan.{Plan}
+use Rattle.link_output.specs.link_program.name_rules.Entries.{InputSymbol}
+use Rattle.link_output.specs.link_program.name_rules.Cases.{clash_by, duplicate}
+use Rattle.link_output.specs.link_program.link_rules.Candidates.{candidates_of}
+use Rattle.link_output.specs.link_program.link_rules.Program.{Program, Part, program_of}
+use Rattle.link_output.specs.link_program.link_rules.Marks.{exported, repeated_export, live, pic_fault, unresolved, uncalled}
+use Rattle.link_output.specs.link_program.link_rules.Values.{Layout, rules_of, shapes}
+use Rattle.link_output.specs.link_program.link_rules.Output.{layout, image, source_windows}
+use Rattle.link_output.specs.link_program.link_rules.LinkOf.{asked_names, the_readers, too_many_names, exporting, marked, laid_out, written, memory_fault, table_fault, output_fault, reference_fault, length_fault, passed_fault, output_bytes, link_program, link_by, link_of}
 
 step : {A B : Type 0} (o : Option Fault) (a : A) (next : A → Result B Fault) → o ≡ None → (unless o a >>= next) ≡ next a
 step o a next e = ap (λ (o : Option Fault). unless o a >>= next) e

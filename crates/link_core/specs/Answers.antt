@@ -1,8 +1,8 @@
 -- What a link answers, beside what its definition gives.
 use Rattle.std.specs.Prelude.{◌≡◌, ◌<◌, ◌^◌, ℕ, List, length, Result, Ok, Err}
-use Rattle.link_program.specs.wl_base.declared.fault.Fault.{Fault}
-use Rattle.link_program.specs.declared.error.LinkError.{LinkError}
-use Rattle.link_program.specs.Answers.{Fails}
+use Rattle.link_output.specs.link_program.wl_base.declared.fault.Fault.{Fault}
+use Rattle.link_output.specs.link_program.declared.error.LinkError.{LinkError}
+use Rattle.link_output.specs.link_program.Answers.{Fails}
 
 -- The answer is the one that the definition gives: the same bytes, or the same fault. Want of memory alone is free.
 abbrev pub Answers : Result (List ℕ) LinkError → Result (List ℕ) Fault → Type 0

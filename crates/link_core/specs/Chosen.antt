@@ -1,15 +1,15 @@
 -- When what is exported and what is live are those of a program.
 use Rattle.std.specs.Prelude.{◌≡◌, ℕ, List, map, All, Contains, Result, Ok, Err}
-use Rattle.link_program.specs.made_symbols.declared.mode.Mode.TheVariants.{Plain}
-use Rattle.link_program.specs.link_rules.Program as rules
-use Rattle.link_program.specs.link_rules.Marks.{exported, live}
-use Rattle.link_program.specs.link_rules.LinkOf.{exporting, laid_out}
-use Rattle.link_program.specs.declared.error.LinkError.{LinkError}
-use Rattle.link_program.specs.declared.program.Program.{Program}
-use Rattle.link_program.specs.declared.symbol.Winner.{Winner}
-use Rattle.link_program.specs.Answers.{Fails}
-use Rattle.link_program.specs.Told.{told_winner}
-use Rattle.link_program.specs.Live.{Stage, AreLive, AllMeant}
+use Rattle.link_output.specs.link_program.made_symbols.declared.mode.Mode.TheVariants.{Plain}
+use Rattle.link_output.specs.link_program.link_rules.Program as rules
+use Rattle.link_output.specs.link_program.link_rules.Marks.{exported, live}
+use Rattle.link_output.specs.link_program.link_rules.LinkOf.{exporting, laid_out}
+use Rattle.link_output.specs.link_program.declared.error.LinkError.{LinkError}
+use Rattle.link_output.specs.link_program.declared.program.Program.{Program}
+use Rattle.link_output.specs.link_program.declared.symbol.Winner.{Winner}
+use Rattle.link_output.specs.link_program.Answers.{Fails}
+use Rattle.link_output.specs.link_program.Told.{told_winner}
+use Rattle.link_output.specs.link_program.Live.{Stage, AreLive, AllMeant}
 use Rattle.link_core.specs.declared.chosen.Chosen.{Chosen}
 
 -- The data tell the exported winners of a stage, and the numbers of its parts; all that these refer to means something.

@@ -1,9 +1,9 @@
 -- What is linked of the files.
 use Rattle.std.specs.Prelude.{List}
-use Rattle.link_program.specs.object_file.declared.object.Object.{Object}
-use Rattle.link_program.specs.made_symbols.declared.mode.Mode.TheVariants.{Plain}
-use Rattle.link_program.specs.link_rules.Program.{Program, program_of}
-use Rattle.link_program.specs.Loaded.{Origin}
+use Rattle.link_output.specs.link_program.object_file.declared.object.Object.{Object}
+use Rattle.link_output.specs.link_program.made_symbols.declared.mode.Mode.TheVariants.{Plain}
+use Rattle.link_output.specs.link_program.link_rules.Program.{Program, program_of}
+use Rattle.link_output.specs.link_program.Loaded.{Origin}
 
 -- Where the loaded objects come from, and the objects.
 pub record Loading : Type 0 where

@@ -1,10 +1,10 @@
 -- An output that is ready to be written.
 use Rattle.std.specs.Prelude.{◌≡◌, ◌<◌, ◌^◌, ℕ, List, length, Result, Ok, Err}
-use Rattle.link_program.specs.reloc_apply.Windows.{filled}
-use Rattle.link_program.specs.reloc_apply.Apart.{AreApart}
-use Rattle.link_program.specs.image_emit.Bytes.{tree_of, bytes_of}
-use Rattle.link_program.specs.image_emit.Measures.{LieIn, image_measure}
-use Rattle.link_program.specs.declared.error.LinkError.{LinkError}
+use Rattle.link_output.specs.link_program.reloc_apply.Windows.{filled}
+use Rattle.link_output.specs.link_program.reloc_apply.Apart.{AreApart}
+use Rattle.link_output.specs.link_program.image_emit.Bytes.{tree_of, bytes_of}
+use Rattle.link_output.specs.link_program.image_emit.Measures.{LieIn, image_measure}
+use Rattle.link_output.specs.link_program.declared.error.LinkError.{LinkError}
 use Rattle.link_core.specs.declared.prepared.Prepared.{Prepared}
 
 -- Its bytes: those of the image, with each patch written.

@@ -1,7 +1,7 @@
 -- What a link tells beside its answer.
 use Rattle.std.specs.Prelude.{◌≡◌, List, Result, Ok, Err}
-use Rattle.link_program.specs.declared.error.LinkError.{LinkError}
-use Rattle.link_program.specs.declared.error.LinkError.TheVariants.{Refused, OutOfMemory}
+use Rattle.link_output.specs.link_program.declared.error.LinkError.{LinkError}
+use Rattle.link_output.specs.link_program.declared.error.LinkError.TheVariants.{Refused, OutOfMemory}
 use Rattle.mismatch_rules.specs.declared.mismatch.Mismatch.{Mismatch}
 
 -- An error tells what is due, unless memory was refused; and so does an answer.

@@ -1,7 +1,7 @@
 //! What is exported, and what is live.
 
-use link_marks::Live;
-use link_program::Winner;
+use link_output::Winner;
+use lost_ctors::Live;
 use wl_base::Seq;
 
 /// What was chosen of a program.

@@ -1,16 +1,16 @@
 //! The whole link, as a list of steps in the order of its definition (`link_of` in link_rules/specs/LinkOf.antt): load, find, exports,
 //! mark, unresolved, place, number, image, measure, patches, write. Each gives what the next ones need, or a fault that ends the link.
 ghost use Rattle.std.specs.Prelude.{◌≡◌, [], length, unwrap_or, IfOk};
-ghost use Rattle.link_program.specs.made_symbols.declared.mode.Mode.TheVariants as modes;
-ghost use Rattle.link_program.specs.link_plan.Plan.{IsPlan};
-ghost use Rattle.link_program.specs.link_rules.Program as rules;
-ghost use Rattle.link_program.specs.link_rules.LinkOf.{link_of, link_program, laid_out, written};
-ghost use Rattle.link_layout.specs.Layout.{IsLayout};
-ghost use Rattle.link_program.specs.Loaded.{IsLoaded};
-ghost use Rattle.link_program.specs.Program.{IsProgram};
-ghost use Rattle.link_program.specs.name_entries.Fits.{Fits};
-ghost use Rattle.link_program.specs.Stand.{PartsStand};
-ghost use Rattle.link_program.specs.Live.{Stage};
+ghost use Rattle.link_output.specs.link_program.made_symbols.declared.mode.Mode.TheVariants as modes;
+ghost use Rattle.link_output.specs.link_program.link_plan.Plan.{IsPlan};
+ghost use Rattle.link_output.specs.link_program.link_rules.Program as rules;
+ghost use Rattle.link_output.specs.link_program.link_rules.LinkOf.{link_of, link_program, laid_out, written};
+ghost use Rattle.link_image.specs.link_layout.Layout.{IsLayout};
+ghost use Rattle.link_output.specs.link_program.Loaded.{IsLoaded};
+ghost use Rattle.link_output.specs.link_program.Program.{IsProgram};
+ghost use Rattle.link_output.specs.link_program.name_entries.Fits.{Fits};
+ghost use Rattle.link_output.specs.link_program.Stand.{PartsStand};
+ghost use Rattle.link_output.specs.link_program.Live.{Stage};
 ghost use Rattle.link_core.specs.Answers.{Answers, IsShort};
 ghost use Rattle.link_core.specs.Chosen.{IsChosen, Chooses};
 ghost use Rattle.link_core.specs.Linking.{IsLinking};
@@ -25,19 +25,14 @@ ghost use Rattle.link_runs.specs.Links.{Runs};
 use crate::chosen::Chosen;
 use crate::prepared::Prepared;
 use crate::telling::find_telling;
-use link_image::image;
-use link_inputs::{Inputs, load_inputs};
-use link_layout::{Layout, place_segments};
-use link_marks::{all_are_meant, exports, live_parts, repeated_export, unresolved};
-use link_numbers::number;
+use link_image::{Layout, image, number, place_segments};
 use link_output::laws::{
     patches_make_the_output, values_are_judged_in_turn, windows_stand_in_sources,
 };
-use link_output::{measured, write};
+use link_output::{Entries, LinkError, Program, Winner, measured, write};
 use link_plan::Plan;
-use link_program::{Entries, LinkError, Program, Winner};
-use link_runs::links_run;
-use lost_ctors::uncalled;
+use link_runs::{Inputs, links_run, load_inputs};
+use lost_ctors::{all_are_meant, exports, live_parts, repeated_export, uncalled, unresolved};
 use mismatch_rules::Mismatch;
 use program_build::Found;
 use program_build::laws::parts_stand;

@@ -7,5 +7,5 @@ mod prepared;
 mod telling;
 
 pub use driver::{link, link_telling};
-pub use link_program::LinkError;
+pub use link_output::LinkError;
 pub use mismatch_rules::Mismatch;

@@ -1,21 +1,20 @@
 //! What is found of the loaded objects, and what is told of functions that are called by another type than their definition has.
 ghost use Rattle.std.specs.Prelude.{◌≡◌, [], IfOk};
-ghost use Rattle.link_program.specs.made_symbols.declared.mode.Mode.TheVariants as modes;
-ghost use Rattle.link_program.specs.link_plan.Plan.{IsPlan};
-ghost use Rattle.link_program.specs.link_rules.Program as rules;
-ghost use Rattle.link_program.specs.link_rules.Program.{program_of};
-ghost use Rattle.link_program.specs.Loaded.{IsLoaded, Origin};
+ghost use Rattle.link_output.specs.link_program.made_symbols.declared.mode.Mode.TheVariants as modes;
+ghost use Rattle.link_output.specs.link_program.link_plan.Plan.{IsPlan};
+ghost use Rattle.link_output.specs.link_program.link_rules.Program as rules;
+ghost use Rattle.link_output.specs.link_program.link_rules.Program.{program_of};
+ghost use Rattle.link_output.specs.link_program.Loaded.{IsLoaded, Origin};
 ghost use Rattle.mismatch_rules.specs.Mismatches.{standing};
 ghost use Rattle.called_variants.specs.Called.{calls_if, told_of};
 ghost use Rattle.program_build.specs.Found.{Finds, IsFound};
 ghost use Rattle.link_core.specs.Telling.{Tells};
 
 use called_variants::called_only;
+use link_output::{Home, LinkError, Object};
 use link_plan::Plan;
-use link_program::{Home, LinkError, Object};
-use loose_calls::mismatches;
 use mismatch_rules::Mismatch;
-use program_build::{Found, find};
+use program_build::{Found, find, mismatches};
 use std::alloc::Global;
 use std::thread::Threads;
 use wl_base::{OutOfMemory, Seq};

@@ -23,13 +23,13 @@ use Rattle.mark_bits.specs.declared.chunk.Chunk.{Chunk}
 use Rattle.name_rules.specs.Entries.{InputSymbol, is_kind, entry_in, entries, in_kept_part, index_in}
 use Rattle.name_rules.specs.Meanings.{Resolved, resolved_in, no_uses}
 use Rattle.name_rules.specs.Cases.{clash_by}
-use Rattle.link_rules.specs.Program.{Program, strict_program, program_of, Part, Ref, parts_of, made_parts_from, init_calls, segment_part, chunk_at, span_in}
-use Rattle.link_rules.specs.Marks.{exported}
-use Rattle.link_rules.specs.Keys.{is_function_at}
-use Rattle.link_program.specs.declared.home.Home.{Home}
-use Rattle.link_program.specs.Stand.{PartStandsBy, PartStands, IsSymbolOf}
+use Rattle.output_module.specs.link_rules.Program.{Program, strict_program, program_of, Part, Ref, parts_of, made_parts_from, init_calls, segment_part, chunk_at, span_in}
+use Rattle.output_module.specs.link_rules.Marks.{exported}
+use Rattle.output_module.specs.link_rules.Keys.{is_function_at}
+use Rattle.program_build.specs.link_program.declared.home.Home.{Home}
+use Rattle.program_build.specs.link_program.Stand.{PartStandsBy, PartStands, IsSymbolOf}
 use Rattle.program_build.specs.Standing.{StrictPartsStand, LoadedPartsStand}
-use Rattle.link_worlds.specs.Sound.{IsGlobalPart}
+use Rattle.output_module.specs.link_worlds.Sound.{IsGlobalPart}
 use Rattle.output_module.specs.Outputs.{IsCoded}
 use Rattle.link_facts.specs.Loaded.{AreLoaded, ProgramsAreSound}
 use Rattle.link_facts.proofs.Symbols.{entry_known, OfObject, Known}

@@ -21,8 +21,8 @@ use Rattle.round_rules.specs.Rounds.{Candidate}
 use Rattle.made_symbols.specs.declared.mode.Mode.TheVariants.{Plain}
 use Rattle.name_rules.specs.Entries.{InputSymbol, entry_in, entries_from, symbols_of, entries}
 use Rattle.name_rules.specs.Meanings.{Meaning, Resolved, resolved_in, meaning, no_uses}
-use Rattle.link_rules.specs.Program.{Program, Ref, Named, a_symbol, ref_to, ref_in, operand_named, function_part, span_in}
-use Rattle.link_rules.specs.Values.{part_bytes}
+use Rattle.output_module.specs.link_rules.Program.{Program, Ref, Named, a_symbol, ref_to, ref_in, operand_named, function_part, span_in}
+use Rattle.output_module.specs.link_rules.Values.{part_bytes}
 use Rattle.image_emit.specs.Bytes.{file_part}
 use Rattle.wasm_instr.specs.Bodies.{SpellsBody}
 use Rattle.output_module.specs.Filled.{StandsOn, AllStandOn, names_in}

@@ -14,3 +14,4 @@ pub mod Loosened
 mod AllFacts
 pub mod Steps
 pub mod Loads
+pub use Rattle.output_module.proofs.link_worlds_lemmas as link_worlds_lemmas

@@ -4,8 +4,8 @@ use Rattle.std.specs.Prelude.{slice_get}
 use Rattle.list_places.proofs.Lists.{all_has}
 use Rattle.object_file.specs.declared.object.Object.{Object}
 use Rattle.round_rules.specs.Rounds.{Candidate}
-use Rattle.link_program.specs.declared.home.Home.{Home}
-use Rattle.link_program.specs.Loaded.{IsLoaded, IsReadFrom}
+use Rattle.program_build.specs.link_program.declared.home.Home.{Home}
+use Rattle.program_build.specs.link_program.Loaded.{IsLoaded, IsReadFrom}
 use Rattle.link_facts.specs.Loaded.{AreLoaded}
 
 pub are_loaded : (files : List (List ℕ)) (all : List Candidate) (objects : List Object) (homes : List Home) → IsLoaded files all objects homes → AreLoaded objects

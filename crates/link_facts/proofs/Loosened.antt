@@ -15,14 +15,14 @@ use Rattle.mark_bits.specs.declared.chunk.Chunk.{Chunk}
 use Rattle.name_rules.specs.Entries.{InputSymbol, name_of, is_kind, is_entry, same_symbol_type}
 use Rattle.name_rules.specs.Cases.{passes, judge, may_differ, mismatches}
 use Rattle.name_rules.specs.Meanings.{Meaning, here, imported, null, nothing}
-use Rattle.link_rules.specs.Program.{Program, Part, Ref, Named, a_symbol, a_type, refs, same_chunk, is_mismatch, variant, variants_of, loose_ref, loose_named, loose_part, loose_parts, loose_variants, loosened}
-use Rattle.link_rules.specs.Marks.{refs_of}
-use Rattle.link_rules.specs.Keys.{imports_in_order}
-use Rattle.link_rules.specs.Values.{part_bytes}
-use Rattle.link_program.specs.Stand.{PartsStand, IsSymbolOf}
-use Rattle.link_program.proofs.Loose.{IsLoosened, loosened_or_not, refs_loose, variant_in}
-use Rattle.link_worlds.specs.Bodies.{named_at, place_of}
-use Rattle.link_worlds.specs.Sound.{Sound, SoundRef, SoundMeaning, SoundExports, PartOf, same_part, meant_entry, meant_entries, IsGlobalPart}
+use Rattle.output_module.specs.link_rules.Program.{Program, Part, Ref, Named, a_symbol, a_type, refs, same_chunk, is_mismatch, variant, variants_of, loose_ref, loose_named, loose_part, loose_parts, loose_variants, loosened}
+use Rattle.output_module.specs.link_rules.Marks.{refs_of}
+use Rattle.output_module.specs.link_rules.Keys.{imports_in_order}
+use Rattle.output_module.specs.link_rules.Values.{part_bytes}
+use Rattle.program_build.specs.link_program.Stand.{PartsStand, IsSymbolOf}
+use Rattle.program_build.proofs.link_program_lemmas.Loose.{IsLoosened, loosened_or_not, refs_loose, variant_in}
+use Rattle.output_module.specs.link_worlds.Bodies.{named_at, place_of}
+use Rattle.output_module.specs.link_worlds.Sound.{Sound, SoundRef, SoundMeaning, SoundExports, PartOf, same_part, meant_entry, meant_entries, IsGlobalPart}
 use Rattle.output_module.specs.Filled.{StandsOn, AllStandOn, names_in, Reads, ReadsAt}
 use Rattle.output_module.specs.Outputs.{IsCoded}
 use Rattle.link_facts.specs.Facts.{Facts, IsReading}

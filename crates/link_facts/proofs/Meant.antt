@@ -13,7 +13,7 @@ use Rattle.made_symbols.specs.declared.mode.Mode.TheVariants.{Plain}
 use Rattle.name_rules.specs.Entries.{InputSymbol, ImportKey, is_kind, is_entry, name_of, named, is_named, same_symbol_type}
 use Rattle.name_rules.specs.Meanings.{Meaning, here, imported, null, nothing, lesser, least, definitions, references, least_import, may_import, may_be_null, where_given, by_rules, own_meaning, meaning, no_uses, winner, entry_rank}
 use Rattle.name_rules.specs.Cases.{clash, loose_clash, clash_by, clash_of, clash_beside, clashes_with, other_import, broken, judge, breaks, may_differ, first_entry, passes, differ, explicit_import}
-use Rattle.link_worlds.proofs.Keys.{bytes_equal}
+use Rattle.output_module.proofs.link_worlds_lemmas.Keys.{bytes_equal}
 
 -- ---- the least of a list is in it
 

@@ -17,13 +17,13 @@ use Rattle.object_file.specs.declared.object.Object.{Object}
 use Rattle.object_file.specs.Spaces.{function_imports, global_imports, function_place, global_place}
 use Rattle.object_file.specs.Sound.{Sound as ObjectSound, NamesInRange}
 use Rattle.round_rules.specs.Rounds.{Candidate}
-use Rattle.name_entries.specs.View.{InputsRise}
+use Rattle.program_build.specs.name_entries.View.{InputsRise}
 use Rattle.name_rules.specs.Entries.{InputSymbol, entry_in, made_entry, is_kept, in_kept_part, index_in}
 use Rattle.name_rules.specs.Meanings.{Resolved}
 use Rattle.mark_bits.specs.declared.chunk.Chunk.{Chunk}
-use Rattle.link_rules.specs.Program.{Part, Ref, a_symbol, linker_made, no_source, indexed, option_onto, function_part, segment_part, global_part, is_part_kept, parts_in, made_kind, made_part, made_parts_from, chunk_at, chunk_of, chunk_by}
-use Rattle.link_worlds.specs.Sound.{PartOf, same_part}
-use Rattle.link_worlds.proofs.Keys.{chunk_equal}
+use Rattle.output_module.specs.link_rules.Program.{Part, Ref, a_symbol, linker_made, no_source, indexed, option_onto, function_part, segment_part, global_part, is_part_kept, parts_in, made_kind, made_part, made_parts_from, chunk_at, chunk_of, chunk_by}
+use Rattle.output_module.specs.link_worlds.Sound.{PartOf, same_part}
+use Rattle.output_module.proofs.link_worlds_lemmas.Keys.{chunk_equal}
 use Rattle.link_facts.proofs.Symbols.{above, one_object, positive, Known}
 
 -- ---- lists with their places

@@ -21,8 +21,8 @@ use Rattle.round_rules.specs.Rounds.{Candidate}
 use Rattle.made_symbols.specs.declared.mode.Mode.TheVariants.{Plain}
 use Rattle.name_rules.specs.Entries.{InputSymbol, entries, is_kind}
 use Rattle.name_rules.specs.Meanings.{Meaning, Resolved, resolved_in, no_uses}
-use Rattle.link_rules.specs.Program.{Program, Ref, a_symbol, ref_to, ref_in, operand_named, function_part}
-use Rattle.link_worlds.specs.Bodies.{place_of}
+use Rattle.output_module.specs.link_rules.Program.{Program, Ref, a_symbol, ref_to, ref_in, operand_named, function_part}
+use Rattle.output_module.specs.link_worlds.Bodies.{place_of}
 use Rattle.output_module.specs.Filled.{ReadsAt}
 use Rattle.link_facts.specs.Facts.{IsFrom, IsReading, bytes_of}
 use Rattle.link_facts.proofs.Coded.{bytes_are}

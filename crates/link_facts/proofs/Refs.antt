@@ -19,7 +19,7 @@ use Rattle.object_file.specs.Sound.{Sound as ObjectSound, OperandNames, WindowNa
 use Rattle.made_symbols.specs.declared.mode.Mode.TheVariants.{Plain}
 use Rattle.name_rules.specs.Entries.{InputSymbol, entry_in, symbols_of, entries}
 use Rattle.name_rules.specs.Meanings.{Meaning, Resolved, resolved_in, meaning, no_uses}
-use Rattle.link_rules.specs.Program.{Part, Ref, refs, Named, a_symbol, a_type, named_ref, ref_to, ref_in, operand_named, window_named, InitCall, init_call, init_calls_in, init_calls, insert_call, by_priority, is_skipped}
+use Rattle.output_module.specs.link_rules.Program.{Part, Ref, refs, Named, a_symbol, a_type, named_ref, ref_to, ref_in, operand_named, window_named, InitCall, init_call, init_calls_in, init_calls, insert_call, by_priority, is_skipped}
 use Rattle.link_facts.proofs.Symbols.{symbol_at}
 
 -- A reference to a symbol of an object, by its place there.

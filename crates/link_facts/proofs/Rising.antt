@@ -18,15 +18,15 @@ use Rattle.reloc_apply.proofs.Over.{filled_long}
 use Rattle.image_emit.specs.Bytes.{Block}
 use Rattle.image_emit.specs.Stored.{Rise, first_address}
 use Rattle.run_rules.specs.declared.session.Session.{Session}
-use Rattle.link_rules.specs.Program.{Program, Part, Named, a_symbol, a_type}
-use Rattle.link_rules.specs.Marks.{live}
-use Rattle.link_rules.specs.Values.{Layout, part_bytes, segments, shapes, solid_segments, is_zero, shape_of, segment_address, windows, named_window}
-use Rattle.link_rules.specs.Output.{layout}
-use Rattle.link_program.specs.Stand.{NamedStand, PartStands, named_place, named_size}
-use Rattle.link_worlds.specs.Worlds.{segment_block, zero_segments, pages_at_first}
-use Rattle.link_worlds.specs.Sound.{Sound, AllZero}
-use Rattle.link_worlds.specs.Statements.{Holds}
-use Rattle.link_worlds.proofs.Live.{live_part}
+use Rattle.output_module.specs.link_rules.Program.{Program, Part, Named, a_symbol, a_type}
+use Rattle.output_module.specs.link_rules.Marks.{live}
+use Rattle.output_module.specs.link_rules.Values.{Layout, part_bytes, segments, shapes, solid_segments, is_zero, shape_of, segment_address, windows, named_window}
+use Rattle.output_module.specs.link_rules.Output.{layout}
+use Rattle.program_build.specs.link_program.Stand.{NamedStand, PartStands, named_place, named_size}
+use Rattle.output_module.specs.link_worlds.Worlds.{segment_block, zero_segments, pages_at_first}
+use Rattle.output_module.specs.link_worlds.Sound.{Sound, AllZero}
+use Rattle.output_module.specs.link_worlds.Statements.{Holds}
+use Rattle.output_module.proofs.link_worlds_lemmas.Live.{live_part}
 use Rattle.link_facts.specs.Faults.{NoFault, Measured, Enough, AtLeast, MemoryHolds}
 use Rattle.link_facts.proofs.Found.{filter_map_is}
 use Rattle.link_facts.proofs.Segments.{lay, rules, shape_list, end, heap_high, heap_fits, pages_reach, segment_lies, all_addresses}

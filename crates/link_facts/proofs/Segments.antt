@@ -15,14 +15,14 @@ use Rattle.memory_layout.specs.declared.rules.SegmentShape.{SegmentShape}
 use Rattle.memory_layout.specs.Memory.{around_stack, around, base_of, data_end, heap_base, memory_overflow, places, placed, pages}
 use Rattle.memory_layout.specs.Order.{LiesWithin}
 use Rattle.memory_layout.proofs.Order.{up-reaches, all_within, last_end_reaches}
-use Rattle.link_rules.specs.Program.{Program, Part, same_chunk}
-use Rattle.link_rules.specs.Marks.{live}
-use Rattle.link_rules.specs.Values.{Layout, segments, shapes, shape_of, rules_of, segment_address}
-use Rattle.link_rules.specs.Output.{layout}
-use Rattle.link_rules.specs.LinkOf.{memory_fault}
-use Rattle.link_worlds.specs.Sound.{Sound, same_part}
-use Rattle.link_worlds.proofs.Keys.{chunk_equal, chunk_itself}
-use Rattle.link_worlds.proofs.Functions.{live_apart}
+use Rattle.output_module.specs.link_rules.Program.{Program, Part, same_chunk}
+use Rattle.output_module.specs.link_rules.Marks.{live}
+use Rattle.output_module.specs.link_rules.Values.{Layout, segments, shapes, shape_of, rules_of, segment_address}
+use Rattle.output_module.specs.link_rules.Output.{layout}
+use Rattle.output_module.specs.link_rules.LinkOf.{memory_fault}
+use Rattle.output_module.specs.link_worlds.Sound.{Sound, same_part}
+use Rattle.output_module.proofs.link_worlds_lemmas.Keys.{chunk_equal, chunk_itself}
+use Rattle.output_module.proofs.link_worlds_lemmas.Functions.{live_apart}
 use Rattle.link_facts.proofs.Found.{same_list, zipped, zip_long, own_place, mapped_none}
 
 -- ---- the bounds of memory

@@ -22,13 +22,13 @@ use Rattle.mark_bits.specs.declared.chunk.Chunk.{Chunk}
 use Rattle.name_rules.specs.Entries.{InputSymbol, ImportKey, is_kind, is_entry, name_of, named, symbols_of, entries, type_in, import_in, key_of, is_named, same_import}
 use Rattle.name_rules.specs.Meanings.{Meaning, here, imported, null, nothing, Resolved, resolved_in, resolve, meaning, no_uses, may_be_null, winner}
 use Rattle.name_rules.specs.Cases.{clash_by}
-use Rattle.link_rules.specs.Program.{Program, strict_program, Part, Ref, refs, a_symbol, function_part, segment_part, parts_of, operand_named, window_named, init_calls, init_calls_in, chunk_of, winners_of, is_winner, is_that}
-use Rattle.link_rules.specs.Marks.{refs_of, exported, is_exported_by}
-use Rattle.link_rules.specs.Keys.{imports_in_order, import_of, is_function_type, is_global_type}
-use Rattle.link_program.specs.Stand.{IsSymbolOf}
-use Rattle.link_worlds.specs.Sound.{Sound, SoundRef, SoundMeaning, SoundHere, SoundExports, PartOf, same_part, meant_entry, meant_entries}
-use Rattle.link_worlds.proofs.Keys.{import_equal, imports_same}
-use Rattle.link_worlds.proofs.Refs.{distinct_has}
+use Rattle.output_module.specs.link_rules.Program.{Program, strict_program, Part, Ref, refs, a_symbol, function_part, segment_part, parts_of, operand_named, window_named, init_calls, init_calls_in, chunk_of, winners_of, is_winner, is_that}
+use Rattle.output_module.specs.link_rules.Marks.{refs_of, exported, is_exported_by}
+use Rattle.output_module.specs.link_rules.Keys.{imports_in_order, import_of, is_function_type, is_global_type}
+use Rattle.program_build.specs.link_program.Stand.{IsSymbolOf}
+use Rattle.output_module.specs.link_worlds.Sound.{Sound, SoundRef, SoundMeaning, SoundHere, SoundExports, PartOf, same_part, meant_entry, meant_entries}
+use Rattle.output_module.proofs.link_worlds_lemmas.Keys.{import_equal, imports_same}
+use Rattle.output_module.proofs.link_worlds_lemmas.Refs.{distinct_has}
 use Rattle.link_facts.specs.Loaded.{AreLoaded, ProgramsAreSound}
 use Rattle.link_facts.proofs.Symbols.{symbol_listed, entry_known, one_entry, positive, Known}
 use Rattle.link_facts.proofs.Meant.{Means, means, one_kind, code_kind, winner_has}

@@ -8,12 +8,12 @@ use Rattle.link_plan.specs.declared.plan.Plan.{Plan}
 use Rattle.made_symbols.specs.declared.mode.Mode.TheVariants.{Plain}
 use Rattle.name_rules.specs.Entries.{InputSymbol}
 use Rattle.name_rules.specs.Cases.{clash_by, duplicate}
-use Rattle.link_rules.specs.Candidates.{candidates_of}
-use Rattle.link_rules.specs.Program.{Program, program_of}
-use Rattle.link_rules.specs.Marks.{live, exported, repeated_export, pic_fault, unresolved, uncalled}
-use Rattle.link_rules.specs.Output.{image, source_windows}
-use Rattle.link_rules.specs.LinkOf.{asked_names, the_readers, link_of, link_by, link_program, marked, laid_out, written, output_bytes, too_many_names, memory_fault, table_fault, output_fault, reference_fault}
-use Rattle.link_worlds.specs.Worlds.{layout_of}
+use Rattle.output_module.specs.link_rules.Candidates.{candidates_of}
+use Rattle.output_module.specs.link_rules.Program.{Program, program_of}
+use Rattle.output_module.specs.link_rules.Marks.{live, exported, repeated_export, pic_fault, unresolved, uncalled}
+use Rattle.output_module.specs.link_rules.Output.{image, source_windows}
+use Rattle.output_module.specs.link_rules.LinkOf.{asked_names, the_readers, link_of, link_by, link_program, marked, laid_out, written, output_bytes, too_many_names, memory_fault, table_fault, output_fault, reference_fault}
+use Rattle.output_module.specs.link_worlds.Worlds.{layout_of}
 use Rattle.link_facts.specs.Faults.{NoFault}
 
 pub guard : {A B F : Type 0} (t : Option F) (x : A) (f : A → Result B F) (y : B) → (unless t x >>= f) ≡ Ok y → (t ≡ None) × (f x ≡ Ok y)

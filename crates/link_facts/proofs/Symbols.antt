@@ -8,7 +8,7 @@ use Rattle.linking_section.specs.declared.symbol.Symbol.{Symbol}
 use Rattle.made_symbols.specs.Made.{MadeSymbol, made}
 use Rattle.made_symbols.specs.declared.mode.Mode.TheVariants.{Plain}
 use Rattle.object_file.specs.declared.object.Object.{Object}
-use Rattle.name_entries.specs.View.{InputsRise}
+use Rattle.program_build.specs.name_entries.View.{InputsRise}
 use Rattle.name_rules.specs.Entries.{InputSymbol, entry_in, entries_from, symbols_of, made_entry, made_from, entries, is_entry, same_entry}
 
 -- ---- where symbols stand

@@ -16,17 +16,17 @@ use Rattle.live_mark.specs.Live.{ReachedLaw}
 use Rattle.reloc_apply.specs.declared.window.Window.{Window}
 use Rattle.reloc_apply.specs.Windows.{fits, value_overflow}
 use Rattle.memory_layout.specs.Memory.{around, heap_base, base_of, places}
-use Rattle.link_rules.specs.Program.{Program, Part, Ref, refs, chunk_at, chunk_of, chunk_by, meant_chunk}
-use Rattle.link_rules.specs.Marks.{live, refs_of}
-use Rattle.link_rules.specs.Keys.{FunctionKey, GlobalKey, GotKey, outside, stub, own, outside_global, linker_global, own_global, got, exported_datum, got_entry, got_import, got_null, functions, defined_functions, function_imports_of, made_function_key, own_function_key, stub_names, globals, used_globals, made_global_key, own_global_key, got_entries, datum_key, needs_got, ref_got, got_of, parts_of_kind, is_function_at, same_function, slot_of, function_of}
-use Rattle.link_rules.specs.Values.{Layout, shapes, named_window, windows, made_data, made_global_value, address_of, got_value, segment_address}
-use Rattle.link_rules.specs.Output.{layout, source_windows, body_windows, windows_in, defined}
-use Rattle.link_rules.specs.LinkOf.{reference_fault, table_fault}
-use Rattle.link_worlds.specs.Worlds.{layout_of}
-use Rattle.link_worlds.specs.Sound.{Sound, SoundExports, SoundRef, SoundHere, PartOf, InRange, IsSmall, meant_entries, meant_entry}
-use Rattle.link_worlds.proofs.Live.{live_part, live_closed, live_root, ref_listed}
-use Rattle.link_worlds.proofs.Functions.{find_part, live_apart}
-use Rattle.link_worlds.proofs.Spaces.{outer_defined, kept_defined}
+use Rattle.output_module.specs.link_rules.Program.{Program, Part, Ref, refs, chunk_at, chunk_of, chunk_by, meant_chunk}
+use Rattle.output_module.specs.link_rules.Marks.{live, refs_of}
+use Rattle.output_module.specs.link_rules.Keys.{FunctionKey, GlobalKey, GotKey, outside, stub, own, outside_global, linker_global, own_global, got, exported_datum, got_entry, got_import, got_null, functions, defined_functions, function_imports_of, made_function_key, own_function_key, stub_names, globals, used_globals, made_global_key, own_global_key, got_entries, datum_key, needs_got, ref_got, got_of, parts_of_kind, is_function_at, same_function, slot_of, function_of}
+use Rattle.output_module.specs.link_rules.Values.{Layout, shapes, named_window, windows, made_data, made_global_value, address_of, got_value, segment_address}
+use Rattle.output_module.specs.link_rules.Output.{layout, source_windows, body_windows, windows_in, defined}
+use Rattle.output_module.specs.link_rules.LinkOf.{reference_fault, table_fault}
+use Rattle.output_module.specs.link_worlds.Worlds.{layout_of}
+use Rattle.output_module.specs.link_worlds.Sound.{Sound, SoundExports, SoundRef, SoundHere, PartOf, InRange, IsSmall, meant_entries, meant_entry}
+use Rattle.output_module.proofs.link_worlds_lemmas.Live.{live_part, live_closed, live_root, ref_listed}
+use Rattle.output_module.proofs.link_worlds_lemmas.Functions.{find_part, live_apart}
+use Rattle.output_module.proofs.link_worlds_lemmas.Spaces.{outer_defined, kept_defined}
 use Rattle.link_facts.specs.Faults.{NoFault, Measured, ValuesFit}
 use Rattle.link_facts.proofs.Found.{found_none, mapped_none, small_at}
 use Rattle.link_facts.proofs.Segments.{end, rules, base_low, heap_high, heap_fits, stack_low, segment_lies}
@@ -199,7 +199,7 @@ module _ (law : ReachedLaw) (p : Program) (exports : List InputSymbol) (sound : 
           live_closed law p exports part (chunk_at e.input 1 e.index) g.2 (pick_has (λ (x : Ref). meant_chunk x.meaning) (refs part) ref (chunk_at e.input 1 e.index) g.3 (ap meant_chunk mean ∙ c)) (s.kept (chunk_at e.input 1 e.index) c))
         where
           as_here : {part : Part} (ref : Ref) → ref.meaning ≡ here e → SoundRef p part ref → SoundHere p ref e
-          as_here ref q r = subst (Rattle.link_worlds.specs.Sound.SoundMeaning p ref) q r.meant
+          as_here ref q r = subst (Rattle.output_module.specs.link_worlds.Sound.SoundMeaning p ref) q r.meant
 
   exported_small : (e : InputSymbol) → Has exports e → is_kind Datum e ≡ true → address_of Plain lay e < 2 ^ 32
   exported_small e h t =

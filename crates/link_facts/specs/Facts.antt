@@ -12,13 +12,13 @@ use Rattle.round_rules.specs.Rounds.{Candidate}
 use Rattle.link_plan.specs.declared.plan.Plan.{Plan}
 use Rattle.name_rules.specs.Entries.{InputSymbol}
 use Rattle.name_rules.specs.Cases.{clash_by}
-use Rattle.link_rules.specs.Program.{Program, program_of, Part, Ref, refs}
-use Rattle.link_rules.specs.Marks.{exported}
-use Rattle.link_rules.specs.Keys.{is_function_at}
-use Rattle.link_rules.specs.Values.{part_bytes}
-use Rattle.link_program.specs.declared.home.Home.{Home}
-use Rattle.link_program.specs.Loaded.{IsLoaded}
-use Rattle.link_worlds.specs.Sound.{Sound, SoundExports, IsConstant, IsGlobalPart}
+use Rattle.output_module.specs.link_rules.Program.{Program, program_of, Part, Ref, refs}
+use Rattle.output_module.specs.link_rules.Marks.{exported}
+use Rattle.output_module.specs.link_rules.Keys.{is_function_at}
+use Rattle.output_module.specs.link_rules.Values.{part_bytes}
+use Rattle.program_build.specs.link_program.declared.home.Home.{Home}
+use Rattle.program_build.specs.link_program.Loaded.{IsLoaded}
+use Rattle.output_module.specs.link_worlds.Sound.{Sound, SoundExports, IsConstant, IsGlobalPart}
 use Rattle.output_module.specs.Filled.{Reads}
 use Rattle.output_module.specs.Outputs.{IsCoded}
 use Rattle.link_facts.specs.Faults.{Measured}

@@ -5,16 +5,16 @@ use Rattle.linking_section.specs.declared.symbol.SymbolKind.TheVariants.{Datum}
 use Rattle.made_symbols.specs.declared.mode.Mode.TheVariants.{Plain}
 use Rattle.name_rules.specs.Entries.{InputSymbol, is_kind}
 use Rattle.run_rules.specs.declared.session.Session.{Session}
-use Rattle.link_rules.specs.Program.{Program, Part, chunk_at}
-use Rattle.link_rules.specs.Marks.{live, unresolved}
-use Rattle.link_rules.specs.Values.{Layout}
-use Rattle.link_rules.specs.Keys.{GlobalKey}
-use Rattle.link_rules.specs.Output.{source_windows}
-use Rattle.link_rules.specs.LinkOf.{memory_fault, table_fault, reference_fault}
-use Rattle.link_program.specs.Stand.{PartsStand}
-use Rattle.link_worlds.specs.Worlds.{layout_of}
-use Rattle.link_worlds.specs.Sound.{Sound, SoundExports, InRange, IsSmall, meant_entries}
-use Rattle.link_worlds.specs.Statements.{Holds}
+use Rattle.output_module.specs.link_rules.Program.{Program, Part, chunk_at}
+use Rattle.output_module.specs.link_rules.Marks.{live, unresolved}
+use Rattle.output_module.specs.link_rules.Values.{Layout}
+use Rattle.output_module.specs.link_rules.Keys.{GlobalKey}
+use Rattle.output_module.specs.link_rules.Output.{source_windows}
+use Rattle.output_module.specs.link_rules.LinkOf.{memory_fault, table_fault, reference_fault}
+use Rattle.program_build.specs.link_program.Stand.{PartsStand}
+use Rattle.output_module.specs.link_worlds.Worlds.{layout_of}
+use Rattle.output_module.specs.link_worlds.Sound.{Sound, SoundExports, InRange, IsSmall, meant_entries}
+use Rattle.output_module.specs.link_worlds.Statements.{Holds}
 
 -- No fault of the link applies.
 pub record NoFault (p : Program) (exports : List InputSymbol) (l : Layout) : Type 0 where

@@ -5,13 +5,13 @@ use Rattle.object_file.specs.declared.object.Object.{Object}
 use Rattle.object_file.specs.Sound.{Sound as ObjectSound}
 use Rattle.made_symbols.specs.declared.mode.Mode.TheVariants.{Plain}
 use Rattle.round_rules.specs.Rounds.{Candidate}
-use Rattle.name_entries.specs.View.{InputsRise}
+use Rattle.program_build.specs.name_entries.View.{InputsRise}
 use Rattle.name_rules.specs.Entries.{entries}
 use Rattle.name_rules.specs.Cases.{clash_by}
 use Rattle.link_plan.specs.declared.plan.Plan.{Plan}
-use Rattle.link_rules.specs.Program.{strict_program}
-use Rattle.link_rules.specs.Marks.{exported}
-use Rattle.link_worlds.specs.Sound.{Sound, SoundExports}
+use Rattle.output_module.specs.link_rules.Program.{strict_program}
+use Rattle.output_module.specs.link_rules.Marks.{exported}
+use Rattle.output_module.specs.link_worlds.Sound.{Sound, SoundExports}
 
 -- The objects were read, and their inputs rise.
 pub record AreLoaded (objects : List Object) : Type 0 where

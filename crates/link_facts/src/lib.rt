@@ -33,3 +33,5 @@ pub fn facts_hold()
     program_build::laws::strict_parts_stand();
     program_build::laws::parts_stand();
 }
+
+pub use output_module::{bodies_take_references, outputs_are_read, runs_agree};

@@ -17,13 +17,13 @@ use Rattle.link_program.specs.declared.program.Program.{Program as Data}
 use Rattle.link_program.specs.Program.{IsProgram}
 use Rattle.link_program.specs.Stand.{PartsStand}
 use Rattle.link_program.specs.Live.{AreLive, AllMeant}
-use Rattle.link_numbers.specs.Knows.{KnowsFunction, KnowsGlobal, KnowsGot}
-use Rattle.link_numbers.specs.Laws.{TellsNumbers, KnowsRef}
-use Rattle.link_numbers.proofs.link_keys_lemmas.Any.{all_each, all_filtered, all_map, all_none}
-use Rattle.link_numbers.proofs.Begun.{given_of}
-use Rattle.link_numbers.proofs.link_keys_lemmas.Equals.{holds_at}
-use Rattle.link_numbers.proofs.link_keys_lemmas.Imports.{import_equal, import_itself}
-use Rattle.link_numbers.proofs.Whole as whole
+use Rattle.link_layout.specs.link_numbers.Knows.{KnowsFunction, KnowsGlobal, KnowsGot}
+use Rattle.link_layout.specs.link_numbers.Laws.{TellsNumbers, KnowsRef}
+use Rattle.link_layout.proofs.link_numbers_lemmas.link_keys_lemmas.Any.{all_each, all_filtered, all_map, all_none}
+use Rattle.link_layout.proofs.link_numbers_lemmas.Begun.{given_of}
+use Rattle.link_layout.proofs.link_numbers_lemmas.link_keys_lemmas.Equals.{holds_at}
+use Rattle.link_layout.proofs.link_numbers_lemmas.link_keys_lemmas.Imports.{import_equal, import_itself}
+use Rattle.link_layout.proofs.link_numbers_lemmas.Whole as whole
 use Rattle.link_image.proofs.Lists.{given_is, all_chosen, not_true, all_mapped, first_ones, last_ones, held_all}
 use Rattle.link_image.proofs.Told.{TypedGlobal}
 

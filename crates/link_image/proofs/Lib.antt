@@ -5,3 +5,4 @@ pub mod Told
 pub mod Known
 pub mod Pieces
 pub mod Whole
+pub use Rattle.link_layout.proofs as link_layout_lemmas

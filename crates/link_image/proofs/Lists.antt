@@ -8,8 +8,8 @@ use Rattle.link_program.specs.wl_base.Choice.{given}
 use Rattle.link_program.specs.index_layout.Numbers.{number_by}
 use Rattle.link_program.specs.name_rules.Entries.{ImportKey, same_import}
 use Rattle.std.proofs.lemmas.Option.{slice_get-get_or}
-use Rattle.link_numbers.proofs.link_keys_lemmas.Equals.{stands, number_is, holds_at}
-use Rattle.link_numbers.proofs.link_keys_lemmas.Imports.{import_equal, import_itself}
+use Rattle.link_layout.proofs.link_numbers_lemmas.link_keys_lemmas.Equals.{stands, number_is, holds_at}
+use Rattle.link_layout.proofs.link_numbers_lemmas.link_keys_lemmas.Imports.{import_equal, import_itself}
 
 -- what is made of told items is what is made of the items
 pub filter_map_same : {A B C : Type 0} (h : B → Option C) (g : A → Option C) (told : A → B) (xs : List A) → All (λ x. h (told x) ≡ g x) xs → filter_map h (map told xs) ≡ filter_map g xs

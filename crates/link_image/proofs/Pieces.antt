@@ -37,8 +37,8 @@ use Rattle.link_program.specs.declared.symbol.Symbol.{Symbol}
 use Rattle.link_program.specs.Seen.{SeenContent, a_function, a_segment, a_global, the_linkers, seen_content, told_content, seen_named, told_named, no_symbol, SeenNamed, seen_symbol, seen_type}
 use Rattle.link_program.specs.Keys.{told_function, told_global, told_got, same_function_key}
 use Rattle.link_program.specs.Live.{AreLive}
-use Rattle.link_numbers.specs.Knows.{KnowsFunction, KnowsGlobal, KnowsGot}
-use Rattle.link_numbers.specs.Laws.{TellsNumbers, KnowsRef}
+use Rattle.link_layout.specs.link_numbers.Knows.{KnowsFunction, KnowsGlobal, KnowsGot}
+use Rattle.link_layout.specs.link_numbers.Laws.{TellsNumbers, KnowsRef}
 use Rattle.link_layout.specs.declared.values.Layout.{Layout}
 use Rattle.link_program.specs.Look.{part_at, row_at}
 use Rattle.link_layout.specs.Placed.{chunks_of, address_among}

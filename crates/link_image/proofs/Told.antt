@@ -22,8 +22,8 @@ use Rattle.link_program.specs.link_rules.Values as values
 use Rattle.link_program.specs.link_rules.Output as output
 use Rattle.link_program.specs.link_rules.Output.{imported_kind}
 use Rattle.link_program.specs.Keys.{told_function, told_global}
-use Rattle.link_numbers.specs.Knows.{KnowsFunction, KnowsGlobal}
-use Rattle.link_numbers.specs.Numbered.{is_import}
+use Rattle.link_layout.specs.link_numbers.Knows.{KnowsFunction, KnowsGlobal}
+use Rattle.link_layout.specs.link_numbers.Numbered.{is_import}
 use Rattle.link_image.specs.Imports.{kind_seen, import_seen, function_seen, global_seen, functions_seen}
 use Rattle.link_image.specs.Sections.{types_seen}
 use Rattle.link_image.proofs.Lists.{filter_map_same, import_there}

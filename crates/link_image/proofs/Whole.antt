@@ -28,7 +28,7 @@ use Rattle.link_program.specs.Keys.{told_function, told_global, same_function_ke
 use Rattle.link_program.specs.declared.keys.GlobalKey.{GlobalKey}
 use Rattle.link_program.specs.declared.keys.GlobalKey.TheVariants as globals
 use Rattle.link_program.specs.Live.{AreLive, Stage}
-use Rattle.link_numbers.specs.Knows.{KnowsFunction, KnowsGlobal}
+use Rattle.link_layout.specs.link_numbers.Knows.{KnowsFunction, KnowsGlobal}
 use Rattle.link_layout.specs.declared.values.Layout.{Layout}
 use Rattle.link_program.specs.Meant.{index_of}
 use Rattle.link_layout.specs.Layout.{looked, IsLayout}

@@ -41,7 +41,7 @@ use Rattle.link_program.specs.declared.keys.GlobalKey.{GlobalKey}
 use Rattle.link_program.specs.declared.keys.GlobalKey.TheVariants as globals
 use Rattle.link_program.specs.Keys.{same_function_key, same_global_key}
 use Rattle.link_program.specs.Seen.{no_symbol}
-use Rattle.link_numbers.specs.Numbered.{Numbered}
+use Rattle.link_layout.specs.link_numbers.Numbered.{Numbered}
 use Rattle.link_program.specs.image_emit.declared.tree.Image.{Image}
 use Rattle.link_program.specs.link_rules.Program.{Program}
 use Rattle.link_program.specs.link_rules.Marks.{export_name}

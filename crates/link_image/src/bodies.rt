@@ -10,8 +10,7 @@ ghost use Rattle.link_layout.specs.Layout.{looked};
 ghost use Rattle.link_image.specs.Sections.{call_seen, calls_seen, file_seen, body_seen, is_plain};
 
 use image_emit::Source;
-use link_layout::Layout;
-use link_numbers::Numbering;
+use link_layout::{Layout, Numbering};
 use link_program::{
     FunctionKey, Named, Symbol, Tables, chunk_number, function_meant, part_at, row_at, symbol_at,
 };

@@ -10,9 +10,8 @@ ghost use Rattle.link_marks.specs.Names.{IsWinner};
 ghost use Rattle.link_marks.specs.About.{Exporting};
 ghost use Rattle.link_image.specs.Sections.{space_of, index_by, export_seen};
 
-use link_layout::Layout;
+use link_layout::{Layout, Numbering};
 use link_marks::export_name;
-use link_numbers::Numbering;
 use link_program::{Definition, GlobalKey, Program, Winner, function_of, index_of};
 use linking_section::SymbolKind;
 use std::alloc::Global;

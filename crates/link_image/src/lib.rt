@@ -12,4 +12,5 @@ mod memory;
 mod placed;
 mod types;
 
+pub use link_layout::{Layout, number, place_segments};
 pub use making::image;

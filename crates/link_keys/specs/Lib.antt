@@ -6,3 +6,4 @@ pub mod Asked
 pub mod Lists
 pub mod Firsts
 pub mod Types
+pub use Rattle.link_program.specs as link_program

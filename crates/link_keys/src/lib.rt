@@ -14,6 +14,9 @@ mod types;
 pub(crate) use codes::got_code;
 pub use codes::{Code, function_code, global_code};
 pub use firsts::At;
+pub use link_program::{
+    Entries, FunctionKey, GlobalKey, Named, Names, Program, Symbol, Tables, Winner, symbol_at,
+};
 pub use lists::{function_codes, functions_listed, global_codes, globals_listed, slots_taken};
 pub use marking::marks_of;
 pub use marks::Marks;

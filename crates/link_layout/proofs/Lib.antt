@@ -12,3 +12,4 @@ pub mod KeysTold
 pub mod Told
 pub mod Windows
 pub mod Sources
+pub use Rattle.link_numbers.proofs as link_numbers_lemmas

@@ -5,3 +5,4 @@ pub mod Layout
 pub mod Sources
 pub mod Parts
 pub mod PartLaws
+pub use Rattle.link_numbers.specs as link_numbers

@@ -11,5 +11,6 @@ mod sharing;
 mod usual;
 mod values;
 
+pub use link_numbers::{Numbering, number};
 pub use placing::{Placed, place_segments};
 pub use values::Layout;

@@ -12,3 +12,4 @@ mod Known
 mod Opened
 mod Whole
 mod AllMeant
+pub use Rattle.link_program.proofs as link_program_lemmas

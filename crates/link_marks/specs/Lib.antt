@@ -5,3 +5,4 @@ pub mod About
 pub mod Names
 pub mod Open
 pub mod Laws
+pub use Rattle.link_program.specs as link_program

@@ -1,24 +1,24 @@
 -- What a program that is told gives.
 use Rattle.std.proofs.Common.{◌≡◌, ℕ, ◌++◌, List, map, length, Option, Result, ap, sym, subst, ◌∙◌}
 use Rattle.std.proofs.lemmas.List.{length-map}
-use Rattle.link_program.specs.object_file.declared.object.Object.{Object}
-use Rattle.link_program.specs.wl_base.declared.layout_error.LayoutError.{LayoutError}
-use Rattle.link_program.specs.made_symbols.declared.mode.Mode.TheVariants.{Plain}
-use Rattle.link_program.specs.name_rules.Entries.{InputSymbol}
-use Rattle.link_program.specs.link_names.Numbered.{Numbered as Names, symbol_number}
-use Rattle.link_program.specs.name_entries.declared.lookups.Entries.{Entries}
-use Rattle.link_program.specs.name_entries.Fits.{FitsObjects}
-use Rattle.link_program.specs.table_layout.Slots.{table_overflow}
-use Rattle.link_program.specs.link_rules.Program as rules
-use Rattle.link_program.specs.link_rules.LinkOf.{asked_names}
-use Rattle.link_program.specs.link_rules.Keys.{numbers}
-use Rattle.link_program.specs.declared.program.Program.{Program}
-use Rattle.link_program.specs.declared.symbol.Winner.{Winner}
-use Rattle.link_program.specs.Told.{told_winner}
-use Rattle.link_program.specs.Keys.{told_function}
-use Rattle.link_program.specs.Program.{IsProgram}
-use Rattle.link_program.specs.Stand.{PartsStand}
-use Rattle.link_program.specs.Live.{AreLive, AllMeant}
+use Rattle.link_keys.specs.link_program.object_file.declared.object.Object.{Object}
+use Rattle.link_keys.specs.link_program.wl_base.declared.layout_error.LayoutError.{LayoutError}
+use Rattle.link_keys.specs.link_program.made_symbols.declared.mode.Mode.TheVariants.{Plain}
+use Rattle.link_keys.specs.link_program.name_rules.Entries.{InputSymbol}
+use Rattle.link_keys.specs.link_program.link_names.Numbered.{Numbered as Names, symbol_number}
+use Rattle.link_keys.specs.link_program.name_entries.declared.lookups.Entries.{Entries}
+use Rattle.link_keys.specs.link_program.name_entries.Fits.{FitsObjects}
+use Rattle.link_keys.specs.link_program.table_layout.Slots.{table_overflow}
+use Rattle.link_keys.specs.link_program.link_rules.Program as rules
+use Rattle.link_keys.specs.link_program.link_rules.LinkOf.{asked_names}
+use Rattle.link_keys.specs.link_program.link_rules.Keys.{numbers}
+use Rattle.link_keys.specs.link_program.declared.program.Program.{Program}
+use Rattle.link_keys.specs.link_program.declared.symbol.Winner.{Winner}
+use Rattle.link_keys.specs.link_program.Told.{told_winner}
+use Rattle.link_keys.specs.link_program.Keys.{told_function}
+use Rattle.link_keys.specs.link_program.Program.{IsProgram}
+use Rattle.link_keys.specs.link_program.Stand.{PartsStand}
+use Rattle.link_keys.specs.link_program.Live.{AreLive, AllMeant}
 use Rattle.link_numbers.specs.Numbered.{Numbered, IsNumbering, TellsOverflow, numbered}
 use Rattle.link_numbers.proofs.Whole.{Given, numbering_is}
 

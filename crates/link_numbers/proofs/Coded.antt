@@ -1,10 +1,10 @@
 -- Numbers of keys by their codes.
 use Rattle.std.proofs.Common.{◌≡◌, ℕ, ◌+◌, ◌<◌, ◌^◌, List, map, length, position, Option, Some, None, unwrap_or, refl, sym, ap, ◌∙◌, arith}
 use Rattle.std.proofs.lemmas.List.Quantifiers.{position-Some}
-use Rattle.link_program.specs.index_layout.Numbers.{number_by}
-use Rattle.link_program.specs.declared.keys.FunctionKey.{FunctionKey}
-use Rattle.link_program.specs.declared.keys.GlobalKey.{GlobalKey}
-use Rattle.link_program.specs.Keys.{same_function_key, same_global_key}
+use Rattle.link_keys.specs.link_program.index_layout.Numbers.{number_by}
+use Rattle.link_keys.specs.link_program.declared.keys.FunctionKey.{FunctionKey}
+use Rattle.link_keys.specs.link_program.declared.keys.GlobalKey.{GlobalKey}
+use Rattle.link_keys.specs.link_program.Keys.{same_function_key, same_global_key}
 use Rattle.link_keys.specs.Codes.{same_code, function_code, global_code}
 use Rattle.link_numbers.specs.Places.{place_of}
 use Rattle.link_numbers.proofs.Knows.{same_function_code, same_global_code}

@@ -1,14 +1,14 @@
 -- The numbers are composed of what each step gives.
 use Rattle.std.proofs.Common.{◌≡◌, ℕ, List, map, length, replicate, Option, None, Result, ap, subst, ◌∙◌}
 use Rattle.std.specs.Prelude.{IfOk}
-use Rattle.link_program.specs.wl_base.declared.layout_error.LayoutError.{LayoutError}
-use Rattle.link_program.specs.object_file.declared.object.Object.{Object}
-use Rattle.link_program.specs.name_rules.Entries.{ImportKey}
-use Rattle.link_program.specs.table_layout.Slots.{table_overflow}
-use Rattle.link_program.specs.declared.symbol.Winner.{Winner}
-use Rattle.link_program.specs.declared.keys.FunctionKey.{FunctionKey}
-use Rattle.link_program.specs.declared.keys.GlobalKey.{GlobalKey}
-use Rattle.link_program.specs.declared.program.Tables.{Tables}
+use Rattle.link_keys.specs.link_program.wl_base.declared.layout_error.LayoutError.{LayoutError}
+use Rattle.link_keys.specs.link_program.object_file.declared.object.Object.{Object}
+use Rattle.link_keys.specs.link_program.name_rules.Entries.{ImportKey}
+use Rattle.link_keys.specs.link_program.table_layout.Slots.{table_overflow}
+use Rattle.link_keys.specs.link_program.declared.symbol.Winner.{Winner}
+use Rattle.link_keys.specs.link_program.declared.keys.FunctionKey.{FunctionKey}
+use Rattle.link_keys.specs.link_program.declared.keys.GlobalKey.{GlobalKey}
+use Rattle.link_keys.specs.link_program.declared.program.Tables.{Tables}
 use Rattle.link_keys.specs.declared.firsts.At.{At}
 use Rattle.link_keys.specs.Firsts.{firsts_rows}
 use Rattle.link_keys.specs.Noted.{Noted, noted_parts, nothing_noted}

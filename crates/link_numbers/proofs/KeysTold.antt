@@ -5,31 +5,31 @@ use Rattle.std.specs.List.{list_any, All, cons_option}
 use Rattle.std.proofs.lemmas.Bool.Decides.{nat_tests}
 use Rattle.std.proofs.lemmas.List.{map-append}
 use Rattle.std.proofs.lemmas.List.Elements.{All-head, All-tail, All-cons, All-append, filter_map-append, filter-append}
-use Rattle.link_program.specs.wl_base.Choice.{distinct, given}
-use Rattle.link_program.specs.index_layout.Numbers.{number_by}
-use Rattle.link_program.specs.linking_section.declared.symbol.SymbolKind.TheVariants.{Function, Datum, GlobalVar}
-use Rattle.link_program.specs.linking_section.Flags.{kind_code}
-use Rattle.link_program.specs.mark_bits.declared.chunk.Chunk.{Chunk}
-use Rattle.link_program.specs.made_symbols.declared.mode.Mode.TheVariants.{Plain}
-use Rattle.link_program.specs.name_rules.Entries.{InputSymbol, ImportKey, same_import, is_kind, name_of}
-use Rattle.link_program.specs.name_rules.Meanings.{Meaning, here, imported, null, nothing}
-use Rattle.link_program.specs.link_rules.Program as rules
-use Rattle.link_program.specs.link_rules.Program.{Ref, refs}
-use Rattle.link_program.specs.link_rules.Marks.{refs_of, reads_cell}
-use Rattle.link_program.specs.link_rules.Keys as keys
-use Rattle.link_program.specs.link_rules.Keys.{outside, linker_function, stub, own, same_function, got_entry, got_import, got_null, same_got, outside_global, linker_global, own_global, got, exported_datum, meant_function, ref_function, got_of, ref_got, is_null, takes_slot, is_taken, made_function_key, own_function_key, made_global_key, own_global_key, got_entries, parts_of_kind, needs_got, datum_key}
-use Rattle.link_program.specs.declared.symbol.Winner.{Winner}
-use Rattle.link_program.specs.declared.keys.FunctionKey.{FunctionKey}
-use Rattle.link_program.specs.declared.keys.FunctionKey.TheVariants as functions
-use Rattle.link_program.specs.declared.keys.GotKey.{GotKey}
-use Rattle.link_program.specs.declared.keys.GlobalKey.{GlobalKey}
-use Rattle.link_program.specs.declared.keys.GlobalKey.TheVariants as globals
-use Rattle.link_program.specs.Told.{told_definition, told_lead, told_winner}
-use Rattle.link_program.specs.Keys.{told_function, told_got, told_global, same_function_key, same_got_key}
+use Rattle.link_keys.specs.link_program.wl_base.Choice.{distinct, given}
+use Rattle.link_keys.specs.link_program.index_layout.Numbers.{number_by}
+use Rattle.link_keys.specs.link_program.linking_section.declared.symbol.SymbolKind.TheVariants.{Function, Datum, GlobalVar}
+use Rattle.link_keys.specs.link_program.linking_section.Flags.{kind_code}
+use Rattle.link_keys.specs.link_program.mark_bits.declared.chunk.Chunk.{Chunk}
+use Rattle.link_keys.specs.link_program.made_symbols.declared.mode.Mode.TheVariants.{Plain}
+use Rattle.link_keys.specs.link_program.name_rules.Entries.{InputSymbol, ImportKey, same_import, is_kind, name_of}
+use Rattle.link_keys.specs.link_program.name_rules.Meanings.{Meaning, here, imported, null, nothing}
+use Rattle.link_keys.specs.link_program.link_rules.Program as rules
+use Rattle.link_keys.specs.link_program.link_rules.Program.{Ref, refs}
+use Rattle.link_keys.specs.link_program.link_rules.Marks.{refs_of, reads_cell}
+use Rattle.link_keys.specs.link_program.link_rules.Keys as keys
+use Rattle.link_keys.specs.link_program.link_rules.Keys.{outside, linker_function, stub, own, same_function, got_entry, got_import, got_null, same_got, outside_global, linker_global, own_global, got, exported_datum, meant_function, ref_function, got_of, ref_got, is_null, takes_slot, is_taken, made_function_key, own_function_key, made_global_key, own_global_key, got_entries, parts_of_kind, needs_got, datum_key}
+use Rattle.link_keys.specs.link_program.declared.symbol.Winner.{Winner}
+use Rattle.link_keys.specs.link_program.declared.keys.FunctionKey.{FunctionKey}
+use Rattle.link_keys.specs.link_program.declared.keys.FunctionKey.TheVariants as functions
+use Rattle.link_keys.specs.link_program.declared.keys.GotKey.{GotKey}
+use Rattle.link_keys.specs.link_program.declared.keys.GlobalKey.{GlobalKey}
+use Rattle.link_keys.specs.link_program.declared.keys.GlobalKey.TheVariants as globals
+use Rattle.link_keys.specs.link_program.Told.{told_definition, told_lead, told_winner}
+use Rattle.link_keys.specs.link_program.Keys.{told_function, told_got, told_global, same_function_key, same_got_key}
 use Rattle.link_keys.specs.declared.codes.Code.{Code}
 use Rattle.link_keys.specs.Codes.{same_code, function_code}
 use Rattle.link_keys.specs.LiveRefs.{LiveRef}
-use Rattle.link_program.specs.Meant.{function_of, cell_meant}
+use Rattle.link_keys.specs.link_program.Meant.{function_of, cell_meant}
 use Rattle.link_keys.specs.Noted.{where_so, function_meant, asks_slot, function_taken, cell_read}
 use Rattle.link_keys.specs.Lists.{is_made_by, is_own, own_function_in, own_global_in, is_taken_code, slots_listed, datum_listed}
 use Rattle.link_numbers.specs.Knows.{KnowsFunction, KnowsGot}

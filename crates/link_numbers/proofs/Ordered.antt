@@ -6,7 +6,7 @@ use Rattle.std.proofs.lemmas.List.{append-nil}
 use Rattle.std.proofs.lemmas.List.Elements.{All-head, All-tail, filter-append}
 use Rattle.std.proofs.lemmas.List.Folds.{list_any-append}
 use Rattle.std.proofs.lemmas.Option.{slice_get-get_or}
-use Rattle.link_program.specs.wl_base.Choice.{distinct, distinct_onto}
+use Rattle.link_keys.specs.link_program.wl_base.Choice.{distinct, distinct_onto}
 use Rattle.link_keys.proofs.Any.{any_left, any_right}
 use Rattle.link_keys.proofs.Equals.{OnePlace, one_place, holds_at, holds_distinct, filter_distinct_onto, settled}
 use Rattle.link_keys.proofs.Heard.{onto_append}

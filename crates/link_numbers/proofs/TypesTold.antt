@@ -8,24 +8,24 @@ use Rattle.std.proofs.lemmas.List.{length-map, length-append}
 use Rattle.std.proofs.lemmas.List.Elements.{All-head, All-tail}
 use Rattle.std.proofs.lemmas.List.Folds.{find-append}
 use Rattle.std.proofs.lemmas.Option.{slice_get-map, slice_get-get_or, get_or_from_slice_get}
-use Rattle.link_program.specs.wl_base.Choice.{distinct}
-use Rattle.link_program.specs.wasm_types.declared.function.FuncType.{FuncType}
-use Rattle.link_program.specs.object_file.declared.object.Object.{Object}
-use Rattle.link_program.specs.object_file.Spaces.{no_type}
-use Rattle.link_program.specs.mark_bits.declared.chunk.Chunk.{Chunk}
-use Rattle.link_program.specs.made_symbols.declared.mode.Mode.TheVariants.{Plain}
-use Rattle.link_program.specs.made_symbols.Made.{made}
-use Rattle.link_program.specs.index_layout.Numbers.{number_by}
-use Rattle.link_program.specs.name_rules.Entries.{InputSymbol, ImportKey, same_import, is_entry, is_named, name_of, symbols_of, entries, made_from}
-use Rattle.link_program.specs.name_rules.Cases.{first_entry}
-use Rattle.link_program.specs.name_entries.View.{entry_at}
-use Rattle.link_program.specs.link_rules.Program as rules
-use Rattle.link_program.specs.link_rules.Keys as keys
-use Rattle.link_program.specs.link_rules.Keys.{outside, linker_function, stub, own, function_type_of, content_type, entry_type, part_type, is_function_at, type_of, made_function_key, own_function_key}
-use Rattle.link_program.specs.declared.program.Tables.{Tables}
-use Rattle.link_program.specs.Program.{AreTables, ChunksDiffer, variant_names, variant_type}
+use Rattle.link_keys.specs.link_program.wl_base.Choice.{distinct}
+use Rattle.link_keys.specs.link_program.wasm_types.declared.function.FuncType.{FuncType}
+use Rattle.link_keys.specs.link_program.object_file.declared.object.Object.{Object}
+use Rattle.link_keys.specs.link_program.object_file.Spaces.{no_type}
+use Rattle.link_keys.specs.link_program.mark_bits.declared.chunk.Chunk.{Chunk}
+use Rattle.link_keys.specs.link_program.made_symbols.declared.mode.Mode.TheVariants.{Plain}
+use Rattle.link_keys.specs.link_program.made_symbols.Made.{made}
+use Rattle.link_keys.specs.link_program.index_layout.Numbers.{number_by}
+use Rattle.link_keys.specs.link_program.name_rules.Entries.{InputSymbol, ImportKey, same_import, is_entry, is_named, name_of, symbols_of, entries, made_from}
+use Rattle.link_keys.specs.link_program.name_rules.Cases.{first_entry}
+use Rattle.link_keys.specs.link_program.name_entries.View.{entry_at}
+use Rattle.link_keys.specs.link_program.link_rules.Program as rules
+use Rattle.link_keys.specs.link_program.link_rules.Keys as keys
+use Rattle.link_keys.specs.link_program.link_rules.Keys.{outside, linker_function, stub, own, function_type_of, content_type, entry_type, part_type, is_function_at, type_of, made_function_key, own_function_key}
+use Rattle.link_keys.specs.link_program.declared.program.Tables.{Tables}
+use Rattle.link_keys.specs.link_program.Program.{AreTables, ChunksDiffer, variant_names, variant_type}
 use Rattle.link_keys.specs.declared.firsts.At.{At}
-use Rattle.link_program.specs.Look.{part_at}
+use Rattle.link_keys.specs.link_program.Look.{part_at}
 use Rattle.link_keys.specs.Noted.{where_so}
 use Rattle.link_keys.specs.Lists.{is_own}
 use Rattle.link_keys.specs.Types.{StubTypes, type_at, stub_by, stub_type, kept_type, content_type_at, type_in, own_types, symbol_type, first_type}

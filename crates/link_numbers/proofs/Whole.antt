@@ -6,30 +6,30 @@ use Rattle.std.proofs.lemmas.List.{map-append}
 use Rattle.std.proofs.lemmas.List.Sums.{fold-append}
 use Rattle.std.proofs.lemmas.List.Elements.{All-append, All-head, All-tail, All-cons, All-map}
 use Rattle.std.proofs.lemmas.Option.{slice_get-get_or}
-use Rattle.link_program.specs.wl_base.Choice.{distinct, distinct_onto, given}
-use Rattle.link_program.specs.wasm_types.declared.function.FuncType.{FuncType}
-use Rattle.link_program.specs.object_file.declared.object.Object.{Object}
-use Rattle.link_program.specs.made_symbols.declared.mode.Mode.TheVariants.{Plain}
-use Rattle.link_program.specs.made_symbols.Made.{made}
-use Rattle.link_program.specs.index_layout.Numbers.{number_by}
-use Rattle.link_program.specs.name_rules.Entries.{InputSymbol, ImportKey, same_import, name_of, is_named, is_entry, is_kind, made_from, entries, symbols_of}
-use Rattle.link_program.specs.linking_section.declared.symbol.SymbolKind.TheVariants.{Datum, GlobalVar}
-use Rattle.link_program.specs.name_rules.Meanings.{Meaning, here, imported, null, nothing, resolve}
-use Rattle.link_program.specs.link_names.Numbered.{symbol_number, entry_names, group_names, all_names, different_names}
-use Rattle.link_program.specs.link_rules.Program as rules
-use Rattle.link_program.specs.link_rules.Program.{Ref, refs, loose_variants}
-use Rattle.link_program.specs.link_rules.Marks.{refs_of}
-use Rattle.link_program.specs.link_rules.Keys as keys
-use Rattle.link_program.specs.link_rules.Keys.{outside, linker_function, stub, own, got, outside_global, linker_global, own_global, exported_datum, same_function, same_got, same_global, is_taken, is_null, meant_global, imports_in_order, import_of, has_import, used_imports, imports_by, is_function_type, is_global_type, function_imports_of, stub_names, made_function_key, own_function_key, functions, callable, slots, global_imports_in, made_globals, made_global_key, own_global_key, got_entries, parts_of_kind, ref_got, datum_key, globals, window_types, type_of, types, numbers}
-use Rattle.link_program.specs.declared.keys.FunctionKey.TheVariants as function_keys
-use Rattle.link_program.specs.declared.keys.GlobalKey.TheVariants as global_keys
-use Rattle.link_program.specs.declared.symbol.Winner.{Winner}
-use Rattle.link_program.specs.declared.program.Tables.{Tables}
-use Rattle.link_program.specs.Told.{told_winner}
-use Rattle.link_program.specs.Keys.{told_function, told_got, told_global, same_function_key, same_got_key, same_global_key}
-use Rattle.link_program.specs.Stand.{PartsStand}
-use Rattle.link_program.specs.Program.{AreTables, variant_names}
-use Rattle.link_program.specs.Live.{AllMeant}
+use Rattle.link_keys.specs.link_program.wl_base.Choice.{distinct, distinct_onto, given}
+use Rattle.link_keys.specs.link_program.wasm_types.declared.function.FuncType.{FuncType}
+use Rattle.link_keys.specs.link_program.object_file.declared.object.Object.{Object}
+use Rattle.link_keys.specs.link_program.made_symbols.declared.mode.Mode.TheVariants.{Plain}
+use Rattle.link_keys.specs.link_program.made_symbols.Made.{made}
+use Rattle.link_keys.specs.link_program.index_layout.Numbers.{number_by}
+use Rattle.link_keys.specs.link_program.name_rules.Entries.{InputSymbol, ImportKey, same_import, name_of, is_named, is_entry, is_kind, made_from, entries, symbols_of}
+use Rattle.link_keys.specs.link_program.linking_section.declared.symbol.SymbolKind.TheVariants.{Datum, GlobalVar}
+use Rattle.link_keys.specs.link_program.name_rules.Meanings.{Meaning, here, imported, null, nothing, resolve}
+use Rattle.link_keys.specs.link_program.link_names.Numbered.{symbol_number, entry_names, group_names, all_names, different_names}
+use Rattle.link_keys.specs.link_program.link_rules.Program as rules
+use Rattle.link_keys.specs.link_program.link_rules.Program.{Ref, refs, loose_variants}
+use Rattle.link_keys.specs.link_program.link_rules.Marks.{refs_of}
+use Rattle.link_keys.specs.link_program.link_rules.Keys as keys
+use Rattle.link_keys.specs.link_program.link_rules.Keys.{outside, linker_function, stub, own, got, outside_global, linker_global, own_global, exported_datum, same_function, same_got, same_global, is_taken, is_null, meant_global, imports_in_order, import_of, has_import, used_imports, imports_by, is_function_type, is_global_type, function_imports_of, stub_names, made_function_key, own_function_key, functions, callable, slots, global_imports_in, made_globals, made_global_key, own_global_key, got_entries, parts_of_kind, ref_got, datum_key, globals, window_types, type_of, types, numbers}
+use Rattle.link_keys.specs.link_program.declared.keys.FunctionKey.TheVariants as function_keys
+use Rattle.link_keys.specs.link_program.declared.keys.GlobalKey.TheVariants as global_keys
+use Rattle.link_keys.specs.link_program.declared.symbol.Winner.{Winner}
+use Rattle.link_keys.specs.link_program.declared.program.Tables.{Tables}
+use Rattle.link_keys.specs.link_program.Told.{told_winner}
+use Rattle.link_keys.specs.link_program.Keys.{told_function, told_got, told_global, same_function_key, same_got_key, same_global_key}
+use Rattle.link_keys.specs.link_program.Stand.{PartsStand}
+use Rattle.link_keys.specs.link_program.Program.{AreTables, variant_names}
+use Rattle.link_keys.specs.link_program.Live.{AllMeant}
 use Rattle.link_keys.specs.declared.firsts.At.{At}
 use Rattle.link_keys.specs.Codes.{same_code, function_code}
 use Rattle.link_keys.specs.LiveRefs.{live_refs, window_numbers}

@@ -1,12 +1,12 @@
 -- What the told numbers of keys are.
 use Rattle.std.specs.Prelude.{◌≡◌, ℕ, true, List, map}
-use Rattle.link_program.specs.index_layout.Numbers.{number_by}
-use Rattle.link_program.specs.made_symbols.declared.mode.Mode.TheVariants.{Plain}
-use Rattle.link_program.specs.name_rules.Entries.{ImportKey, is_entry}
-use Rattle.link_program.specs.link_rules.Program.{Ref}
-use Rattle.link_program.specs.link_rules.Keys as keys
-use Rattle.link_program.specs.link_rules.Keys.{same_function, same_global, ref_function, ref_global, is_null}
-use Rattle.link_program.specs.Keys.{told_function, told_global, same_function_key, same_global_key}
+use Rattle.link_keys.specs.link_program.index_layout.Numbers.{number_by}
+use Rattle.link_keys.specs.link_program.made_symbols.declared.mode.Mode.TheVariants.{Plain}
+use Rattle.link_keys.specs.link_program.name_rules.Entries.{ImportKey, is_entry}
+use Rattle.link_keys.specs.link_program.link_rules.Program.{Ref}
+use Rattle.link_keys.specs.link_program.link_rules.Keys as keys
+use Rattle.link_keys.specs.link_program.link_rules.Keys.{same_function, same_global, ref_function, ref_global, is_null}
+use Rattle.link_keys.specs.link_program.Keys.{told_function, told_global, same_function_key, same_global_key}
 use Rattle.link_numbers.specs.Knows.{KnowsFunction, KnowsGlobal}
 
 -- The number of a known key, as it is told, is its number.

@@ -1,21 +1,21 @@
 -- All numbers of the output, as data.
 use Rattle.std.specs.Prelude.{◌≡◌, ℕ, Bool, true, false, List, map, length, replicate, Option, Some, None, option_map, Result, Ok, Err, pos}
-use Rattle.link_program.specs.wl_base.declared.fault.What.TheVariants.{TableSize}
-use Rattle.link_program.specs.wl_base.declared.layout_error.LayoutError.{LayoutError}
-use Rattle.link_program.specs.wl_base.declared.layout_error.LayoutError.TheVariants.{Overflow, OutOfMemory}
-use Rattle.link_program.specs.wasm_types.declared.function.FuncType.{FuncType}
-use Rattle.link_program.specs.object_file.declared.object.Object.{Object}
-use Rattle.link_program.specs.name_rules.Entries.{InputSymbol, ImportKey}
-use Rattle.link_program.specs.link_rules.Program as rules
-use Rattle.link_program.specs.link_rules.Keys as keys
-use Rattle.link_program.specs.link_rules.Keys.{type_of}
-use Rattle.link_program.specs.declared.symbol.Winner.{Winner}
-use Rattle.link_program.specs.declared.keys.FunctionKey.{FunctionKey}
-use Rattle.link_program.specs.declared.keys.FunctionKey.TheVariants as functions
-use Rattle.link_program.specs.declared.keys.GlobalKey.{GlobalKey}
-use Rattle.link_program.specs.declared.keys.GlobalKey.TheVariants as globals
-use Rattle.link_program.specs.declared.program.Tables.{Tables}
-use Rattle.link_program.specs.Keys.{told_function, told_global}
+use Rattle.link_keys.specs.link_program.wl_base.declared.fault.What.TheVariants.{TableSize}
+use Rattle.link_keys.specs.link_program.wl_base.declared.layout_error.LayoutError.{LayoutError}
+use Rattle.link_keys.specs.link_program.wl_base.declared.layout_error.LayoutError.TheVariants.{Overflow, OutOfMemory}
+use Rattle.link_keys.specs.link_program.wasm_types.declared.function.FuncType.{FuncType}
+use Rattle.link_keys.specs.link_program.object_file.declared.object.Object.{Object}
+use Rattle.link_keys.specs.link_program.name_rules.Entries.{InputSymbol, ImportKey}
+use Rattle.link_keys.specs.link_program.link_rules.Program as rules
+use Rattle.link_keys.specs.link_program.link_rules.Keys as keys
+use Rattle.link_keys.specs.link_program.link_rules.Keys.{type_of}
+use Rattle.link_keys.specs.link_program.declared.symbol.Winner.{Winner}
+use Rattle.link_keys.specs.link_program.declared.keys.FunctionKey.{FunctionKey}
+use Rattle.link_keys.specs.link_program.declared.keys.FunctionKey.TheVariants as functions
+use Rattle.link_keys.specs.link_program.declared.keys.GlobalKey.{GlobalKey}
+use Rattle.link_keys.specs.link_program.declared.keys.GlobalKey.TheVariants as globals
+use Rattle.link_keys.specs.link_program.declared.program.Tables.{Tables}
+use Rattle.link_keys.specs.link_program.Keys.{told_function, told_global}
 use Rattle.link_keys.specs.Firsts.{firsts_rows}
 use Rattle.link_keys.specs.Noted.{Noted, noted_parts, nothing_noted}
 use Rattle.link_keys.specs.Lists.{functions_listed, slots_listed, globals_listed}

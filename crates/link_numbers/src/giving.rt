@@ -1,15 +1,15 @@
 //! The numbers of the live parts of a program.
 ghost use Rattle.std.specs.Prelude.{◌≡◌, ◌+◌, ◌<◌, ◌^◌, List, map, length, IfOk};
-ghost use Rattle.link_program.specs.index_layout.Numbers.{number_by};
-ghost use Rattle.link_program.specs.made_symbols.declared.mode.Mode.TheVariants as modes;
-ghost use Rattle.link_program.specs.name_entries.Fits.{FitsObjects, Fits};
-ghost use Rattle.link_program.specs.table_layout.Slots.{table_overflow};
-ghost use Rattle.link_program.specs.link_rules.Keys.{numbers};
-ghost use Rattle.link_program.specs.Told.{told_winner};
-ghost use Rattle.link_program.specs.Keys.{same_function_key};
-ghost use Rattle.link_program.specs.Program.{IsProgram};
-ghost use Rattle.link_program.specs.Stand.{PartsStand};
-ghost use Rattle.link_program.specs.Live.{AreLive, AllMeant};
+ghost use Rattle.link_keys.specs.link_program.index_layout.Numbers.{number_by};
+ghost use Rattle.link_keys.specs.link_program.made_symbols.declared.mode.Mode.TheVariants as modes;
+ghost use Rattle.link_keys.specs.link_program.name_entries.Fits.{FitsObjects, Fits};
+ghost use Rattle.link_keys.specs.link_program.table_layout.Slots.{table_overflow};
+ghost use Rattle.link_keys.specs.link_program.link_rules.Keys.{numbers};
+ghost use Rattle.link_keys.specs.link_program.Told.{told_winner};
+ghost use Rattle.link_keys.specs.link_program.Keys.{same_function_key};
+ghost use Rattle.link_keys.specs.link_program.Program.{IsProgram};
+ghost use Rattle.link_keys.specs.link_program.Stand.{PartsStand};
+ghost use Rattle.link_keys.specs.link_program.Live.{AreLive, AllMeant};
 ghost use Rattle.link_keys.specs.Codes.{function_code, global_code};
 ghost use Rattle.link_numbers.specs.Places.{ArePlaces};
 ghost use Rattle.link_keys.specs.Lists.{slots_listed};
@@ -19,10 +19,10 @@ ghost use Rattle.link_numbers.specs.Numbered.{Linked, IsNumbering, TellsOverflow
 use crate::numbering::Numbering;
 use crate::places::Places;
 use link_keys::{
-    Marks, TypeNumbers, function_code, function_codes, functions_listed, global_codes,
-    globals_listed, marks_of, numbers_in, slots_taken, types_told,
+    Entries, FunctionKey, GlobalKey, Marks, Program, TypeNumbers, Winner, function_code,
+    function_codes, functions_listed, global_codes, globals_listed, marks_of, numbers_in,
+    slots_taken, types_told,
 };
-use link_program::{Entries, FunctionKey, GlobalKey, Program, Winner};
 use std::alloc::Global;
 use std::thread::Threads;
 use wasm_types::FuncType;

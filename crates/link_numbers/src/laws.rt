@@ -1,14 +1,14 @@
 //! What holds of keys and numbers, as a call that does nothing: its contract is the law.
 ghost use Rattle.std.specs.Prelude.{ℕ, List, All};
-ghost use Rattle.link_program.specs.made_symbols.declared.mode.Mode.TheVariants as modes;
-ghost use Rattle.link_program.specs.name_rules.Entries.{InputSymbol};
-ghost use Rattle.link_program.specs.link_rules.Program as rules;
-ghost use Rattle.link_program.specs.link_rules.Marks.{refs_of};
-ghost use Rattle.link_program.specs.link_rules.Keys.{numbers};
-ghost use Rattle.link_program.specs.declared.program.Program.{Program as Data};
-ghost use Rattle.link_program.specs.Program.{IsProgram};
-ghost use Rattle.link_program.specs.Stand.{PartsStand};
-ghost use Rattle.link_program.specs.Live.{AreLive, AllMeant};
+ghost use Rattle.link_keys.specs.link_program.made_symbols.declared.mode.Mode.TheVariants as modes;
+ghost use Rattle.link_keys.specs.link_program.name_rules.Entries.{InputSymbol};
+ghost use Rattle.link_keys.specs.link_program.link_rules.Program as rules;
+ghost use Rattle.link_keys.specs.link_program.link_rules.Marks.{refs_of};
+ghost use Rattle.link_keys.specs.link_program.link_rules.Keys.{numbers};
+ghost use Rattle.link_keys.specs.link_program.declared.program.Program.{Program as Data};
+ghost use Rattle.link_keys.specs.link_program.Program.{IsProgram};
+ghost use Rattle.link_keys.specs.link_program.Stand.{PartsStand};
+ghost use Rattle.link_keys.specs.link_program.Live.{AreLive, AllMeant};
 ghost use Rattle.link_numbers.specs.Laws.{TellsNumbers, KnowsRef};
 
 /// Of keys that are known, the numbers as they are told are the numbers; and what references of live parts name is known.

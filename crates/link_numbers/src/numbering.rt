@@ -1,12 +1,11 @@
 //! The numbers of all things of the output.
 ghost use Rattle.std.specs.Prelude.{◌≡◌, ◌+◌, ◌<◌, Some, length, map, filter, slice_get};
-ghost use Rattle.link_program.specs.index_layout.Numbers.{number_by};
-ghost use Rattle.link_program.specs.Keys.{same_function_key, same_global_key};
+ghost use Rattle.link_keys.specs.link_program.index_layout.Numbers.{number_by};
+ghost use Rattle.link_keys.specs.link_program.Keys.{same_function_key, same_global_key};
 ghost use Rattle.link_numbers.specs.Numbered.{is_import, is_import_global};
 
 use crate::places::Places;
-use link_keys::{function_code, global_code};
-use link_program::{FunctionKey, GlobalKey};
+use link_keys::{FunctionKey, GlobalKey, function_code, global_code};
 use std::marker::Model;
 use type_merge::TypeTable;
 use wasm_types::FuncType;
@@ -36,8 +35,8 @@ pub struct Numbering {
 
 impl Model for Numbering {
     ghost use Rattle.std.specs.Prelude.{◌≡◌, ◌+◌, ◌<◌, ◌≤◌, ◌^◌, map, take, length};
-    ghost use Rattle.link_program.specs.index_layout.Numbers.{number_by};
-    ghost use Rattle.link_program.specs.Keys.{same_function_key};
+    ghost use Rattle.link_keys.specs.link_program.index_layout.Numbers.{number_by};
+    ghost use Rattle.link_keys.specs.link_program.Keys.{same_function_key};
     ghost use Rattle.link_keys.specs.Codes.{function_code, global_code};
     ghost use Rattle.link_numbers.specs.Numbered.{Numbered};
     ghost use Rattle.link_numbers.specs.Places.{ArePlaces};

@@ -5,5 +5,6 @@ pub mod laws;
 mod measuring;
 mod writing;
 
+pub use link_program::{Entries, Home, LinkError, Object, Program, Winner};
 pub use measuring::measured;
 pub use writing::write;

@@ -2,11 +2,11 @@
 use Rattle.std.proofs.Common.{◌≡◌, ℕ, zero, suc, ◌+◌, ◌≤◌, ◌==◌, ◌&&◌, not, Bool, true, false, cond, List, [], ◌∷◌, ◌++◌, map, slice_get, Some, All, refl, sym, ap, subst, ◌∙◌, inl, inr, ◌⊎◌}
 use Rattle.std.specs.Prelude.{filter_map, is_some}
 use Rattle.std.proofs.lemmas.List.Elements.{All-cons, All-nil, All-head, All-tail}
-use Rattle.name_entries.specs.linking_section.Flags.{is_local_definition}
-use Rattle.name_entries.specs.name_rules.Entries.{InputSymbol, is_entry, name_of}
-use Rattle.name_entries.specs.name_rules.Cases.{passes, judge, mismatches}
-use Rattle.name_entries.specs.name_rules.Meanings.{Meaning, here, imported, null, nothing}
-use Rattle.name_entries.specs.name_rules.Meanings.{Resolved}
+use Rattle.name_meanings.specs.name_entries.linking_section.Flags.{is_local_definition}
+use Rattle.name_meanings.specs.name_entries.name_rules.Entries.{InputSymbol, is_entry, name_of}
+use Rattle.name_meanings.specs.name_entries.name_rules.Cases.{passes, judge, mismatches}
+use Rattle.name_meanings.specs.name_entries.name_rules.Meanings.{Meaning, here, imported, null, nothing}
+use Rattle.name_meanings.specs.name_entries.name_rules.Meanings.{Resolved}
 use Rattle.link_rules.specs.Program.{Program, Ref, Named, a_symbol, a_type, Part, named_ref, refs, is_mismatch, variant, variants_among, variants_of, loose_ref, loose_named, loose_part, loose_parts, loose_variants, loosened}
 use Rattle.link_program.specs.Stand.{NamedStand, named_place, named_size, IsSymbolOf, IsRefOf, PartStandsBy, PartStands}
 

@@ -1,9 +1,9 @@
 -- What a step of a link answers. Want of memory alone is free.
 use Rattle.std.specs.Prelude.{◌≡◌, Option, Some, None, Result, Ok, Err}
-use Rattle.name_entries.specs.wl_base.declared.fault.Fault.{Fault}
-use Rattle.name_entries.specs.wl_base.declared.fault.Fault.TheVariants.{Overflow}
-use Rattle.name_entries.specs.wl_base.declared.layout_error.LayoutError.{LayoutError}
-use Rattle.name_entries.specs.wl_base.declared.layout_error.LayoutError.TheVariants as layouts
+use Rattle.name_meanings.specs.name_entries.wl_base.declared.fault.Fault.{Fault}
+use Rattle.name_meanings.specs.name_entries.wl_base.declared.fault.Fault.TheVariants.{Overflow}
+use Rattle.name_meanings.specs.name_entries.wl_base.declared.layout_error.LayoutError.{LayoutError}
+use Rattle.name_meanings.specs.name_entries.wl_base.declared.layout_error.LayoutError.TheVariants as layouts
 use Rattle.link_program.specs.declared.error.LinkError.{LinkError}
 use Rattle.link_program.specs.declared.error.LinkError.TheVariants.{Refused, OutOfMemory}
 

@@ -1,8 +1,8 @@
 -- What the data tell of the keys of the definition's numbered things, and when two such keys are one.
 use Rattle.std.specs.Prelude.{ℕ, ◌==◌, Bool, false, ◌&&◌, List, Option, unwrap_or}
-use Rattle.name_entries.specs.wl_base.Names.{number_of}
+use Rattle.name_meanings.specs.name_entries.wl_base.Names.{number_of}
 use Rattle.index_layout.specs.Numbers.{number_by}
-use Rattle.name_entries.specs.name_rules.Entries.{ImportKey, same_import}
+use Rattle.name_meanings.specs.name_entries.name_rules.Entries.{ImportKey, same_import}
 use Rattle.link_rules.specs.Keys as rules
 use Rattle.link_rules.specs.Keys.{outside, linker_function, stub, own, got_entry, got_import, got_null, outside_global, linker_global, own_global, got, exported_datum}
 use Rattle.link_program.specs.declared.symbol.Definition.{Definition}

@@ -1,7 +1,7 @@
 -- The live parts, by number.
 use Rattle.std.specs.Prelude.{◌≡◌, ◌<◌, ℕ, List, map, slice_get, Some, All, AllPairs, Bool, false}
-use Rattle.name_entries.specs.name_rules.Entries.{InputSymbol}
-use Rattle.name_entries.specs.name_rules.Meanings.{is_nothing}
+use Rattle.name_meanings.specs.name_entries.name_rules.Entries.{InputSymbol}
+use Rattle.name_meanings.specs.name_entries.name_rules.Meanings.{is_nothing}
 use Rattle.link_rules.specs.Program.{Program, Part}
 use Rattle.link_rules.specs.Marks.{refs_of}
 

@@ -1,11 +1,11 @@
 -- What holds of the objects that were loaded: each is what a candidate's bytes are, and sound.
 use Rattle.std.specs.Prelude.{◌≡◌, ℕ, ◌+◌, ◌-◌, ◌≤◌, ◌<◌, List, length, map, slice_get, slice_index_or, [], Some, Result, Ok, Err, All}
-use Rattle.name_entries.specs.object_file.declared.object.Object.{Object}
-use Rattle.name_entries.specs.object_file.Sound.{Sound}
-use Rattle.round_rules.specs.Rounds.{Candidate}
-use Rattle.name_entries.specs.View.{InputsRise}
+use Rattle.name_meanings.specs.name_entries.object_file.declared.object.Object.{Object}
+use Rattle.name_meanings.specs.name_entries.object_file.Sound.{Sound}
+use Rattle.link_rules.specs.round_rules.Rounds.{Candidate}
+use Rattle.name_meanings.specs.name_entries.View.{InputsRise}
 use Rattle.link_plan.specs.declared.plan.Plan.{Plan}
-use Rattle.name_entries.specs.wl_base.declared.fault.Fault.{Fault}
+use Rattle.name_meanings.specs.name_entries.wl_base.declared.fault.Fault.{Fault}
 use Rattle.link_rules.specs.Candidates.{candidates_of}
 use Rattle.link_rules.specs.LinkOf.{the_readers}
 use Rattle.link_program.specs.declared.home.Home.{Home}

@@ -1,16 +1,16 @@
 -- When the data are those of a program.
 use Rattle.std.specs.Prelude.{◌≡◌, ℕ, ◌-◌, ◌<◌, ◌^◌, ◌++◌, false, List, length, map, slice_get, Some, All, bytes_eq}
 use Rattle.std.specs.List.{list_any}
-use Rattle.name_entries.specs.wl_base.Choice.{distinct}
-use Rattle.name_entries.specs.wasm_types.declared.function.FuncType.{FuncType}
-use Rattle.name_entries.specs.made_symbols.declared.mode.Mode.{Mode}
+use Rattle.name_meanings.specs.name_entries.wl_base.Choice.{distinct}
+use Rattle.name_meanings.specs.name_entries.wasm_types.declared.function.FuncType.{FuncType}
+use Rattle.name_meanings.specs.name_entries.made_symbols.declared.mode.Mode.{Mode}
 use Rattle.mark_bits.specs.declared.chunk.Chunk.{Chunk}
-use Rattle.name_entries.specs.link_names.Numbered.{AreNumbers, different_names}
-use Rattle.round_rules.specs.Rounds.{Candidate}
-use Rattle.name_entries.specs.name_rules.Entries.{InputSymbol, ImportKey, entries, name_of}
-use Rattle.name_entries.specs.name_rules.Meanings.{resolve}
-use Rattle.name_entries.specs.name_rules.Cases.{first_entry}
-use Rattle.name_entries.specs.View.{InputsRise, WinnersAre}
+use Rattle.name_meanings.specs.name_entries.link_names.Numbered.{AreNumbers, different_names}
+use Rattle.link_rules.specs.round_rules.Rounds.{Candidate}
+use Rattle.name_meanings.specs.name_entries.name_rules.Entries.{InputSymbol, ImportKey, entries, name_of}
+use Rattle.name_meanings.specs.name_entries.name_rules.Meanings.{resolve}
+use Rattle.name_meanings.specs.name_entries.name_rules.Cases.{first_entry}
+use Rattle.name_meanings.specs.name_entries.View.{InputsRise, WinnersAre}
 use Rattle.name_meanings.specs.Means.{IsResolution}
 use Rattle.link_rules.specs.Program as rules
 use Rattle.link_rules.specs.Program.{winners_of, parts_of, loose_parts, loose_variants}

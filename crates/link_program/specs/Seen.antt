@@ -1,13 +1,13 @@
 -- What parts are and name, as the data show it and as the definition has it.
 use Rattle.std.specs.Prelude.{ℕ, ℤ, pos, ◌<◌, List, length, slice_index_or, None}
-use Rattle.name_entries.specs.wl_base.declared.span.FileSpan.{FileSpan}
-use Rattle.name_entries.specs.wasm_types.declared.function.FuncType.{FuncType}
-use Rattle.name_entries.specs.wasm_types.declared.table.GlobalType.{GlobalType}
-use Rattle.name_entries.specs.wasm_types.declared.const_expr.ConstExpr.{ConstExpr}
-use Rattle.name_entries.specs.linking_section.declared.symbol.SymbolKind.TheVariants.{Function as FunctionKind}
-use Rattle.name_entries.specs.object_file.Spaces.{no_type}
+use Rattle.name_meanings.specs.name_entries.wl_base.declared.span.FileSpan.{FileSpan}
+use Rattle.name_meanings.specs.name_entries.wasm_types.declared.function.FuncType.{FuncType}
+use Rattle.name_meanings.specs.name_entries.wasm_types.declared.table.GlobalType.{GlobalType}
+use Rattle.name_meanings.specs.name_entries.wasm_types.declared.const_expr.ConstExpr.{ConstExpr}
+use Rattle.name_meanings.specs.name_entries.linking_section.declared.symbol.SymbolKind.TheVariants.{Function as FunctionKind}
+use Rattle.name_meanings.specs.name_entries.object_file.Spaces.{no_type}
 use Rattle.mark_bits.specs.declared.chunk.Chunk.{Chunk}
-use Rattle.name_entries.specs.name_rules.Entries.{ImportKey}
+use Rattle.name_meanings.specs.name_entries.name_rules.Entries.{ImportKey}
 use Rattle.link_rules.specs.Program as rules
 use Rattle.link_rules.specs.Program.{Ref, a_symbol, a_type, function, segment, global, linker_made}
 use Rattle.link_program.specs.declared.symbol.Symbol.{Symbol}

@@ -1,10 +1,10 @@
 -- Where the parts of a program and their windows stand.
 use Rattle.std.specs.Prelude.{◌≡◌, ℕ, ◌+◌, ◌≤◌, ◌⊎◌, List, [], ◌∷◌, length, slice_get, slice_index_or, Some, All}
-use Rattle.name_entries.specs.wl_base.declared.span.FileSpan.{FileSpan}
+use Rattle.name_meanings.specs.name_entries.wl_base.declared.span.FileSpan.{FileSpan}
 use Rattle.reloc_apply.specs.declared.window.Form.TheVariants.{Unsigned5}
 use Rattle.reloc_apply.specs.Apart.{size_of}
-use Rattle.name_entries.specs.name_rules.Entries.{InputSymbol}
-use Rattle.name_entries.specs.name_rules.Meanings.{Meaning, null, Resolved}
+use Rattle.name_meanings.specs.name_entries.name_rules.Entries.{InputSymbol}
+use Rattle.name_meanings.specs.name_entries.name_rules.Meanings.{Meaning, null, Resolved}
 use Rattle.link_rules.specs.Program.{Program, Part, Ref, Named, a_symbol, a_type, refs, segment, Content, function, global, linker_made}
 use Rattle.link_rules.specs.Values.{form_of}
 

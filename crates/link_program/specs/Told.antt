@@ -1,10 +1,10 @@
 -- What the data of a program tell of the entries and meanings of the definition.
 use Rattle.std.specs.Prelude.{ℕ, List, [], ◌∷◌, flat_map, unwrap_or}
-use Rattle.name_entries.specs.wl_base.Names.{number_of}
+use Rattle.name_meanings.specs.name_entries.wl_base.Names.{number_of}
 use Rattle.index_layout.specs.Numbers.{number_by}
-use Rattle.name_entries.specs.name_rules.Entries.{InputSymbol, ImportKey, name_of, same_import}
-use Rattle.name_entries.specs.name_rules.Meanings.{Meaning, here, imported, null, nothing, Resolved}
-use Rattle.name_entries.specs.View.{entry_number}
+use Rattle.name_meanings.specs.name_entries.name_rules.Entries.{InputSymbol, ImportKey, name_of, same_import}
+use Rattle.name_meanings.specs.name_entries.name_rules.Meanings.{Meaning, here, imported, null, nothing, Resolved}
+use Rattle.name_meanings.specs.name_entries.View.{entry_number}
 use Rattle.link_program.specs.declared.symbol.Definition.{Definition}
 use Rattle.link_program.specs.declared.symbol.Lead.{Lead}
 use Rattle.link_program.specs.declared.symbol.Lead.TheVariants.{Here, Import, Null, Nothing}

@@ -18,11 +18,11 @@ pub use home::Home;
 pub use keys::{FunctionKey, GlobalKey, GotKey};
 pub use looking::{chunk_number, part_at, row_at, symbol_at};
 pub use meaning::{cell_meant, function_meant, function_of, index_of};
-pub use name_entries::{
-    Entries, EntryRef, EntryTable, FuncTypeRef, FunctionRef, GlobalDef, ImportPlaces, Meaning,
-    Names, Object, ObjectParts, PairCase, SegmentRef, SymbolRef, TypeRef,
+pub use name_meanings::{
+    Entries, EntryRef, EntryTable, FuncTypeRef, FunctionRef, GlobalDef, ImportPlaces, ImportType,
+    Meaning, Names, Object, ObjectParts, PairCase, Resolution, SegmentRef, SymbolRef, TypeRef,
+    resolve,
 };
-pub use name_meanings::{ImportType, Resolution};
 pub use named::Named;
 pub use part::{Content, Part};
 pub use program::{Program, Tables};

@@ -5,7 +5,7 @@ ghost use Rattle.link_program.specs.Seen.{no_symbol};
 
 use crate::{Content, Lead, Named, Part, Symbol, Tables};
 use mark_bits::{Chunk, ChunkTable};
-use name_entries::SymbolKind;
+use name_meanings::SymbolKind;
 use wl_base::{FileSpan, Span};
 
 /// The part of a number.

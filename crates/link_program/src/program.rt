@@ -3,8 +3,7 @@
 use crate::{Named, Part, Symbol, Winner};
 use link_plan::Plan;
 use mark_bits::ChunkTable;
-use name_entries::{Names, Object};
-use name_meanings::Resolution;
+use name_meanings::{Names, Object, Resolution};
 use symbol_race::Winners;
 use wasm_types::FuncType;
 use wl_base::Seq;

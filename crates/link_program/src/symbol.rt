@@ -1,6 +1,6 @@
 //! Symbols and what they lead to.
 
-use name_entries::SymbolKind;
+use name_meanings::SymbolKind;
 use wl_base::InputId;
 
 /// A definition: of an object, by its input, or of the linker, which is input 0.

@@ -1,11 +1,11 @@
 -- The candidates of a link: its objects and the members of its libraries, by precedence.
 use Rattle.std.specs.Prelude.{ℕ, ◌+◌, ◌-◌, ◌^◌, ◌==◌, nat_le, min, Bool, true, false, not, ◌||◌, List, [], ◌∷◌, ◌++◌, length, take, drop, map, filter, sum_by, if◌then◌else◌, Option, Some, None, bytes_eq, Result, Ok, Err, codes}
-use Rattle.object_file.specs.wl_base.Choice.{given, unless, ◌>>=◌}
-use Rattle.object_file.specs.wl_base.declared.fault.Fault.{Fault}
-use Rattle.object_file.specs.wl_base.declared.fault.Fault.TheVariants.{TooMuchInput, TooManyInputs, Library as BadLibrary}
-use Rattle.object_file.specs.wl_base.declared.fault.LibFault.{LibFault}
-use Rattle.object_file.specs.wl_base.declared.span.Span.{Span}
-use Rattle.object_file.specs.declared.object.Object.{Object}
+use Rattle.name_rules.specs.object_file.wl_base.Choice.{given, unless, ◌>>=◌}
+use Rattle.name_rules.specs.object_file.wl_base.declared.fault.Fault.{Fault}
+use Rattle.name_rules.specs.object_file.wl_base.declared.fault.Fault.TheVariants.{TooMuchInput, TooManyInputs, Library as BadLibrary}
+use Rattle.name_rules.specs.object_file.wl_base.declared.fault.LibFault.{LibFault}
+use Rattle.name_rules.specs.object_file.wl_base.declared.span.Span.{Span}
+use Rattle.name_rules.specs.object_file.declared.object.Object.{Object}
 use Rattle.lib_index.specs.Library.{Contents}
 use Rattle.round_rules.specs.Rounds.{Candidate, defined_names}
 use Rattle.link_plan.specs.declared.plan.Plan.{Plan}

@@ -1,12 +1,12 @@
 -- Worked links: data, memory, slots and cells of addresses.
 use Rattle.std.specs.Prelude.{ℕ, List, [], ◌∷◌, ◌++◌, Some, Ok, Err, codes, pos, negsuc}
-use Rattle.object_file.specs.declared.object.Object.{Object}
+use Rattle.name_rules.specs.object_file.declared.object.Object.{Object}
 use Rattle.made_symbols.specs.declared.mode.Mode.TheVariants.{Plain}
 use Rattle.link_rules.specs.LinkOf.{link_by}
-use Rattle.object_file.specs.wl_base.declared.fault.Fault.TheVariants.{Overflow}
-use Rattle.object_file.specs.wl_base.declared.fault.What.TheVariants.{HeapBase, MaxMemory, Reference}
+use Rattle.name_rules.specs.object_file.wl_base.declared.fault.Fault.TheVariants.{Overflow}
+use Rattle.name_rules.specs.object_file.wl_base.declared.fault.What.TheVariants.{HeapBase, MaxMemory, Reference}
 use Rattle.link_plan.specs.declared.plan.Plan.{Plan}
-use Rattle.object_file.specs.body_windows.declared.operand.Operand.TheVariants as operands
+use Rattle.name_rules.specs.object_file.body_windows.declared.operand.Operand.TheVariants as operands
 use Rattle.link_rules.specs.Examples.{hex, Row, plan_of, exporting, read_as, empty_object, span, function_symbol, datum_symbol, body_at, names, word_at, segment_at, function_import, plain_type, int_type}
 use Rattle.link_rules.specs.NameRows.{header, storage}
 

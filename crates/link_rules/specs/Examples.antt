@@ -1,22 +1,22 @@
 -- Small links, as words for worked rows: plans, and objects as the reader gives them.
 use Rattle.std.specs.Prelude.{ℕ, ◌+◌, ◌-◌, ◌*◌, nat_lt, true, false, List, [], ◌∷◌, ◌++◌, map, slice_get, replicate, if◌then◌else◌, Option, Some, None, Result, Ok, Err, pos}
-use Rattle.object_file.specs.wl_base.declared.fault.Fault.{Fault}
-use Rattle.object_file.specs.wl_base.declared.fault.Fault.TheVariants.{TooManyNames}
-use Rattle.object_file.specs.wl_base.declared.fault.LibFault.TheVariants.{NotLibrary}
-use Rattle.object_file.specs.wl_base.declared.span.Span.{Span}
-use Rattle.object_file.specs.wasm_types.declared.function.FuncType.{FuncType}
-use Rattle.object_file.specs.wasm_types.declared.value.ValType.TheVariants.{I32}
-use Rattle.object_file.specs.wasm_types.declared.import.Import.{Import}
-use Rattle.object_file.specs.wasm_types.declared.import.ImportKind.TheVariants as kinds
-use Rattle.object_file.specs.linking_section.declared.symbol.Symbol.{Symbol}
-use Rattle.object_file.specs.linking_section.declared.symbol.SymbolKind.TheVariants.{Function, Datum}
-use Rattle.object_file.specs.linking_section.declared.group.Group.{Group}
-use Rattle.object_file.specs.reloc_section.declared.entry.Reloc.{Reloc}
-use Rattle.object_file.specs.body_windows.declared.operand.Operand.{Operand}
-use Rattle.object_file.specs.body_windows.declared.operand.Operand.TheVariants as operands
-use Rattle.object_file.specs.object_columns.declared.functions.FunctionDef.{FunctionDef}
-use Rattle.object_file.specs.object_columns.declared.segments.SegmentDef.{SegmentDef}
-use Rattle.object_file.specs.declared.object.Object.{Object}
+use Rattle.name_rules.specs.object_file.wl_base.declared.fault.Fault.{Fault}
+use Rattle.name_rules.specs.object_file.wl_base.declared.fault.Fault.TheVariants.{TooManyNames}
+use Rattle.name_rules.specs.object_file.wl_base.declared.fault.LibFault.TheVariants.{NotLibrary}
+use Rattle.name_rules.specs.object_file.wl_base.declared.span.Span.{Span}
+use Rattle.name_rules.specs.object_file.wasm_types.declared.function.FuncType.{FuncType}
+use Rattle.name_rules.specs.object_file.wasm_types.declared.value.ValType.TheVariants.{I32}
+use Rattle.name_rules.specs.object_file.wasm_types.declared.import.Import.{Import}
+use Rattle.name_rules.specs.object_file.wasm_types.declared.import.ImportKind.TheVariants as kinds
+use Rattle.name_rules.specs.object_file.linking_section.declared.symbol.Symbol.{Symbol}
+use Rattle.name_rules.specs.object_file.linking_section.declared.symbol.SymbolKind.TheVariants.{Function, Datum}
+use Rattle.name_rules.specs.object_file.linking_section.declared.group.Group.{Group}
+use Rattle.name_rules.specs.object_file.reloc_section.declared.entry.Reloc.{Reloc}
+use Rattle.name_rules.specs.object_file.body_windows.declared.operand.Operand.{Operand}
+use Rattle.name_rules.specs.object_file.body_windows.declared.operand.Operand.TheVariants as operands
+use Rattle.name_rules.specs.object_file.object_columns.declared.functions.FunctionDef.{FunctionDef}
+use Rattle.name_rules.specs.object_file.object_columns.declared.segments.SegmentDef.{SegmentDef}
+use Rattle.name_rules.specs.object_file.declared.object.Object.{Object}
 use Rattle.lib_index.specs.Library.{Contents}
 use Rattle.link_plan.specs.declared.plan.Plan.{Plan}
 use Rattle.link_rules.specs.Candidates.{Readers, plain_word}

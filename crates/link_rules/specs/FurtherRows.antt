@@ -1,16 +1,16 @@
 -- Worked links: more of memory, cells, imports, loading, roots and shared outputs.
 use Rattle.std.specs.Prelude.{ℕ, true, false, List, [], ◌∷◌, ◌++◌, Some, Ok, Err, codes, pos}
-use Rattle.object_file.specs.declared.object.Object.{Object}
+use Rattle.name_rules.specs.object_file.declared.object.Object.{Object}
 use Rattle.made_symbols.specs.declared.mode.Mode.TheVariants.{Plain, Shared}
 use Rattle.link_rules.specs.LinkOf.{link_by}
-use Rattle.object_file.specs.wl_base.declared.fault.Fault.TheVariants.{Clash, Duplicate, IndexLies, Unresolved}
-use Rattle.object_file.specs.wasm_types.declared.import.ImportKind.TheVariants as kinds
-use Rattle.object_file.specs.wasm_types.declared.value.ValType.TheVariants.{I32, I64}
-use Rattle.object_file.specs.wasm_types.declared.const_expr.ConstExpr.TheVariants as constants
-use Rattle.object_file.specs.linking_section.declared.symbol.Symbol.{Symbol}
-use Rattle.object_file.specs.linking_section.declared.symbol.SymbolKind.TheVariants.{GlobalVar}
-use Rattle.object_file.specs.object_columns.declared.segments.SegmentDef.{SegmentDef}
-use Rattle.object_file.specs.body_windows.declared.operand.Operand.TheVariants as operands
+use Rattle.name_rules.specs.object_file.wl_base.declared.fault.Fault.TheVariants.{Clash, Duplicate, IndexLies, Unresolved}
+use Rattle.name_rules.specs.object_file.wasm_types.declared.import.ImportKind.TheVariants as kinds
+use Rattle.name_rules.specs.object_file.wasm_types.declared.value.ValType.TheVariants.{I32, I64}
+use Rattle.name_rules.specs.object_file.wasm_types.declared.const_expr.ConstExpr.TheVariants as constants
+use Rattle.name_rules.specs.object_file.linking_section.declared.symbol.Symbol.{Symbol}
+use Rattle.name_rules.specs.object_file.linking_section.declared.symbol.SymbolKind.TheVariants.{GlobalVar}
+use Rattle.name_rules.specs.object_file.object_columns.declared.segments.SegmentDef.{SegmentDef}
+use Rattle.name_rules.specs.object_file.body_windows.declared.operand.Operand.TheVariants as operands
 use Rattle.link_rules.specs.Candidates.{plain_word}
 use Rattle.link_rules.specs.Examples.{hex, Row, plan_of, exporting, read_as, read_with, empty_object, span, function_symbol, datum_symbol, body_at, names, word_at, segment_at, function_import, plain_type}
 use Rattle.link_rules.specs.NameRows.{defining, giving_1, wanting_file}

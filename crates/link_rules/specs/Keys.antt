@@ -1,13 +1,13 @@
 -- The numbered things of the output, each as a list of keys. A number is the place of a key.
 use Rattle.std.specs.Prelude.{ℕ, ◌+◌, ◌==◌, Bool, true, false, not, ◌&&◌, ◌||◌, List, [], ◌++◌, map, filter, filter_map, flat_map, find, if◌then◌else◌, Option, Some, None, bytes_eq, codes}
 use Rattle.std.specs.List.{list_any}
-use Rattle.object_file.specs.wl_base.Choice.{given, distinct}
-use Rattle.object_file.specs.wasm_types.declared.function.FuncType.{FuncType}
-use Rattle.object_file.specs.wasm_types.Same.{same_type}
-use Rattle.object_file.specs.linking_section.declared.symbol.SymbolKind.TheVariants.{Function, Datum, GlobalVar}
-use Rattle.object_file.specs.linking_section.Flags.{kind_code}
-use Rattle.object_file.specs.Spaces.{no_type}
-use Rattle.object_file.specs.reloc_section.declared.kinds.TheConstants as relocs
+use Rattle.name_rules.specs.object_file.wl_base.Choice.{given, distinct}
+use Rattle.name_rules.specs.object_file.wasm_types.declared.function.FuncType.{FuncType}
+use Rattle.name_rules.specs.object_file.wasm_types.Same.{same_type}
+use Rattle.name_rules.specs.object_file.linking_section.declared.symbol.SymbolKind.TheVariants.{Function, Datum, GlobalVar}
+use Rattle.name_rules.specs.object_file.linking_section.Flags.{kind_code}
+use Rattle.name_rules.specs.object_file.Spaces.{no_type}
+use Rattle.name_rules.specs.object_file.reloc_section.declared.kinds.TheConstants as relocs
 use Rattle.made_symbols.specs.declared.mode.Mode.{Mode}
 use Rattle.made_symbols.specs.declared.mode.Mode.TheVariants.{Plain, Shared}
 use Rattle.name_rules.specs.Entries.{InputSymbol, ImportKey, SymbolType, of_function, of_global, untyped, is_kind, name_of, same_entry, same_import}

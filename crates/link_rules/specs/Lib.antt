@@ -13,3 +13,7 @@ pub mod LoadingRows
 pub mod MoreRows
 pub mod FurtherRows
 pub mod Rows
+pub use Rattle.round_rules.specs as round_rules
+pub use Rattle.dylink_out.specs.image_emit as image_emit
+pub use Rattle.name_rules.specs as name_rules
+pub use Rattle.name_rules.specs.object_file as object_file

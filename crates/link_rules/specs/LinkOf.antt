@@ -1,11 +1,11 @@
 -- The link of files by a plan: the first fault that applies, or the bytes of the output.
 use Rattle.std.specs.Prelude.{ℕ, ◌-◌, ◌^◌, nat_lt, List, ◌++◌, map, flat_map, length, Option, option_map, bytes_eq, Result, Ok, pos}
-use Rattle.object_file.specs.wl_base.Choice.{given, distinct, unless, ◌>>=◌}
-use Rattle.object_file.specs.wl_base.declared.fault.Fault.{Fault}
-use Rattle.object_file.specs.wl_base.declared.fault.Fault.TheVariants.{TooManyNames, Overflow}
-use Rattle.object_file.specs.wl_base.declared.fault.What.TheVariants.{TableSize, OutputLength, Reference}
-use Rattle.object_file.specs.declared.object.Object.{Object}
-use Rattle.object_file.specs.ObjectOf.{object_of}
+use Rattle.name_rules.specs.object_file.wl_base.Choice.{given, distinct, unless, ◌>>=◌}
+use Rattle.name_rules.specs.object_file.wl_base.declared.fault.Fault.{Fault}
+use Rattle.name_rules.specs.object_file.wl_base.declared.fault.Fault.TheVariants.{TooManyNames, Overflow}
+use Rattle.name_rules.specs.object_file.wl_base.declared.fault.What.TheVariants.{TableSize, OutputLength, Reference}
+use Rattle.name_rules.specs.object_file.declared.object.Object.{Object}
+use Rattle.name_rules.specs.object_file.ObjectOf.{object_of}
 use Rattle.lib_index.specs.Reading.{library_of}
 use Rattle.made_symbols.specs.declared.mode.Mode.{Mode}
 use Rattle.made_symbols.specs.declared.mode.Mode.TheVariants.{Plain}
@@ -16,9 +16,9 @@ use Rattle.memory_layout.specs.Memory.{Passed, memory_overflow}
 use Rattle.table_layout.specs.Slots.{table_overflow}
 use Rattle.reloc_apply.specs.declared.window.Window.{Window}
 use Rattle.reloc_apply.specs.Windows.{value_overflow, patch_of}
-use Rattle.image_emit.specs.declared.tree.Image.{Image}
-use Rattle.image_emit.specs.Bytes.{bytes_of, tree_of}
-use Rattle.image_emit.specs.Filled.{tree_filled}
+use Rattle.dylink_out.specs.image_emit.declared.tree.Image.{Image}
+use Rattle.dylink_out.specs.image_emit.Bytes.{bytes_of, tree_of}
+use Rattle.dylink_out.specs.image_emit.Filled.{tree_filled}
 use Rattle.link_plan.specs.declared.plan.Plan.{Plan}
 use Rattle.link_rules.specs.Candidates.{Readers, candidates_of}
 use Rattle.link_rules.specs.Program.{Program, Part, program_of}

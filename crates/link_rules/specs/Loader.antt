@@ -1,9 +1,9 @@
 -- What the function of a shared output makes right when it is loaded, and what its loader is told (DynamicLinking.md).
 use Rattle.std.specs.Prelude.{ℕ, ◌+◌, max, Bool, true, false, ◌==◌, List, [], ◌∷◌, ◌++◌, map, filter, filter_map, flat_map, if◌then◌else◌, Option, Some, None, pos, ◌+ℤ◌}
 use Rattle.std.specs.List.{list_any, list_all}
-use Rattle.object_file.specs.linking_section.declared.symbol.SymbolKind.TheVariants.{Function}
-use Rattle.object_file.specs.linking_section.Flags.{is_weak}
-use Rattle.object_file.specs.reloc_section.declared.kinds.TheConstants as relocs
+use Rattle.name_rules.specs.object_file.linking_section.declared.symbol.SymbolKind.TheVariants.{Function}
+use Rattle.name_rules.specs.object_file.linking_section.Flags.{is_weak}
+use Rattle.name_rules.specs.object_file.reloc_section.declared.kinds.TheConstants as relocs
 use Rattle.made_symbols.specs.declared.mode.Mode.{Mode}
 use Rattle.name_rules.specs.Entries.{InputSymbol, ImportKey, is_kind, is_entry, named, name_of, same_import}
 use Rattle.name_rules.specs.Meanings.{Meaning, here, imported, null, nothing, cell_of}

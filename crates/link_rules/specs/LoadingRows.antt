@@ -1,10 +1,10 @@
 -- Worked links: groups, init functions, libraries.
 use Rattle.std.specs.Prelude.{ℕ, Bool, Result, true, false, List, [], ◌∷◌, ◌++◌, Ok, Err, codes}
-use Rattle.object_file.specs.declared.object.Object.{Object}
+use Rattle.name_rules.specs.object_file.declared.object.Object.{Object}
 use Rattle.made_symbols.specs.declared.mode.Mode.TheVariants.{Plain}
 use Rattle.link_rules.specs.LinkOf.{link_by}
-use Rattle.object_file.specs.wl_base.declared.fault.Fault.{Fault}
-use Rattle.object_file.specs.wl_base.declared.fault.Fault.TheVariants.{Unresolved, IndexLies, Uncalled}
+use Rattle.name_rules.specs.object_file.wl_base.declared.fault.Fault.{Fault}
+use Rattle.name_rules.specs.object_file.wl_base.declared.fault.Fault.TheVariants.{Unresolved, IndexLies, Uncalled}
 use Rattle.lib_index.specs.Library.{Contents}
 use Rattle.link_rules.specs.Examples.{hex, Row, plan_of, exporting, read_as, read_with, empty_object, span, function_symbol, datum_symbol, body_at, names, group_of, segment_at, function_import, plain_type}
 use Rattle.link_rules.specs.NameRows.{header, storage}

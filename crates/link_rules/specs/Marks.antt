@@ -1,13 +1,13 @@
 -- What is exported, what is live, and which names stay unresolved.
 use Rattle.std.specs.Prelude.{ℕ, ◌+◌, ◌==◌, Bool, true, false, not, ◌&&◌, ◌||◌, List, [], ◌∷◌, ◌++◌, map, filter, filter_map, flat_map, find, length, position, slice_get, if◌then◌else◌, Option, Some, None, unwrap_or, option_map, option_and_then, option_to_list, bytes_eq, codes}
 use Rattle.std.specs.List.{list_any}
-use Rattle.object_file.specs.wl_base.Choice.{first_some, given, has_name}
-use Rattle.object_file.specs.wl_base.declared.fault.Fault.{Fault}
-use Rattle.object_file.specs.wl_base.declared.fault.Fault.TheVariants.{Duplicate, NotPic, Unresolved, Uncalled}
-use Rattle.object_file.specs.linking_section.declared.symbol.SymbolKind.TheVariants.{Function, Datum, GlobalVar}
-use Rattle.object_file.specs.linking_section.Flags.{is_exported, is_hidden, is_no_strip, is_local_definition, is_weak, has_bit}
-use Rattle.object_file.specs.object_columns.declared.functions.FunctionDef.{FunctionDef}
-use Rattle.object_file.specs.reloc_section.declared.kinds.TheConstants as relocs
+use Rattle.name_rules.specs.object_file.wl_base.Choice.{first_some, given, has_name}
+use Rattle.name_rules.specs.object_file.wl_base.declared.fault.Fault.{Fault}
+use Rattle.name_rules.specs.object_file.wl_base.declared.fault.Fault.TheVariants.{Duplicate, NotPic, Unresolved, Uncalled}
+use Rattle.name_rules.specs.object_file.linking_section.declared.symbol.SymbolKind.TheVariants.{Function, Datum, GlobalVar}
+use Rattle.name_rules.specs.object_file.linking_section.Flags.{is_exported, is_hidden, is_no_strip, is_local_definition, is_weak, has_bit}
+use Rattle.name_rules.specs.object_file.object_columns.declared.functions.FunctionDef.{FunctionDef}
+use Rattle.name_rules.specs.object_file.reloc_section.declared.kinds.TheConstants as relocs
 use Rattle.made_symbols.specs.declared.mode.Mode.{Mode}
 use Rattle.made_symbols.specs.declared.mode.Mode.TheVariants.{Plain, Shared}
 use Rattle.made_symbols.specs.Made.{call_ctors, apply_data_relocs}

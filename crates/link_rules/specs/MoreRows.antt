@@ -1,15 +1,15 @@
 -- Worked links: the generated case of two objects, a small program, more of libraries, and shared outputs.
 use Rattle.std.specs.Prelude.{Some, true, ℕ, List, [], ◌∷◌, ◌++◌, None, Ok, Err, codes}
-use Rattle.object_file.specs.declared.object.Object.{Object}
+use Rattle.name_rules.specs.object_file.declared.object.Object.{Object}
 use Rattle.made_symbols.specs.declared.mode.Mode.TheVariants.{Plain, Shared}
 use Rattle.link_rules.specs.LinkOf.{link_by}
-use Rattle.object_file.specs.wl_base.declared.fault.Fault.TheVariants.{NotPic}
-use Rattle.object_file.specs.wasm_types.declared.import.ImportKind.TheVariants as kinds
-use Rattle.object_file.specs.wasm_types.declared.value.ValType.TheVariants.{I32}
-use Rattle.object_file.specs.linking_section.declared.symbol.Symbol.{Symbol}
-use Rattle.object_file.specs.linking_section.declared.symbol.SymbolKind.{SymbolKind}
-use Rattle.object_file.specs.linking_section.declared.symbol.SymbolKind.TheVariants.{GlobalVar, Table}
-use Rattle.object_file.specs.body_windows.declared.operand.Operand.TheVariants as operands
+use Rattle.name_rules.specs.object_file.wl_base.declared.fault.Fault.TheVariants.{NotPic}
+use Rattle.name_rules.specs.object_file.wasm_types.declared.import.ImportKind.TheVariants as kinds
+use Rattle.name_rules.specs.object_file.wasm_types.declared.value.ValType.TheVariants.{I32}
+use Rattle.name_rules.specs.object_file.linking_section.declared.symbol.Symbol.{Symbol}
+use Rattle.name_rules.specs.object_file.linking_section.declared.symbol.SymbolKind.{SymbolKind}
+use Rattle.name_rules.specs.object_file.linking_section.declared.symbol.SymbolKind.TheVariants.{GlobalVar, Table}
+use Rattle.name_rules.specs.object_file.body_windows.declared.operand.Operand.TheVariants as operands
 use Rattle.lib_index.specs.Library.{Contents}
 use Rattle.link_rules.specs.Examples.{hex, Row, plan_of, exporting, read_as, read_with, empty_object, span, function_symbol, datum_symbol, body_at, names, word_at, group_of, segment_at, function_import, plain_type, int_type}
 use Rattle.link_rules.specs.NameRows.{header, storage}

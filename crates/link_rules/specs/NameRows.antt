@@ -1,11 +1,11 @@
 -- Worked links: which definition of a name wins, and what is refused.
 use Rattle.std.specs.Prelude.{ℕ, true, List, [], ◌∷◌, ◌++◌, Some, Ok, Err, codes}
-use Rattle.object_file.specs.declared.object.Object.{Object}
+use Rattle.name_rules.specs.object_file.declared.object.Object.{Object}
 use Rattle.made_symbols.specs.declared.mode.Mode.TheVariants.{Plain}
 use Rattle.link_plan.specs.declared.plan.Plan.{Plan}
 use Rattle.link_rules.specs.LinkOf.{link_by}
-use Rattle.object_file.specs.wl_base.declared.fault.Fault.TheVariants.{Duplicate, Unresolved, Clash}
-use Rattle.object_file.specs.wasm_types.declared.value.ValType.TheVariants.{I32, I64}
+use Rattle.name_rules.specs.object_file.wl_base.declared.fault.Fault.TheVariants.{Duplicate, Unresolved, Clash}
+use Rattle.name_rules.specs.object_file.wasm_types.declared.value.ValType.TheVariants.{I32, I64}
 use Rattle.link_rules.specs.Examples.{hex, Row, plan_of, exporting, read_as, empty_object, span, function_symbol, datum_symbol, segment_at, body_at, names, function_import, plain_type, int_type}
 
 -- what every module here begins with, and its table and memory: one slot, two pages

@@ -1,18 +1,18 @@
 -- The output as an image, and the windows of its sources.
 use Rattle.std.specs.Prelude.{ℕ, ◌+◌, ◌/◌, ◌==◌, Bool, true, false, not, ◌&&◌, List, [], ◌∷◌, ◌++◌, map, filter, filter_map, find, if◌then◌else◌, Option, Some, None, option_map, pos, codes}
-use Rattle.object_file.specs.wasm_types.declared.table.Limits.{Limits}
-use Rattle.object_file.specs.wasm_types.declared.table.TableType.{TableType}
-use Rattle.object_file.specs.wasm_types.declared.value.ValType.TheVariants.{I32}
-use Rattle.object_file.specs.wasm_types.declared.import.Import.{Import}
-use Rattle.object_file.specs.wasm_types.declared.import.ImportKind.{ImportKind}
-use Rattle.object_file.specs.wasm_types.declared.import.ImportKind.TheVariants as kinds
-use Rattle.object_file.specs.wasm_types.declared.const_expr.ConstExpr.TheVariants as constants
-use Rattle.object_file.specs.wasm_module.declared.export_kinds.TheConstants as exported
-use Rattle.object_file.specs.wasm_module.declared.parts.Export.{Export}
-use Rattle.object_file.specs.wasm_module.declared.parts.ModuleGlobal.{ModuleGlobal}
-use Rattle.object_file.specs.wasm_module.declared.parts.Element.{Element}
-use Rattle.object_file.specs.linking_section.declared.symbol.SymbolKind.{SymbolKind}
-use Rattle.object_file.specs.linking_section.declared.symbol.SymbolKind.TheVariants.{Function, Datum, GlobalVar, Section, Table}
+use Rattle.name_rules.specs.object_file.wasm_types.declared.table.Limits.{Limits}
+use Rattle.name_rules.specs.object_file.wasm_types.declared.table.TableType.{TableType}
+use Rattle.name_rules.specs.object_file.wasm_types.declared.value.ValType.TheVariants.{I32}
+use Rattle.name_rules.specs.object_file.wasm_types.declared.import.Import.{Import}
+use Rattle.name_rules.specs.object_file.wasm_types.declared.import.ImportKind.{ImportKind}
+use Rattle.name_rules.specs.object_file.wasm_types.declared.import.ImportKind.TheVariants as kinds
+use Rattle.name_rules.specs.object_file.wasm_types.declared.const_expr.ConstExpr.TheVariants as constants
+use Rattle.name_rules.specs.object_file.wasm_module.declared.export_kinds.TheConstants as exported
+use Rattle.name_rules.specs.object_file.wasm_module.declared.parts.Export.{Export}
+use Rattle.name_rules.specs.object_file.wasm_module.declared.parts.ModuleGlobal.{ModuleGlobal}
+use Rattle.name_rules.specs.object_file.wasm_module.declared.parts.Element.{Element}
+use Rattle.name_rules.specs.object_file.linking_section.declared.symbol.SymbolKind.{SymbolKind}
+use Rattle.name_rules.specs.object_file.linking_section.declared.symbol.SymbolKind.TheVariants.{Function, Datum, GlobalVar, Section, Table}
 use Rattle.made_symbols.specs.declared.mode.Mode.{Mode}
 use Rattle.made_symbols.specs.declared.mode.Mode.TheVariants.{Plain, Shared}
 use Rattle.made_symbols.specs.Made.{call_ctors, stack_pointer}
@@ -25,11 +25,11 @@ use Rattle.reloc_apply.specs.declared.window.Form.TheVariants.{Unsigned5, Signed
 use Rattle.reloc_apply.specs.Windows.{signed32}
 use Rattle.dylink_out.specs.Shared.{apply_body, dylink_payload}
 use Rattle.ctor_call.specs.Body.{ctor_body}
-use Rattle.image_emit.specs.declared.tree.Image.{Image}
-use Rattle.image_emit.specs.declared.tree.PlacedSource.{PlacedSource}
-use Rattle.image_emit.specs.declared.tree.Source.{Source}
-use Rattle.image_emit.specs.declared.tree.Source.TheVariants.{File, Own}
-use Rattle.image_emit.specs.Bytes.{sized}
+use Rattle.dylink_out.specs.image_emit.declared.tree.Image.{Image}
+use Rattle.dylink_out.specs.image_emit.declared.tree.PlacedSource.{PlacedSource}
+use Rattle.dylink_out.specs.image_emit.declared.tree.Source.{Source}
+use Rattle.dylink_out.specs.image_emit.declared.tree.Source.TheVariants.{File, Own}
+use Rattle.dylink_out.specs.image_emit.Bytes.{sized}
 use Rattle.link_rules.specs.Program.{Program, Part, Content, function, segment, global, linker_made, refs}
 use Rattle.link_rules.specs.Marks.{by_mode, imports_memory, memory_name, export_name}
 use Rattle.link_rules.specs.Keys.{FunctionKey, outside, linker_function, stub, own, GlobalKey, outside_global, linker_global, own_global, got, exported_datum, function_of, global_of, ref_function, numbers, function_number, global_number, type_of, type_place, is_function_at}

@@ -1,24 +1,24 @@
 -- The loaded objects as parts that refer to one another.
 use Rattle.std.specs.Prelude.{ℕ, ◌+◌, ◌==◌, nat_le, Bool, true, false, not, ◌&&◌, List, [], ◌∷◌, ◌++◌, map, filter, filter_map, flat_map, find, length, slice_get, if◌then◌else◌, Option, Some, None, option_map, ℤ, pos}
-use Rattle.object_file.specs.wl_base.declared.span.Span.{Span}
-use Rattle.object_file.specs.wl_base.declared.span.FileSpan.{FileSpan}
-use Rattle.object_file.specs.wasm_types.declared.function.FuncType.{FuncType}
-use Rattle.object_file.specs.wasm_types.Types.{val_byte}
-use Rattle.object_file.specs.linking_section.declared.symbol.SymbolKind.{SymbolKind}
-use Rattle.object_file.specs.linking_section.declared.symbol.SymbolKind.TheVariants.{Function, Datum, GlobalVar, Section, Table}
-use Rattle.object_file.specs.linking_section.declared.segment.SegmentInfo.{SegmentInfo}
-use Rattle.object_file.specs.linking_section.declared.init.InitFunc.{InitFunc}
-use Rattle.object_file.specs.linking_section.Flags.{is_undefined}
-use Rattle.object_file.specs.linking_section.declared.member_kinds.TheConstants as members
-use Rattle.object_file.specs.reloc_section.declared.entry.Reloc.{Reloc}
-use Rattle.object_file.specs.reloc_section.declared.kinds.TheConstants as relocs
-use Rattle.object_file.specs.body_windows.declared.operand.Operand.{Operand}
-use Rattle.object_file.specs.body_windows.declared.operand.Operand.TheVariants as operands
-use Rattle.object_file.specs.object_parts.declared.parts.GlobalDef.{GlobalDef}
-use Rattle.object_file.specs.object_columns.declared.functions.FunctionDef.{FunctionDef}
-use Rattle.object_file.specs.object_columns.declared.segments.SegmentDef.{SegmentDef}
-use Rattle.object_file.specs.declared.object.Object.{Object}
-use Rattle.object_file.specs.Spaces.{defined_type, written_type, function_imports}
+use Rattle.name_rules.specs.object_file.wl_base.declared.span.Span.{Span}
+use Rattle.name_rules.specs.object_file.wl_base.declared.span.FileSpan.{FileSpan}
+use Rattle.name_rules.specs.object_file.wasm_types.declared.function.FuncType.{FuncType}
+use Rattle.name_rules.specs.object_file.wasm_types.Types.{val_byte}
+use Rattle.name_rules.specs.object_file.linking_section.declared.symbol.SymbolKind.{SymbolKind}
+use Rattle.name_rules.specs.object_file.linking_section.declared.symbol.SymbolKind.TheVariants.{Function, Datum, GlobalVar, Section, Table}
+use Rattle.name_rules.specs.object_file.linking_section.declared.segment.SegmentInfo.{SegmentInfo}
+use Rattle.name_rules.specs.object_file.linking_section.declared.init.InitFunc.{InitFunc}
+use Rattle.name_rules.specs.object_file.linking_section.Flags.{is_undefined}
+use Rattle.name_rules.specs.object_file.linking_section.declared.member_kinds.TheConstants as members
+use Rattle.name_rules.specs.object_file.reloc_section.declared.entry.Reloc.{Reloc}
+use Rattle.name_rules.specs.object_file.reloc_section.declared.kinds.TheConstants as relocs
+use Rattle.name_rules.specs.object_file.body_windows.declared.operand.Operand.{Operand}
+use Rattle.name_rules.specs.object_file.body_windows.declared.operand.Operand.TheVariants as operands
+use Rattle.name_rules.specs.object_file.object_parts.declared.parts.GlobalDef.{GlobalDef}
+use Rattle.name_rules.specs.object_file.object_columns.declared.functions.FunctionDef.{FunctionDef}
+use Rattle.name_rules.specs.object_file.object_columns.declared.segments.SegmentDef.{SegmentDef}
+use Rattle.name_rules.specs.object_file.declared.object.Object.{Object}
+use Rattle.name_rules.specs.object_file.Spaces.{defined_type, written_type, function_imports}
 use Rattle.made_symbols.specs.declared.mode.Mode.{Mode}
 use Rattle.made_symbols.specs.Made.{made, MadeSymbol, call_ctors}
 use Rattle.round_rules.specs.Rounds.{Candidate}

@@ -1,6 +1,6 @@
 -- The worked links give what they have to.
 use Rattle.std.specs.Prelude.{◌≡◌, List, ◌++◌, refl}
-use Rattle.object_file.specs.leb_codec.Shortest.{u32, u32_padded, s32, s32_padded, s64}
+use Rattle.name_rules.specs.object_file.leb_codec.Shortest.{u32, u32_padded, s32, s32_padded, s64}
 use Rattle.round_rules.specs.Rounds.{load}
 use Rattle.name_rules.specs.Entries.{entries}
 use Rattle.name_rules.specs.Meanings.{resolve}
@@ -9,7 +9,7 @@ use Rattle.live_mark.specs.Live.{reached}
 use Rattle.memory_layout.specs.Memory.{places, memory_overflow}
 use Rattle.ctor_call.specs.Body.{ctor_body}
 use Rattle.reloc_apply.specs.Windows.{value_overflow}
-use Rattle.image_emit.specs.Bytes.{bytes_of}
+use Rattle.dylink_out.specs.image_emit.Bytes.{bytes_of}
 use Rattle.link_rules.specs.Candidates.{candidates_of}
 use Rattle.link_rules.specs.Program.{init_calls, parts_of, winners_of, program_of}
 use Rattle.link_rules.specs.Marks.{exported, repeated_export, live, pic_fault, unresolved, uncalled}

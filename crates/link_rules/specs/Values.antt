@@ -1,8 +1,8 @@
 -- What stands in windows.
 use Rattle.std.specs.Prelude.{ℕ, ◌+◌, ◌-◌, ◌*◌, ◌^◌, ◌==◌, min, Bool, not, ◌&&◌, ◌||◌, List, [], map, filter, length, position, slice_index_or, if◌then◌else◌, unwrap_or, ℤ, pos}
 use Rattle.std.specs.List.{list_all}
-use Rattle.object_file.specs.linking_section.declared.symbol.SymbolKind.TheVariants.{Datum}
-use Rattle.object_file.specs.reloc_section.declared.kinds.TheConstants as relocs
+use Rattle.name_rules.specs.object_file.linking_section.declared.symbol.SymbolKind.TheVariants.{Datum}
+use Rattle.name_rules.specs.object_file.reloc_section.declared.kinds.TheConstants as relocs
 use Rattle.made_symbols.specs.declared.mode.Mode.{Mode}
 use Rattle.made_symbols.specs.declared.mode.Mode.TheVariants.{Plain, Shared}
 use Rattle.made_symbols.specs.declared.roles.Role.{Role}
@@ -19,7 +19,7 @@ use Rattle.memory_layout.specs.declared.rules.Places.{Places}
 use Rattle.reloc_apply.specs.declared.window.Form.{Form}
 use Rattle.reloc_apply.specs.declared.window.Form.TheVariants.{Unsigned5, Signed5, Word4}
 use Rattle.reloc_apply.specs.declared.window.Window.{Window}
-use Rattle.image_emit.specs.Bytes.{file_part}
+use Rattle.dylink_out.specs.image_emit.Bytes.{file_part}
 use Rattle.link_plan.specs.declared.plan.Plan.{Plan}
 use Rattle.link_rules.specs.Program.{Program, Part, Content, function, segment, global, linker_made, Ref, TypeWindow, Named, a_symbol, a_type, same_chunk, chunk_at}
 use Rattle.link_rules.specs.Marks.{by_mode}

@@ -15,8 +15,8 @@ use Rattle.object_file.specs.ObjectOf.{object_of}
 use Rattle.round_rules.specs.Rounds.{Candidate}
 use Rattle.link_plan.specs.declared.plan.Plan.{Plan}
 use Rattle.link_plan.specs.declared.plan.InputWord.{InputWord}
-use Rattle.link_rules.specs.Candidates.{Opened, object, library, opened, is_library, members_from, candidates_in, candidates_from, candidates_of, too_much_input, too_many_inputs, words_for}
-use Rattle.link_rules.specs.LinkOf.{the_readers}
+use Rattle.link_output.specs.link_rules.Candidates.{Opened, object, library, opened, is_library, members_from, candidates_in, candidates_from, candidates_of, too_much_input, too_many_inputs, words_for}
+use Rattle.link_output.specs.link_rules.LinkOf.{the_readers}
 use Rattle.link_facts.specs.Facts.{bytes_of}
 use Rattle.link_facts.proofs.Steps.{guard}
 

@@ -23,7 +23,7 @@ use Rattle.object_parts.specs.Reading.{code_relocs}
 use Rattle.object_file.specs.declared.object.Object.{Object}
 use Rattle.object_file.specs.Objects.{object_from}
 use Rattle.object_file.specs.ObjectOf.{IsObject}
-use Rattle.link_worlds.specs.Sound.{IsConstant}
+use Rattle.link_facts.specs.link_worlds.Sound.{IsConstant}
 use Rattle.image_emit.specs.Spelled.{IsConstant as IsInRange}
 use Rattle.link_runs.proofs.Leb.{in_range}
 

@@ -9,24 +9,24 @@ use Rattle.image_emit.specs.Filled.{each_filled}
 use Rattle.image_emit.specs.Bytes.{source_bytes}
 use Rattle.reloc_apply.specs.declared.window.Patch.{Patch}
 use Rattle.link_runs.proofs.Ranges.{IsRanged}
-use Rattle.link_rules.specs.Program.{Program, Part}
-use Rattle.link_rules.specs.Marks.{imports_memory}
-use Rattle.link_rules.specs.Keys.{FunctionKey, outside, linker_function, stub, own}
-use Rattle.link_rules.specs.Values.{Layout}
-use Rattle.link_rules.specs.Output.{image, function_import, global_import, is_import, defined, memory_import, source_windows}
+use Rattle.link_output.specs.link_rules.Program.{Program, Part}
+use Rattle.link_output.specs.link_rules.Marks.{imports_memory}
+use Rattle.link_output.specs.link_rules.Keys.{FunctionKey, outside, linker_function, stub, own}
+use Rattle.link_output.specs.link_rules.Values.{Layout}
+use Rattle.link_output.specs.link_rules.Output.{image, function_import, global_import, is_import, defined, memory_import, source_windows}
 use Rattle.std.proofs.lemmas.List.Elements.{All-cons, All-nil}
 use Rattle.list_places.proofs.Lists.{position_below}
 use Rattle.std.proofs.lemmas.Int.{ints}
 use Rattle.std.proofs.lemmas.Bool.{ltb-true, ltb-false}
 use Rattle.wasm_types.specs.declared.const_expr.ConstExpr.TheVariants as exprs
-use Rattle.link_rules.specs.Values.{solid_segments, slot_count}
-use Rattle.link_rules.specs.Keys.{function_number, same_function}
-use Rattle.link_rules.specs.Output.{first_address}
+use Rattle.link_output.specs.link_rules.Values.{solid_segments, slot_count}
+use Rattle.link_output.specs.link_rules.Keys.{function_number, same_function}
+use Rattle.link_output.specs.link_rules.Output.{first_address}
 use Rattle.reloc_apply.specs.Windows.{patch_of, signed32}
-use Rattle.link_rules.specs.Output.{body_of}
-use Rattle.link_rules.specs.Keys.{type_place, type_of}
+use Rattle.link_output.specs.link_rules.Output.{body_of}
+use Rattle.link_output.specs.link_rules.Keys.{type_place, type_of}
 use Rattle.wasm_types.specs.Same.{same_type}
-use Rattle.link_worlds.specs.Worlds.{linked_tree}
+use Rattle.link_facts.specs.link_worlds.Worlds.{linked_tree}
 
 length_map : {A B : Type 0} (f : A → B) (xs : List A) → length (map f xs) ≡ length xs
 length_map f [] = refl

@@ -17,15 +17,15 @@ use Rattle.image_emit.specs.Stored.{Rise, first_address as first_block}
 use Rattle.run_rules.specs.declared.value.Value.{Value}
 use Rattle.run_rules.specs.declared.session.Session.{Session}
 use Rattle.run_rules.specs.Modules.{first, imported_globals, imported_tables, imported_memories, first_values, first_pages, fits_at, least_of, element_fits, segment_fits, fits_session}
-use Rattle.link_rules.specs.Program.{Program, Part}
-use Rattle.link_rules.specs.Marks.{live}
-use Rattle.link_rules.specs.Keys.{FunctionKey, function_number}
-use Rattle.link_rules.specs.Values.{Layout, solid_segments, windows}
-use Rattle.link_rules.specs.Output.{layout, image, source_windows, imports, memory, table, elements, first_address, placed_source, body_of, body_windows, defined}
-use Rattle.link_worlds.specs.Worlds.{layout_of, module_by, linked_module, segment_block, zero_segments, pages_at_first}
-use Rattle.link_worlds.specs.Statements.{Holds}
-use Rattle.link_worlds.proofs.Imports.{memories_are, tables_none}
-use Rattle.link_worlds.proofs.Start.{unsigned_again}
+use Rattle.link_output.specs.link_rules.Program.{Program, Part}
+use Rattle.link_output.specs.link_rules.Marks.{live}
+use Rattle.link_output.specs.link_rules.Keys.{FunctionKey, function_number}
+use Rattle.link_output.specs.link_rules.Values.{Layout, solid_segments, windows}
+use Rattle.link_output.specs.link_rules.Output.{layout, image, source_windows, imports, memory, table, elements, first_address, placed_source, body_of, body_windows, defined}
+use Rattle.link_facts.specs.link_worlds.Worlds.{layout_of, module_by, linked_module, segment_block, zero_segments, pages_at_first}
+use Rattle.link_facts.specs.link_worlds.Statements.{Holds}
+use Rattle.link_facts.proofs.link_worlds_lemmas.Imports.{memories_are, tables_none}
+use Rattle.link_facts.proofs.link_worlds_lemmas.Start.{unsigned_again}
 
 -- ---- blocks that rise end below the end of memory
 

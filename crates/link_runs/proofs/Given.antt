@@ -20,9 +20,9 @@ use Rattle.made_symbols.specs.declared.mode.Mode.TheVariants.{Plain}
 use Rattle.name_rules.specs.Entries.{InputSymbol, ImportKey, SymbolType, is_kind, name_of, is_named, entries, symbols_of, import_in, type_in, key_of, same_import}
 use Rattle.name_rules.specs.Meanings.{Meaning, here, imported, null, nothing, Resolved, resolved_in, resolve, meaning, no_uses}
 use Rattle.name_rules.specs.Cases.{clash_by}
-use Rattle.link_rules.specs.Program.{Program, strict_program, program_of, loose_part, loose_parts, Part, Content, function, segment, global, linker_made, parts_of, init_calls}
-use Rattle.link_rules.specs.Marks.{exported, memory_name, export_name, written_name, resolved_at}
-use Rattle.link_rules.specs.Keys.{imports_in_order, import_of}
+use Rattle.link_output.specs.link_rules.Program.{Program, strict_program, program_of, loose_part, loose_parts, Part, Content, function, segment, global, linker_made, parts_of, init_calls}
+use Rattle.link_output.specs.link_rules.Marks.{exported, memory_name, export_name, written_name, resolved_at}
+use Rattle.link_output.specs.link_rules.Keys.{imports_in_order, import_of}
 use Rattle.image_emit.specs.Spelled.{IsConstant}
 use Rattle.link_facts.specs.Loaded.{AreLoaded}
 use Rattle.link_facts.proofs.Symbols.{Known, entry_known}

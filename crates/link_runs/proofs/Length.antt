@@ -18,16 +18,16 @@ use Rattle.image_emit.specs.Pieces.{sources, source_places}
 use Rattle.image_emit.specs.Spelled.{IsU32}
 use Rattle.image_emit.proofs.Fills.{fill_law}
 use Rattle.live_mark.specs.Live.{is_among, reached}
-use Rattle.link_rules.specs.Program.{Program, Part}
-use Rattle.link_rules.specs.Marks.{live, picked, targets, root_places}
-use Rattle.link_rules.specs.Output.{image, source_windows}
-use Rattle.link_rules.specs.LinkOf.{output_fault}
-use Rattle.link_program.specs.Stand.{PartsStand}
-use Rattle.link_program.specs.Live.{AreLive}
+use Rattle.link_output.specs.link_rules.Program.{Program, Part}
+use Rattle.link_output.specs.link_rules.Marks.{live, picked, targets, root_places}
+use Rattle.link_output.specs.link_rules.Output.{image, source_windows}
+use Rattle.link_output.specs.link_rules.LinkOf.{output_fault}
+use Rattle.link_output.specs.link_program.Stand.{PartsStand}
+use Rattle.link_output.specs.link_program.Live.{AreLive}
 use Rattle.link_output.specs.Written.{StandInSources}
 use Rattle.link_output.proofs.Sources.{windows_stand}
 use Rattle.link_output.proofs.Apart.{all_lie, all_apart}
-use Rattle.link_worlds.specs.Worlds.{layout_of, linked_tree}
+use Rattle.link_facts.specs.link_worlds.Worlds.{layout_of, linked_tree}
 
 same_long : (t : Tree) (wss : List (List Window)) → StandInSources wss (sources t) → length (bytes_of (tree_filled (map (map patch_of) wss) t)) ≡ length (bytes_of t)
 same_long t wss s =

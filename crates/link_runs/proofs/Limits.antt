@@ -10,12 +10,12 @@ use Rattle.memory_layout.specs.Memory.{heap_base, around, around_stack, pages_ov
 use Rattle.memory_layout.specs.declared.rules.MemoryRules.{MemoryRules}
 use Rattle.memory_layout.specs.declared.rules.SegmentShape.{SegmentShape}
 use Rattle.image_emit.specs.Spelled.{AreLimits, IsTable, IsU32}
-use Rattle.link_rules.specs.Program.{Program}
-use Rattle.link_rules.specs.Marks.{live}
-use Rattle.link_rules.specs.Values.{slot_count, rules_of, shapes}
-use Rattle.link_rules.specs.Output.{layout, table, memory}
-use Rattle.link_rules.specs.LinkOf.{table_fault, memory_fault}
-use Rattle.link_worlds.specs.Worlds.{layout_of}
+use Rattle.link_output.specs.link_rules.Program.{Program}
+use Rattle.link_output.specs.link_rules.Marks.{live}
+use Rattle.link_output.specs.link_rules.Values.{slot_count, rules_of, shapes}
+use Rattle.link_output.specs.link_rules.Output.{layout, table, memory}
+use Rattle.link_output.specs.link_rules.LinkOf.{table_fault, memory_fault}
+use Rattle.link_facts.specs.link_worlds.Worlds.{layout_of}
 
 mapped_none : {A B : Type 0} (f : A → B) (o : Option A) → option_map f o ≡ None → o ≡ None
 mapped_none f None h = refl

@@ -13,16 +13,16 @@ use Rattle.link_plan.specs.declared.plan.Plan.{Plan}
 use Rattle.made_symbols.specs.declared.mode.Mode.TheVariants.{Plain}
 use Rattle.name_rules.specs.Entries.{InputSymbol}
 use Rattle.name_rules.specs.Cases.{clash_by}
-use Rattle.link_rules.specs.Candidates.{candidates_of}
-use Rattle.link_rules.specs.Program.{Program, program_of, Part}
-use Rattle.link_rules.specs.Marks.{live, exported}
-use Rattle.link_rules.specs.LinkOf.{asked_names, the_readers, link_of, link_by, link_program}
-use Rattle.link_program.specs.Loaded.{home_of, IsLoaded, IsReadFrom}
+use Rattle.link_output.specs.link_rules.Candidates.{candidates_of}
+use Rattle.link_output.specs.link_rules.Program.{Program, program_of, Part}
+use Rattle.link_output.specs.link_rules.Marks.{live, exported}
+use Rattle.link_output.specs.link_rules.LinkOf.{asked_names, the_readers, link_of, link_by, link_program}
+use Rattle.link_output.specs.link_program.Loaded.{home_of, IsLoaded, IsReadFrom}
 use Rattle.link_inputs.specs.Loaded.{LoadedAreSound}
-use Rattle.link_worlds.specs.Worlds.{layout_of, linked_tree}
-use Rattle.link_worlds.proofs.Live.{live_part}
-use Rattle.output_module.specs.Filled.{Reads}
-use Rattle.output_module.specs.Outputs.{IsCoded}
+use Rattle.link_facts.specs.link_worlds.Worlds.{layout_of, linked_tree}
+use Rattle.link_facts.proofs.link_worlds_lemmas.Live.{live_part}
+use Rattle.link_facts.specs.output_module.Filled.{Reads}
+use Rattle.link_facts.specs.output_module.Outputs.{IsCoded}
 use Rattle.link_facts.specs.Faults.{NoFault}
 use Rattle.link_facts.specs.Facts.{IsFrom, IsReading, Facts, FactsHold, bytes_of}
 use Rattle.link_runs.specs.Runs.{IsRun, IsAccepted, Gives, OutputRuns}
@@ -40,8 +40,8 @@ use Rattle.link_runs.proofs.Limits.{memory_fits, table_fits}
 use Rattle.link_runs.proofs.Ranged.{ranged, few_global_keys}
 use Rattle.object_parts.specs.declared.parts.GlobalDef.{GlobalDef}
 use Rattle.link_plan.specs.Plan.{IsPlan}
-use Rattle.link_rules.specs.Output.{image}
-use Rattle.link_rules.specs.LinkOf.{output_fault}
+use Rattle.link_output.specs.link_rules.Output.{image}
+use Rattle.link_output.specs.link_rules.LinkOf.{output_fault}
 use Rattle.link_facts.proofs.Loads.{are_loaded}
 use Rattle.link_facts.proofs.Steps.{is_marked, is_linked, is_link}
 use Rattle.name_rules.specs.Entries.{entries as entries_of}

@@ -3,13 +3,13 @@ use Rattle.std.specs.Prelude.{List}
 use Rattle.std.proofs.Common.{sym, ◌∙◌, subst}
 use Rattle.wasm_instr.specs.BodyLaws.{body_again}
 use Rattle.name_rules.specs.Entries.{InputSymbol}
-use Rattle.link_rules.specs.Program.{Program, Part}
-use Rattle.link_rules.specs.Values.{part_bytes}
-use Rattle.link_worlds.specs.Worlds.{layout_of, linked_module}
-use Rattle.link_worlds.specs.Sound.{IsShaped, Shaped, Takes}
-use Rattle.link_worlds.specs.Statements.{LinkedBy, RunsAgree}
-use Rattle.output_module.specs.Filled.{TakenBody}
-use Rattle.output_module.specs.Outputs.{OutputIsRead}
+use Rattle.link_output.specs.link_rules.Program.{Program, Part}
+use Rattle.link_output.specs.link_rules.Values.{part_bytes}
+use Rattle.link_facts.specs.link_worlds.Worlds.{layout_of, linked_module}
+use Rattle.link_facts.specs.link_worlds.Sound.{IsShaped, Shaped, Takes}
+use Rattle.link_facts.specs.link_worlds.Statements.{LinkedBy, RunsAgree}
+use Rattle.link_facts.specs.output_module.Filled.{TakenBody}
+use Rattle.link_facts.specs.output_module.Outputs.{OutputIsRead}
 use Rattle.link_facts.specs.Faults.{ValuesFit, MemoryHolds}
 use Rattle.link_runs.specs.Runs.{IsRun, IsAccepted, OutputRuns}
 use Rattle.link_runs.proofs.Fitting.{linked_fits, fits_but_places}

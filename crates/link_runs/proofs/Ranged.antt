@@ -18,13 +18,13 @@ use Rattle.made_symbols.specs.declared.mode.Mode.TheVariants.{Plain}
 use Rattle.name_rules.specs.Entries.{InputSymbol, ImportKey, SymbolType, of_function, of_global, untyped}
 use Rattle.image_emit.specs.Bytes.{Tree, bytes_of}
 use Rattle.image_emit.specs.Spelled.{IsU32, IsImport, IsImportKind, IsTable, AreLimits, IsGlobal, IsExport, entries}
-use Rattle.link_rules.specs.Program.{Program, Part, Content, function, segment, global, linker_made}
-use Rattle.link_rules.specs.Marks.{imports_memory, memory_name, export_name, refs_of}
-use Rattle.link_rules.specs.Keys.{FunctionKey, outside, linker_function, stub, own, GlobalKey, outside_global, linker_global, own_global, got, exported_datum, functions, globals, function_imports_of, used_globals, imports_in_order, made_function_key, own_function_key, made_global_key, own_global_key, got_entries, datum_key, stub_names, function_of, global_of, same_function, same_global}
-use Rattle.link_rules.specs.Values.{Layout}
-use Rattle.link_rules.specs.Output.{layout, image, imports, import_for, imported_kind, function_import, global_import, memory, memory_import, memory_export, export_of, table, global_for, global_content, content_global}
-use Rattle.link_worlds.specs.Worlds.{linked_tree}
-use Rattle.link_worlds.specs.Sound.{IsGlobalPart}
+use Rattle.link_output.specs.link_rules.Program.{Program, Part, Content, function, segment, global, linker_made}
+use Rattle.link_output.specs.link_rules.Marks.{imports_memory, memory_name, export_name, refs_of}
+use Rattle.link_output.specs.link_rules.Keys.{FunctionKey, outside, linker_function, stub, own, GlobalKey, outside_global, linker_global, own_global, got, exported_datum, functions, globals, function_imports_of, used_globals, imports_in_order, made_function_key, own_function_key, made_global_key, own_global_key, got_entries, datum_key, stub_names, function_of, global_of, same_function, same_global}
+use Rattle.link_output.specs.link_rules.Values.{Layout}
+use Rattle.link_output.specs.link_rules.Output.{layout, image, imports, import_for, imported_kind, function_import, global_import, memory, memory_import, memory_export, export_of, table, global_for, global_content, content_global}
+use Rattle.link_facts.specs.link_worlds.Worlds.{linked_tree}
+use Rattle.link_facts.specs.link_worlds.Sound.{IsGlobalPart}
 use Rattle.link_runs.proofs.Ranges.{IsRanged}
 use Rattle.link_runs.proofs.Few.{signed_fits}
 use Rattle.link_runs.proofs.Given.{KeyNamed, ContentFits, env_name, the_memory_name, found_has}

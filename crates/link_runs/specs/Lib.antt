@@ -1,2 +1,4 @@
 pub mod Runs
 pub mod Links
+pub use Rattle.link_facts.specs as link_facts
+pub use Rattle.link_inputs.specs as link_inputs

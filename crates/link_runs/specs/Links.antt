@@ -5,10 +5,10 @@ use Rattle.round_rules.specs.Rounds.{Candidate, load}
 use Rattle.link_plan.specs.declared.plan.Plan.{Plan}
 use Rattle.link_plan.specs.Plan.{IsPlan}
 use Rattle.made_symbols.specs.declared.mode.Mode.TheVariants.{Plain}
-use Rattle.link_rules.specs.Candidates.{candidates_of}
-use Rattle.link_rules.specs.LinkOf.{asked_names, the_readers, link_of}
-use Rattle.link_rules.specs.Marks.{exported}
-use Rattle.link_rules.specs.Program.{program_of}
+use Rattle.link_output.specs.link_rules.Candidates.{candidates_of}
+use Rattle.link_output.specs.link_rules.LinkOf.{asked_names, the_readers, link_of}
+use Rattle.link_output.specs.link_rules.Marks.{exported}
+use Rattle.link_output.specs.link_rules.Program.{program_of}
 use Rattle.link_runs.specs.Runs.{Gives}
 
 -- The bytes are read as a module that runs as the plan and the files tell: for each session that gives an imported memory enough pages, and

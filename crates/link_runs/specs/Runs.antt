@@ -10,16 +10,16 @@ use Rattle.name_rules.specs.Entries.{InputSymbol}
 use Rattle.image_emit.specs.Spelled.{IsSpellable}
 use Rattle.run_rules.specs.declared.session.Session.{Session}
 use Rattle.run_rules.specs.Modules.{module_trace, fits_session}
-use Rattle.link_rules.specs.Program.{Program, Part, Ref, refs}
-use Rattle.link_rules.specs.Marks.{live}
-use Rattle.link_rules.specs.Keys.{is_function_at}
-use Rattle.link_rules.specs.Output.{image, source_windows}
-use Rattle.link_rules.specs.LinkOf.{output_bytes}
-use Rattle.link_worlds.specs.Worlds.{layout_of, linked_module, linked_tree, plan_trace}
-use Rattle.link_worlds.specs.Sound.{Sound, SoundExports, IsGlobalPart}
-use Rattle.link_worlds.specs.Statements.{Holds}
-use Rattle.output_module.specs.Filled.{Reads, names_in}
-use Rattle.output_module.specs.Outputs.{IsCoded}
+use Rattle.link_output.specs.link_rules.Program.{Program, Part, Ref, refs}
+use Rattle.link_output.specs.link_rules.Marks.{live}
+use Rattle.link_output.specs.link_rules.Keys.{is_function_at}
+use Rattle.link_output.specs.link_rules.Output.{image, source_windows}
+use Rattle.link_output.specs.link_rules.LinkOf.{output_bytes}
+use Rattle.link_facts.specs.link_worlds.Worlds.{layout_of, linked_module, linked_tree, plan_trace}
+use Rattle.link_facts.specs.link_worlds.Sound.{Sound, SoundExports, IsGlobalPart}
+use Rattle.link_facts.specs.link_worlds.Statements.{Holds}
+use Rattle.link_facts.specs.output_module.Filled.{Reads, names_in}
+use Rattle.link_facts.specs.output_module.Outputs.{IsCoded}
 use Rattle.link_facts.specs.Faults.{Measured, NoFault, Enough}
 
 -- A function of an object whose instructions read the addresses that they take from cells.

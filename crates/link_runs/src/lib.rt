@@ -10,9 +10,9 @@ ghost use Rattle.link_runs.specs.Runs.{OutputRuns};
 pub fn outputs_run()
     ensures { OutputRuns }
 {
-    link_worlds::runs_agree();
-    output_module::outputs_are_read();
-    output_module::bodies_take_references();
+    link_facts::runs_agree();
+    link_facts::outputs_are_read();
+    link_facts::bodies_take_references();
     link_facts::values_and_segments_fit();
 }
 
@@ -26,3 +26,5 @@ pub fn links_run()
     link_facts::facts_hold();
     link_inputs::loaded_objects_are_sound();
 }
+
+pub use link_inputs::{Inputs, load_inputs};

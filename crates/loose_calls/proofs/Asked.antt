@@ -1,19 +1,19 @@
 -- Whether a call of a symbol names its variant, by what is answered for the symbol.
 use Rattle.std.proofs.Common.{◌≡◌, ℕ, Bool, true, false, not, ◌&&◌, List, refl, sym, ap, ◌∙◌, Option, Some, None}
 use Rattle.std.specs.Prelude.{slice_get, option_map, IsSome}
-use Rattle.link_program.specs.object_file.declared.object.Object.{Object}
-use Rattle.link_program.specs.linking_section.declared.symbol.SymbolKind.TheVariants.{Function}
-use Rattle.link_program.specs.made_symbols.declared.mode.Mode.TheVariants.{Plain}
-use Rattle.link_program.specs.name_rules.declared.meaning.Meaning.{Meaning as Answer}
-use Rattle.link_program.specs.name_rules.declared.meaning.Meaning.TheVariants.{Here, Made, Import, Null, Nothing}
-use Rattle.link_program.specs.name_rules.Entries.{InputSymbol, ImportKey, SymbolType, entries, name_of, is_entry, is_kind, same_symbol_type}
-use Rattle.link_program.specs.name_rules.Cases.{has_other_type, judge, mismatches, passes}
-use Rattle.link_program.specs.name_rules.Meanings.{Meaning, here, imported, null, nothing}
-use Rattle.link_program.specs.name_entries.View.{InputsRise, entry_at}
-use Rattle.link_program.specs.name_meanings.Means.{Answers, answer_at}
-use Rattle.link_program.specs.link_rules.Program.{is_mismatch}
-use Rattle.link_program.specs.Told.{told_lead}
-use Rattle.link_program.proofs.name_entries_lemmas.Rows.{no_entry}
+use Rattle.program_tables.specs.link_program.object_file.declared.object.Object.{Object}
+use Rattle.program_tables.specs.link_program.linking_section.declared.symbol.SymbolKind.TheVariants.{Function}
+use Rattle.program_tables.specs.link_program.made_symbols.declared.mode.Mode.TheVariants.{Plain}
+use Rattle.program_tables.specs.link_program.name_rules.declared.meaning.Meaning.{Meaning as Answer}
+use Rattle.program_tables.specs.link_program.name_rules.declared.meaning.Meaning.TheVariants.{Here, Made, Import, Null, Nothing}
+use Rattle.program_tables.specs.link_program.name_rules.Entries.{InputSymbol, ImportKey, SymbolType, entries, name_of, is_entry, is_kind, same_symbol_type}
+use Rattle.program_tables.specs.link_program.name_rules.Cases.{has_other_type, judge, mismatches, passes}
+use Rattle.program_tables.specs.link_program.name_rules.Meanings.{Meaning, here, imported, null, nothing}
+use Rattle.program_tables.specs.link_program.name_entries.View.{InputsRise, entry_at}
+use Rattle.program_tables.specs.link_program.name_meanings.Means.{Answers, answer_at}
+use Rattle.program_tables.specs.link_program.link_rules.Program.{is_mismatch}
+use Rattle.program_tables.specs.link_program.Told.{told_lead}
+use Rattle.program_tables.proofs.link_program_lemmas.name_entries_lemmas.Rows.{no_entry}
 use Rattle.program_tables.specs.Leads.{lead_from}
 use Rattle.program_tables.specs.Loose.{loosens}
 use Rattle.program_tables.proofs.Defining.{placed_at}

@@ -8,12 +8,12 @@ use Rattle.std.proofs.lemmas.Slice.Eq.{bytes_eq-Decides}
 use Rattle.std.proofs.lemmas.List.{append-nil, length-map, map-append}
 use Rattle.std.proofs.lemmas.List.Elements.{All-append, All-cons, All-nil, All-head, All-tail}
 use Rattle.std.proofs.lemmas.List.Folds.{list_any-append}
-use Rattle.link_program.specs.wl_base.Choice.{distinct, distinct_onto}
-use Rattle.link_program.specs.wl_base.Names.{number_of}
-use Rattle.link_program.specs.wasm_types.declared.function.FuncType.{FuncType}
-use Rattle.link_program.specs.object_file.Spaces.{no_type}
-use Rattle.link_program.specs.link_names.Numbered.{Numbered}
-use Rattle.link_program.specs.declared.symbol.Lead.TheVariants.{Null}
+use Rattle.program_tables.specs.link_program.wl_base.Choice.{distinct, distinct_onto}
+use Rattle.program_tables.specs.link_program.wl_base.Names.{number_of}
+use Rattle.program_tables.specs.link_program.wasm_types.declared.function.FuncType.{FuncType}
+use Rattle.program_tables.specs.link_program.object_file.Spaces.{no_type}
+use Rattle.program_tables.specs.link_program.link_names.Numbered.{Numbered}
+use Rattle.program_tables.specs.link_program.declared.symbol.Lead.TheVariants.{Null}
 use Rattle.link_names.specs.Interning.{more}
 use Rattle.link_names.proofs.More.{with_name, more_append, numbers_stay, new_last, held, not_held}
 use Rattle.loose_calls.specs.declared.variant.Variant.{Variant}

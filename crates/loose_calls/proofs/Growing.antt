@@ -3,13 +3,13 @@ use Rattle.std.proofs.Common.{◌≡◌, ℕ, zero, suc, ◌+◌, Bool, true, fa
 use Rattle.std.specs.Prelude.{map, flat_map, if◌then◌else◌, slice_get, option_map, Some}
 use Rattle.std.proofs.lemmas.Grind.{flat_map-append}
 use Rattle.std.proofs.lemmas.Option.{get_or_from_slice_get, slice_get-map}
-use Rattle.link_program.specs.object_file.declared.object.Object.{Object}
-use Rattle.link_program.specs.name_entries.View.{rows_of}
+use Rattle.program_tables.specs.link_program.object_file.declared.object.Object.{Object}
+use Rattle.program_tables.specs.link_program.name_entries.View.{rows_of}
 use Rattle.program_tables.specs.Loose.{all_symbols, loosens}
 use Rattle.program_tables.proofs.Lists.{at_take}
 use Rattle.std.proofs.lemmas.List.{append-nil, length-map, map-append}
 use Rattle.std.proofs.lemmas.List.Elements.{filter-append}
-use Rattle.link_program.specs.name_rules.Entries.{InputSymbol, symbols_of}
+use Rattle.program_tables.specs.link_program.name_rules.Entries.{InputSymbol, symbols_of}
 use Rattle.loose_calls.specs.declared.variant.Variant.{Variant}
 use Rattle.loose_calls.specs.declared.finding.Calls.{Calls}
 use Rattle.loose_calls.specs.Found.{variant_seen, called_onto, Grows, AreCalls}

@@ -2,23 +2,23 @@
 use Rattle.std.proofs.Common.{◌≡◌, ℕ, ◌<◌, Bool, true, List, refl, sym, ap, ◌∙◌, arith, subst, inl, inr, Option, Some, None}
 use Rattle.std.specs.Prelude.{slice_get, option_map, unwrap_or, is_some, IsSome}
 use Rattle.std.proofs.lemmas.Option.{same_Some}
-use Rattle.link_program.specs.linking_section.declared.symbol.SymbolKind.{SymbolKind}
-use Rattle.link_program.specs.linking_section.declared.symbol.SymbolKind.TheVariants.{Function, Datum, GlobalVar, Section, Table}
-use Rattle.link_program.specs.object_file.declared.object.Object.{Object}
-use Rattle.link_program.specs.object_file.Spaces.{no_type}
-use Rattle.link_program.specs.made_symbols.declared.mode.Mode.TheVariants.{Plain}
-use Rattle.link_program.specs.made_symbols.Made.{MadeSymbol, made_at}
-use Rattle.link_program.specs.name_rules.declared.meaning.Meaning.{Meaning as Answer}
-use Rattle.link_program.specs.name_rules.declared.meaning.Meaning.TheVariants.{Here, Made, Import, Null, Nothing}
-use Rattle.link_program.specs.name_rules.Entries.{InputSymbol, ImportKey, SymbolType, entries, made_entry, made_type}
-use Rattle.link_program.specs.name_rules.Meanings.{Meaning, here}
-use Rattle.link_program.specs.name_entries.View.{InputsRise, entry_at}
-use Rattle.link_program.specs.name_meanings.Means.{Answers}
-use Rattle.link_program.specs.link_rules.Keys.{function_type_of}
-use Rattle.link_program.specs.declared.symbol.Definition.{Definition}
-use Rattle.link_program.specs.declared.symbol.Lead.{Lead}
-use Rattle.link_program.specs.declared.symbol.Lead.TheVariants as leads
-use Rattle.link_program.specs.Told.{told_definition, told_lead}
+use Rattle.program_tables.specs.link_program.linking_section.declared.symbol.SymbolKind.{SymbolKind}
+use Rattle.program_tables.specs.link_program.linking_section.declared.symbol.SymbolKind.TheVariants.{Function, Datum, GlobalVar, Section, Table}
+use Rattle.program_tables.specs.link_program.object_file.declared.object.Object.{Object}
+use Rattle.program_tables.specs.link_program.object_file.Spaces.{no_type}
+use Rattle.program_tables.specs.link_program.made_symbols.declared.mode.Mode.TheVariants.{Plain}
+use Rattle.program_tables.specs.link_program.made_symbols.Made.{MadeSymbol, made_at}
+use Rattle.program_tables.specs.link_program.name_rules.declared.meaning.Meaning.{Meaning as Answer}
+use Rattle.program_tables.specs.link_program.name_rules.declared.meaning.Meaning.TheVariants.{Here, Made, Import, Null, Nothing}
+use Rattle.program_tables.specs.link_program.name_rules.Entries.{InputSymbol, ImportKey, SymbolType, entries, made_entry, made_type}
+use Rattle.program_tables.specs.link_program.name_rules.Meanings.{Meaning, here}
+use Rattle.program_tables.specs.link_program.name_entries.View.{InputsRise, entry_at}
+use Rattle.program_tables.specs.link_program.name_meanings.Means.{Answers}
+use Rattle.program_tables.specs.link_program.link_rules.Keys.{function_type_of}
+use Rattle.program_tables.specs.link_program.declared.symbol.Definition.{Definition}
+use Rattle.program_tables.specs.link_program.declared.symbol.Lead.{Lead}
+use Rattle.program_tables.specs.link_program.declared.symbol.Lead.TheVariants as leads
+use Rattle.program_tables.specs.link_program.Told.{told_definition, told_lead}
 use Rattle.program_tables.specs.Objects.{symbol_of}
 use Rattle.program_tables.specs.Leads.{no_definition, definition_of, made_definition, lead_from, IsThere}
 use Rattle.program_tables.proofs.Defining.{an_entry, entry_is, object_at, placed_at}

@@ -3,13 +3,13 @@ use Rattle.std.proofs.Common.{◌≡◌, Bool, true, false, cond, List, [], ◌�
 use Rattle.std.specs.Prelude.{map, flat_map, filter_map, if◌then◌else◌}
 use Rattle.std.specs.List.{list_any, cons_option}
 use Rattle.std.proofs.lemmas.List.Elements.{filter_map-append}
-use Rattle.link_program.specs.wl_base.Choice.{given, distinct, distinct_onto}
-use Rattle.link_program.specs.object_file.declared.object.Object.{Object}
-use Rattle.link_program.specs.made_symbols.declared.mode.Mode.TheVariants.{Plain}
-use Rattle.link_program.specs.name_rules.Entries.{InputSymbol, entries, symbols_of}
-use Rattle.link_program.specs.name_rules.Cases.{has_other_type}
-use Rattle.link_program.specs.name_rules.Meanings.{Meaning, here, imported, null, nothing, Resolved, resolve}
-use Rattle.link_program.specs.link_rules.Program.{Program, is_mismatch, option_onto}
+use Rattle.program_tables.specs.link_program.wl_base.Choice.{given, distinct, distinct_onto}
+use Rattle.program_tables.specs.link_program.object_file.declared.object.Object.{Object}
+use Rattle.program_tables.specs.link_program.made_symbols.declared.mode.Mode.TheVariants.{Plain}
+use Rattle.program_tables.specs.link_program.name_rules.Entries.{InputSymbol, entries, symbols_of}
+use Rattle.program_tables.specs.link_program.name_rules.Cases.{has_other_type}
+use Rattle.program_tables.specs.link_program.name_rules.Meanings.{Meaning, here, imported, null, nothing, Resolved, resolve}
+use Rattle.program_tables.specs.link_program.link_rules.Program.{Program, is_mismatch, option_onto}
 use Rattle.program_tables.specs.Loose.{all_symbols, loosens}
 use Rattle.program_tables.proofs.Answered.{resolved_of}
 use Rattle.mismatch_rules.specs.declared.mismatch.Mismatch.{Mismatch}

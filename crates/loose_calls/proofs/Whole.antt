@@ -5,21 +5,21 @@ use Rattle.std.specs.List.{list_any}
 use Rattle.std.proofs.lemmas.List.Elements.{All-cons, All-nil, All-head, All-tail, filter-append}
 use Rattle.std.proofs.lemmas.List.{map-append}
 use Rattle.std.proofs.lemmas.Option.{slice_get-map, unwrap_or-slice_get}
-use Rattle.link_program.specs.wl_base.Choice.{distinct}
-use Rattle.link_program.specs.wl_base.Names.{number_of}
-use Rattle.link_program.specs.object_file.declared.object.Object.{Object}
-use Rattle.link_program.specs.object_file.Spaces.{no_type}
-use Rattle.link_program.specs.made_symbols.declared.mode.Mode.TheVariants.{Plain}
-use Rattle.link_program.specs.link_names.Numbered.{Numbered}
-use Rattle.link_program.specs.name_rules.Entries.{InputSymbol, ImportKey, entries, symbols_of, name_of, is_named}
-use Rattle.link_program.specs.name_rules.Meanings.{Meaning, resolve}
-use Rattle.link_program.specs.link_rules.Program.{is_mismatch, variant, variants_among, variants_of, renamed}
-use Rattle.link_program.specs.link_rules.Keys.{function_type_of, entry_type}
-use Rattle.link_program.specs.declared.symbol.Symbol.{Symbol}
-use Rattle.link_program.specs.declared.symbol.Lead.TheVariants.{Null}
-use Rattle.link_program.specs.Told.{told_variant}
-use Rattle.link_program.specs.Program.{variant_names, variant_type}
-use Rattle.link_program.proofs.Loose.{mismatch_entry}
+use Rattle.program_tables.specs.link_program.wl_base.Choice.{distinct}
+use Rattle.program_tables.specs.link_program.wl_base.Names.{number_of}
+use Rattle.program_tables.specs.link_program.object_file.declared.object.Object.{Object}
+use Rattle.program_tables.specs.link_program.object_file.Spaces.{no_type}
+use Rattle.program_tables.specs.link_program.made_symbols.declared.mode.Mode.TheVariants.{Plain}
+use Rattle.program_tables.specs.link_program.link_names.Numbered.{Numbered}
+use Rattle.program_tables.specs.link_program.name_rules.Entries.{InputSymbol, ImportKey, entries, symbols_of, name_of, is_named}
+use Rattle.program_tables.specs.link_program.name_rules.Meanings.{Meaning, resolve}
+use Rattle.program_tables.specs.link_program.link_rules.Program.{is_mismatch, variant, variants_among, variants_of, renamed}
+use Rattle.program_tables.specs.link_program.link_rules.Keys.{function_type_of, entry_type}
+use Rattle.program_tables.specs.link_program.declared.symbol.Symbol.{Symbol}
+use Rattle.program_tables.specs.link_program.declared.symbol.Lead.TheVariants.{Null}
+use Rattle.program_tables.specs.link_program.Told.{told_variant}
+use Rattle.program_tables.specs.link_program.Program.{variant_names, variant_type}
+use Rattle.program_tables.proofs.link_program_lemmas.Loose.{mismatch_entry}
 use Rattle.program_tables.specs.declared.loose.Loose.{Loose}
 use Rattle.program_tables.specs.Loose.{all_symbols, loosens, variants_in, IsCalled, IsLoose}
 use Rattle.program_tables.proofs.Answered.{meant, resolved_of}

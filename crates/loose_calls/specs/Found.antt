@@ -1,16 +1,16 @@
 -- What calls of the symbols of all objects name.
 use Rattle.std.specs.Prelude.{◌≡◌, ℕ, ◌+◌, ◌∷◌, ◌++◌, Bool, true, false, List, [], map, filter, length, if◌then◌else◌, unwrap_or}
-use Rattle.link_program.specs.linking_section.declared.symbol.Symbol.{Symbol}
-use Rattle.link_program.specs.object_file.declared.object.Object.{Object}
-use Rattle.link_program.specs.made_symbols.declared.mode.Mode.TheVariants.{Plain}
-use Rattle.link_program.specs.name_rules.declared.meaning.Meaning.{Meaning as Answer}
-use Rattle.link_program.specs.name_rules.declared.meaning.Meaning.TheVariants.{Here, Made, Import, Null, Nothing}
-use Rattle.link_program.specs.name_rules.Entries.{InputSymbol, SymbolType, entries}
-use Rattle.link_program.specs.name_rules.Meanings.{resolve}
-use Rattle.link_program.specs.name_entries.Fits.{Fits}
-use Rattle.link_program.specs.name_meanings.Means.{IsResolution}
-use Rattle.link_program.specs.link_rules.Program.{renamed}
-use Rattle.link_program.specs.link_rules.Keys.{function_type_of}
+use Rattle.program_tables.specs.link_program.linking_section.declared.symbol.Symbol.{Symbol}
+use Rattle.program_tables.specs.link_program.object_file.declared.object.Object.{Object}
+use Rattle.program_tables.specs.link_program.made_symbols.declared.mode.Mode.TheVariants.{Plain}
+use Rattle.program_tables.specs.link_program.name_rules.declared.meaning.Meaning.{Meaning as Answer}
+use Rattle.program_tables.specs.link_program.name_rules.declared.meaning.Meaning.TheVariants.{Here, Made, Import, Null, Nothing}
+use Rattle.program_tables.specs.link_program.name_rules.Entries.{InputSymbol, SymbolType, entries}
+use Rattle.program_tables.specs.link_program.name_rules.Meanings.{resolve}
+use Rattle.program_tables.specs.link_program.name_entries.Fits.{Fits}
+use Rattle.program_tables.specs.link_program.name_meanings.Means.{IsResolution}
+use Rattle.program_tables.specs.link_program.link_rules.Program.{renamed}
+use Rattle.program_tables.specs.link_program.link_rules.Keys.{function_type_of}
 use Rattle.name_cases.specs.Least.{AreJudges}
 use Rattle.program_tables.specs.Loose.{all_symbols, loosens}
 use Rattle.loose_calls.specs.declared.variant.Variant.{Variant}

@@ -1,13 +1,13 @@
 -- The names of variants, with numbers behind all others.
 use Rattle.std.specs.Prelude.{◌≡◌, ℕ, ◌-◌, ◌<◌, ◌^◌, ◌==◌, ◌∷◌, ◌++◌, false, List, [], All, map, find, length, if◌then◌else◌, Some, unwrap_or, option_map, bytes_eq}
 use Rattle.std.specs.List.{list_any}
-use Rattle.link_program.specs.wl_base.Choice.{distinct}
-use Rattle.link_program.specs.wl_base.Names.{number_of}
-use Rattle.link_program.specs.wasm_types.declared.function.FuncType.{FuncType}
-use Rattle.link_program.specs.object_file.Spaces.{no_type}
-use Rattle.link_program.specs.link_names.Numbered.{Numbered}
-use Rattle.link_program.specs.declared.symbol.Symbol.{Symbol}
-use Rattle.link_program.specs.declared.symbol.Lead.TheVariants.{Null}
+use Rattle.program_tables.specs.link_program.wl_base.Choice.{distinct}
+use Rattle.program_tables.specs.link_program.wl_base.Names.{number_of}
+use Rattle.program_tables.specs.link_program.wasm_types.declared.function.FuncType.{FuncType}
+use Rattle.program_tables.specs.link_program.object_file.Spaces.{no_type}
+use Rattle.program_tables.specs.link_program.link_names.Numbered.{Numbered}
+use Rattle.program_tables.specs.link_program.declared.symbol.Symbol.{Symbol}
+use Rattle.program_tables.specs.link_program.declared.symbol.Lead.TheVariants.{Null}
 use Rattle.loose_calls.specs.declared.variant.Variant.{Variant}
 use Rattle.loose_calls.specs.declared.interning.Interned.{Interned}
 

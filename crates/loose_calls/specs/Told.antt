@@ -1,13 +1,13 @@
 -- What is told of the symbols of all objects.
 use Rattle.std.specs.Prelude.{◌≡◌, ℕ, Bool, List, filter_map, Some}
-use Rattle.link_program.specs.object_file.declared.object.Object.{Object}
-use Rattle.link_program.specs.object_file.Spaces.{no_type}
-use Rattle.link_program.specs.made_symbols.declared.mode.Mode.TheVariants.{Plain}
-use Rattle.link_program.specs.name_rules.declared.meaning.Meaning.{Meaning as Answer}
-use Rattle.link_program.specs.name_rules.declared.meaning.Meaning.TheVariants.{Here, Made, Import, Null, Nothing}
-use Rattle.link_program.specs.name_rules.Entries.{InputSymbol, entries}
-use Rattle.link_program.specs.name_rules.Meanings.{Meaning, meaning, no_uses}
-use Rattle.link_program.specs.link_rules.Keys.{function_type_of}
+use Rattle.program_tables.specs.link_program.object_file.declared.object.Object.{Object}
+use Rattle.program_tables.specs.link_program.object_file.Spaces.{no_type}
+use Rattle.program_tables.specs.link_program.made_symbols.declared.mode.Mode.TheVariants.{Plain}
+use Rattle.program_tables.specs.link_program.name_rules.declared.meaning.Meaning.{Meaning as Answer}
+use Rattle.program_tables.specs.link_program.name_rules.declared.meaning.Meaning.TheVariants.{Here, Made, Import, Null, Nothing}
+use Rattle.program_tables.specs.link_program.name_rules.Entries.{InputSymbol, entries}
+use Rattle.program_tables.specs.link_program.name_rules.Meanings.{Meaning, meaning, no_uses}
+use Rattle.program_tables.specs.link_program.link_rules.Keys.{function_type_of}
 use Rattle.mismatch_rules.specs.declared.mismatch.Mismatch.{Mismatch}
 use Rattle.mismatch_rules.specs.Mismatches.{mismatch_by}
 use Rattle.program_tables.specs.Objects.{symbol_of}

@@ -1,22 +1,21 @@
 //! Which symbols are called by another type than their definition has.
 ghost use Rattle.std.specs.Prelude.{◌≡◌, ◌<◌, ◌+◌, ◌∷◌, ◌++◌, [], Some, ◌==◌, ◌&&◌, not, Bool, true, IsSome, length, slice_index_or, OnOk, IfOk};
-ghost use Rattle.link_program.specs.linking_section.declared.symbol.SymbolKind.TheVariants as kinds;
-ghost use Rattle.link_program.specs.linking_section.Flags.{kind_code};
-ghost use Rattle.link_program.specs.object_columns.Seen.{symbol_seen};
-ghost use Rattle.link_program.specs.made_symbols.declared.mode.Mode.TheVariants as modes;
-ghost use Rattle.link_program.specs.name_rules.Entries.{InputSymbol, entries as all_entries};
-ghost use Rattle.link_program.specs.name_rules.Meanings.{resolve};
-ghost use Rattle.link_program.specs.name_entries.View.{rows_of, entry_at};
-ghost use Rattle.link_program.specs.name_entries.Fits.{Fits, FitsObjects};
-ghost use Rattle.link_program.specs.name_meanings.Means.{IsResolution};
+ghost use Rattle.program_tables.specs.link_program.linking_section.declared.symbol.SymbolKind.TheVariants as kinds;
+ghost use Rattle.program_tables.specs.link_program.linking_section.Flags.{kind_code};
+ghost use Rattle.program_tables.specs.link_program.object_columns.Seen.{symbol_seen};
+ghost use Rattle.program_tables.specs.link_program.made_symbols.declared.mode.Mode.TheVariants as modes;
+ghost use Rattle.program_tables.specs.link_program.name_rules.Entries.{InputSymbol, entries as all_entries};
+ghost use Rattle.program_tables.specs.link_program.name_rules.Meanings.{resolve};
+ghost use Rattle.program_tables.specs.link_program.name_entries.View.{rows_of, entry_at};
+ghost use Rattle.program_tables.specs.link_program.name_entries.Fits.{Fits, FitsObjects};
+ghost use Rattle.program_tables.specs.link_program.name_meanings.Means.{IsResolution};
 ghost use Rattle.program_tables.specs.Loose.{all_symbols, loosens};
 ghost use Rattle.loose_calls.specs.Found.{is_here, variant_seen, Grows, AreCalls, CanAsk};
 
 use crate::variant::{Variant, variant_of};
-use link_program::{Entries, EntryRef, Meaning, Resolution};
 use made_symbols::Mode;
-use name_cases::{Judges, has_other_type, judges_of};
-use name_entries::SymbolKind;
+use name_cases::{Judges, SymbolKind, has_other_type, judges_of};
+use program_tables::{Entries, EntryRef, Meaning, Resolution};
 use std::alloc::Global;
 use wl_base::{OutOfMemory, Seq};
 

@@ -1,11 +1,11 @@
 //! Variants get numbers of names, behind all others.
 ghost use Rattle.std.specs.Prelude.{◌≡◌, ◌≤◌, ◌-◌, ◌==◌, ◌∷◌, ◌++◌, [], Some, if◌then◌else◌, length, OnOk, IfOk};
-ghost use Rattle.link_program.specs.wl_base.Names.{number_of};
+ghost use Rattle.program_tables.specs.link_program.wl_base.Names.{number_of};
 ghost use Rattle.link_names.specs.Interning.{more};
 ghost use Rattle.loose_calls.specs.Interned.{Adds, Stays, Interns};
 
 use crate::variant::Variant;
-use link_program::{Lead, Names, Symbol};
+use program_tables::{Lead, Names, Symbol};
 use std::alloc::Global;
 use wasm_types::FuncType;
 use wl_base::{OutOfMemory, Seq};

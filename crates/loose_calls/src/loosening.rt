@@ -1,21 +1,20 @@
 //! What calls name in a link, by whether calls are loose.
 ghost use Rattle.std.specs.Prelude.{◌≡◌, ◌++◌, ◌<◌, ◌^◌, false, Bool, IfOk, OnOk, All, bytes_eq, length};
 ghost use Rattle.std.specs.List.{list_any};
-ghost use Rattle.link_program.specs.made_symbols.declared.mode.Mode.TheVariants as modes;
-ghost use Rattle.link_program.specs.link_names.Numbered.{AreNumbers};
-ghost use Rattle.link_program.specs.name_rules.Entries.{entries as all_entries, name_of};
-ghost use Rattle.link_program.specs.name_rules.Meanings.{resolve};
-ghost use Rattle.link_program.specs.name_entries.View.{InputsRise};
-ghost use Rattle.link_program.specs.name_entries.Fits.{IsTable};
-ghost use Rattle.link_program.specs.name_meanings.Means.{IsResolution};
-ghost use Rattle.link_program.specs.Program.{variant_names};
+ghost use Rattle.program_tables.specs.link_program.made_symbols.declared.mode.Mode.TheVariants as modes;
+ghost use Rattle.program_tables.specs.link_program.link_names.Numbered.{AreNumbers};
+ghost use Rattle.program_tables.specs.link_program.name_rules.Entries.{entries as all_entries, name_of};
+ghost use Rattle.program_tables.specs.link_program.name_rules.Meanings.{resolve};
+ghost use Rattle.program_tables.specs.link_program.name_entries.View.{InputsRise};
+ghost use Rattle.program_tables.specs.link_program.name_entries.Fits.{IsTable};
+ghost use Rattle.program_tables.specs.link_program.name_meanings.Means.{IsResolution};
+ghost use Rattle.program_tables.specs.link_program.Program.{variant_names};
 ghost use Rattle.program_tables.specs.Loose.{IsLoose, variants_in};
 ghost use Rattle.loose_calls.specs.Interned.{Stays};
 
 use crate::finding::calls_in;
 use crate::interning::intern_all;
-use link_program::{EntryTable, Names, Object, Resolution};
-use program_tables::Loose;
+use program_tables::{EntryTable, Loose, Names, Object, Resolution};
 use std::alloc::Global;
 use wl_base::OutOfMemory;
 

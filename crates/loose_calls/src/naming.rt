@@ -1,10 +1,10 @@
 //! The names of variants.
 ghost use Rattle.std.specs.Prelude.{◌≡◌, ◌∷◌, ◌++◌, map, OnOk, IfOk};
-ghost use Rattle.link_program.specs.wasm_types.Types.{val_byte};
-ghost use Rattle.link_program.specs.object_columns.Seen.{func_type_seen};
-ghost use Rattle.link_program.specs.link_rules.Program.{variant_name};
+ghost use Rattle.program_tables.specs.link_program.wasm_types.Types.{val_byte};
+ghost use Rattle.program_tables.specs.link_program.object_columns.Seen.{func_type_seen};
+ghost use Rattle.program_tables.specs.link_program.link_rules.Program.{variant_name};
 
-use link_program::FuncTypeRef;
+use program_tables::FuncTypeRef;
 use std::alloc::Global;
 use wasm_types::ValType;
 use wl_base::{Name, OutOfMemory, Seq};

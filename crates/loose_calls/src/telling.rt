@@ -1,16 +1,16 @@
 //! What is told of functions that are called by another type than their definition has.
 ghost use Rattle.std.specs.Prelude.{◌≡◌, ◌<◌, ◌∷◌, [], Bool, IsSome, Some, length, slice_get, slice_index_or, IfOk, IfSome, OnOk};
 ghost use Rattle.std.specs.List.{list_any};
-ghost use Rattle.link_program.specs.wl_base.Choice.{distinct, distinct_onto};
-ghost use Rattle.link_program.specs.object_file.declared.object.Object.{Object as TheObject};
-ghost use Rattle.link_program.specs.made_symbols.declared.mode.Mode.TheVariants as modes;
-ghost use Rattle.link_program.specs.name_rules.Entries.{InputSymbol, entries as all_entries};
-ghost use Rattle.link_program.specs.name_rules.Meanings.{here, resolve};
-ghost use Rattle.link_program.specs.name_entries.View.{rows_of, entry_at};
-ghost use Rattle.link_program.specs.name_entries.Fits.{Fits, FitsObjects};
-ghost use Rattle.link_program.specs.name_meanings.Means.{IsResolution};
-ghost use Rattle.link_program.specs.link_rules.Keys.{function_type_of};
-ghost use Rattle.link_program.specs.link_rules.Program.{Program};
+ghost use Rattle.program_tables.specs.link_program.wl_base.Choice.{distinct, distinct_onto};
+ghost use Rattle.program_tables.specs.link_program.object_file.declared.object.Object.{Object as TheObject};
+ghost use Rattle.program_tables.specs.link_program.made_symbols.declared.mode.Mode.TheVariants as modes;
+ghost use Rattle.program_tables.specs.link_program.name_rules.Entries.{InputSymbol, entries as all_entries};
+ghost use Rattle.program_tables.specs.link_program.name_rules.Meanings.{here, resolve};
+ghost use Rattle.program_tables.specs.link_program.name_entries.View.{rows_of, entry_at};
+ghost use Rattle.program_tables.specs.link_program.name_entries.Fits.{Fits, FitsObjects};
+ghost use Rattle.program_tables.specs.link_program.name_meanings.Means.{IsResolution};
+ghost use Rattle.program_tables.specs.link_program.link_rules.Keys.{function_type_of};
+ghost use Rattle.program_tables.specs.link_program.link_rules.Program.{Program};
 ghost use Rattle.mismatch_rules.specs.Mismatches.{beside, same_call, mismatches as mismatches_of};
 ghost use Rattle.program_tables.specs.Objects.{symbol_of};
 ghost use Rattle.program_tables.specs.Loose.{all_symbols};
@@ -19,10 +19,10 @@ ghost use Rattle.loose_calls.specs.Told.{meant, told_of, definer_seen, LeadsTo};
 
 use crate::finding::{Asking, count_symbols};
 use crate::variant::{function_type, name_of, type_at};
-use link_program::{Entries, Meaning, Resolution};
 use made_symbols::Mode;
 use mismatch_rules::Mismatch;
 use name_cases::judges_of;
+use program_tables::{Entries, Meaning, Resolution};
 use std::alloc::Global;
 use wasm_types::FuncType;
 use wl_base::{InputId, OutOfMemory, Seq};

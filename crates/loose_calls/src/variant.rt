@@ -1,17 +1,17 @@
 //! A function by the type by which it is called.
 ghost use Rattle.std.specs.Prelude.{◌≡◌, [], Some, IsSome, IfOk, unwrap_or};
-ghost use Rattle.link_program.specs.object_columns.Seen.{func_type_seen, symbol_seen};
-ghost use Rattle.link_program.specs.name_rules.Entries.{InputSymbol};
-ghost use Rattle.link_program.specs.name_entries.Shown.{type_seen};
-ghost use Rattle.link_program.specs.name_entries.View.{entry_at};
-ghost use Rattle.link_program.specs.name_entries.Fits.{FitsObjects};
-ghost use Rattle.link_program.specs.link_rules.Program.{renamed};
-ghost use Rattle.link_program.specs.link_rules.Keys.{function_type_of};
+ghost use Rattle.program_tables.specs.link_program.object_columns.Seen.{func_type_seen, symbol_seen};
+ghost use Rattle.program_tables.specs.link_program.name_rules.Entries.{InputSymbol};
+ghost use Rattle.program_tables.specs.link_program.name_entries.Shown.{type_seen};
+ghost use Rattle.program_tables.specs.link_program.name_entries.View.{entry_at};
+ghost use Rattle.program_tables.specs.link_program.name_entries.Fits.{FitsObjects};
+ghost use Rattle.program_tables.specs.link_program.link_rules.Program.{renamed};
+ghost use Rattle.program_tables.specs.link_program.link_rules.Keys.{function_type_of};
 ghost use Rattle.loose_calls.specs.Found.{variant_from, variant_seen};
 
 use crate::naming::variant_name;
-use link_program::{Entries, FuncTypeRef, SymbolRef, TypeRef};
-use name_entries::SymbolKind;
+use name_cases::SymbolKind;
+use program_tables::{Entries, FuncTypeRef, SymbolRef, TypeRef};
 use std::alloc::Global;
 use wasm_types::FuncType;
 use wl_base::{Name, OutOfMemory, Seq};

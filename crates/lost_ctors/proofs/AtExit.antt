@@ -6,18 +6,18 @@ use Rattle.std.proofs.lemmas.Bool.{false_from_ne_true}
 use Rattle.std.proofs.lemmas.List.Elements.{All-head, All-tail}
 use Rattle.std.proofs.lemmas.Slice.Eq.{bytes_eq-Decides}
 use Rattle.std.proofs.lemmas.Option.{same_Some}
-use Rattle.link_program.specs.wl_base.Names.{number_of}
-use Rattle.link_program.specs.linking_section.Flags.{is_weak, has_bit}
-use Rattle.link_program.specs.link_names.Numbered.{Held}
-use Rattle.link_program.specs.name_rules.Entries.{InputSymbol, ImportKey, name_of, is_named}
-use Rattle.link_program.specs.link_rules.Program as rules
-use Rattle.link_program.specs.link_rules.Program.{chunk_of}
-use Rattle.link_program.specs.link_rules.Marks as marks
-use Rattle.link_program.specs.link_rules.Marks.{strong_winner, loses_exits}
-use Rattle.link_program.specs.declared.program.Tables.{Tables}
-use Rattle.link_program.specs.Told.{told_winner, name_number}
-use Rattle.link_program.specs.Program.{AreTables}
-use Rattle.link_program.proofs.name_entries_lemmas.Numbered.{named_by}
+use Rattle.link_marks.specs.link_program.wl_base.Names.{number_of}
+use Rattle.link_marks.specs.link_program.linking_section.Flags.{is_weak, has_bit}
+use Rattle.link_marks.specs.link_program.link_names.Numbered.{Held}
+use Rattle.link_marks.specs.link_program.name_rules.Entries.{InputSymbol, ImportKey, name_of, is_named}
+use Rattle.link_marks.specs.link_program.link_rules.Program as rules
+use Rattle.link_marks.specs.link_program.link_rules.Program.{chunk_of}
+use Rattle.link_marks.specs.link_program.link_rules.Marks as marks
+use Rattle.link_marks.specs.link_program.link_rules.Marks.{strong_winner, loses_exits}
+use Rattle.link_marks.specs.link_program.declared.program.Tables.{Tables}
+use Rattle.link_marks.specs.link_program.Told.{told_winner, name_number}
+use Rattle.link_marks.specs.link_program.Program.{AreTables}
+use Rattle.link_marks.proofs.link_program_lemmas.name_entries_lemmas.Numbered.{named_by}
 use Rattle.link_marks.specs.Seen.{number_in}
 use Rattle.link_marks.proofs.Targets.{defined}
 use Rattle.lost_ctors.specs.declared.alive.Alive.{Alive}

@@ -4,25 +4,25 @@ use Rattle.std.specs.Prelude.{flat_map, pos, slice_index_or}
 use Rattle.std.specs.List.{list_any, cons_option}
 use Rattle.std.proofs.lemmas.List.{drop_more}
 use Rattle.std.proofs.lemmas.Option.{slice_get-map, slice_get_within, get_or_from_slice_get}
-use Rattle.link_program.specs.linking_section.declared.init.InitFunc.{InitFunc}
-use Rattle.link_program.specs.linking_section.Flags.{is_undefined}
-use Rattle.link_program.specs.object_columns.Seen.{symbol_seen}
-use Rattle.link_program.specs.linking_section.declared.symbol.Symbol.{Symbol as ObjectSymbol}
-use Rattle.link_program.specs.object_file.declared.object.Object.{Object}
-use Rattle.link_program.specs.made_symbols.declared.mode.Mode.TheVariants.{Plain}
-use Rattle.link_program.specs.name_rules.Entries.{InputSymbol, ImportKey, symbols_of, entries}
-use Rattle.link_program.specs.name_rules.Meanings.{Meaning, Resolved, meaning, no_uses, resolved_in, is_init_use}
-use Rattle.link_program.specs.name_entries.View.{entry_at, rows_of}
-use Rattle.link_program.specs.name_entries.Shown.{Shows, AreShown}
-use Rattle.link_program.specs.name_entries.declared.entry.EntryRef.{EntryRef}
-use Rattle.link_program.specs.link_rules.Program as rules
-use Rattle.link_program.specs.link_rules.Program.{InitCall, init_call, is_skipped, ref_to, meant_chunk}
-use Rattle.link_program.specs.link_rules.Marks.{is_in, is_at_chunk, loses_inits}
-use Rattle.link_program.specs.declared.symbol.Symbol.{Symbol}
-use Rattle.link_program.specs.declared.program.Tables.{Tables}
-use Rattle.link_program.specs.Told.{told_symbol, told_all, told_symbols}
-use Rattle.link_program.specs.Seen.{no_symbol}
-use Rattle.link_program.specs.Program.{AreTables}
+use Rattle.link_marks.specs.link_program.linking_section.declared.init.InitFunc.{InitFunc}
+use Rattle.link_marks.specs.link_program.linking_section.Flags.{is_undefined}
+use Rattle.link_marks.specs.link_program.object_columns.Seen.{symbol_seen}
+use Rattle.link_marks.specs.link_program.linking_section.declared.symbol.Symbol.{Symbol as ObjectSymbol}
+use Rattle.link_marks.specs.link_program.object_file.declared.object.Object.{Object}
+use Rattle.link_marks.specs.link_program.made_symbols.declared.mode.Mode.TheVariants.{Plain}
+use Rattle.link_marks.specs.link_program.name_rules.Entries.{InputSymbol, ImportKey, symbols_of, entries}
+use Rattle.link_marks.specs.link_program.name_rules.Meanings.{Meaning, Resolved, meaning, no_uses, resolved_in, is_init_use}
+use Rattle.link_marks.specs.link_program.name_entries.View.{entry_at, rows_of}
+use Rattle.link_marks.specs.link_program.name_entries.Shown.{Shows, AreShown}
+use Rattle.link_marks.specs.link_program.name_entries.declared.entry.EntryRef.{EntryRef}
+use Rattle.link_marks.specs.link_program.link_rules.Program as rules
+use Rattle.link_marks.specs.link_program.link_rules.Program.{InitCall, init_call, is_skipped, ref_to, meant_chunk}
+use Rattle.link_marks.specs.link_program.link_rules.Marks.{is_in, is_at_chunk, loses_inits}
+use Rattle.link_marks.specs.link_program.declared.symbol.Symbol.{Symbol}
+use Rattle.link_marks.specs.link_program.declared.program.Tables.{Tables}
+use Rattle.link_marks.specs.link_program.Told.{told_symbol, told_all, told_symbols}
+use Rattle.link_marks.specs.link_program.Seen.{no_symbol}
+use Rattle.link_marks.specs.link_program.Program.{AreTables}
 use Rattle.link_marks.specs.Seen.{led_number, number_in}
 use Rattle.link_marks.proofs.Targets.{led}
 use Rattle.lost_ctors.specs.declared.alive.Alive.{Alive}

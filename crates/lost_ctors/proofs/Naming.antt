@@ -5,15 +5,15 @@ use Rattle.std.specs.List.{list_any}
 use Rattle.std.proofs.lemmas.List.Folds.{list_any-append}
 use Rattle.std.proofs.lemmas.Option.{same_Some}
 use Rattle.std.proofs.lemmas.Slice.Eq.{bytes_eq-Decides}
-use Rattle.link_program.specs.wl_base.Names.{number_of}
-use Rattle.link_program.specs.linking_section.declared.symbol.Symbol.{Symbol}
-use Rattle.link_program.specs.object_file.declared.object.Object.{Object}
-use Rattle.link_program.specs.made_symbols.declared.mode.Mode.TheVariants.{Plain}
-use Rattle.link_program.specs.made_symbols.Made.{MadeSymbol, made}
-use Rattle.link_program.specs.link_names.Numbered.{Numbered, is_entry_symbol, symbol_name, symbol_number}
-use Rattle.link_program.specs.name_rules.Entries.{InputSymbol, entries, entries_from, symbols_of, made_from, is_entry, is_named}
-use Rattle.link_program.specs.name_entries.View.{InputsRise, is_number}
-use Rattle.link_program.proofs.name_entries_lemmas.Numbered.{named_by}
+use Rattle.link_marks.specs.link_program.wl_base.Names.{number_of}
+use Rattle.link_marks.specs.link_program.linking_section.declared.symbol.Symbol.{Symbol}
+use Rattle.link_marks.specs.link_program.object_file.declared.object.Object.{Object}
+use Rattle.link_marks.specs.link_program.made_symbols.declared.mode.Mode.TheVariants.{Plain}
+use Rattle.link_marks.specs.link_program.made_symbols.Made.{MadeSymbol, made}
+use Rattle.link_marks.specs.link_program.link_names.Numbered.{Numbered, is_entry_symbol, symbol_name, symbol_number}
+use Rattle.link_marks.specs.link_program.name_rules.Entries.{InputSymbol, entries, entries_from, symbols_of, made_from, is_entry, is_named}
+use Rattle.link_marks.specs.link_program.name_entries.View.{InputsRise, is_number}
+use Rattle.link_marks.proofs.link_program_lemmas.name_entries_lemmas.Numbered.{named_by}
 
 any_filter : {A : Type 0} (f g : A → Bool) (xs : List A) → list_any f (filter g xs) ≡ list_any (λ x. g x && f x) xs
 any_filter f g [] = refl

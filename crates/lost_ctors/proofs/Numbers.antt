@@ -3,16 +3,16 @@ use Rattle.std.proofs.Common.{◌≡◌, ℕ, ◌==◌, ◌&&◌, Bool, true, fa
 use Rattle.std.specs.List.{list_any}
 use Rattle.std.proofs.lemmas.List.Quantifiers.{position-Some}
 use Rattle.std.proofs.lemmas.Option.{slice_get-map, get_or_from_slice_get, same_Some}
-use Rattle.link_program.specs.mark_bits.declared.chunk.Chunk.{Chunk}
-use Rattle.link_program.specs.link_rules.Program as rules
-use Rattle.link_program.specs.link_rules.Program.{same_chunk}
-use Rattle.link_program.specs.link_rules.Marks.{is_in, is_at_chunk}
-use Rattle.link_program.specs.name_rules.Entries.{ImportKey}
-use Rattle.link_program.specs.declared.program.Tables.{Tables}
-use Rattle.link_program.specs.Look.{no_part}
-use Rattle.link_program.specs.Seen.{SeenPart, seen_part, told_part}
-use Rattle.link_program.specs.Program.{ChunksDiffer, AreTables}
-use Rattle.link_program.proofs.Chunks.{chunk_is, stands_at}
+use Rattle.link_marks.specs.link_program.mark_bits.declared.chunk.Chunk.{Chunk}
+use Rattle.link_marks.specs.link_program.link_rules.Program as rules
+use Rattle.link_marks.specs.link_program.link_rules.Program.{same_chunk}
+use Rattle.link_marks.specs.link_program.link_rules.Marks.{is_in, is_at_chunk}
+use Rattle.link_marks.specs.link_program.name_rules.Entries.{ImportKey}
+use Rattle.link_marks.specs.link_program.declared.program.Tables.{Tables}
+use Rattle.link_marks.specs.link_program.Look.{no_part}
+use Rattle.link_marks.specs.link_program.Seen.{SeenPart, seen_part, told_part}
+use Rattle.link_marks.specs.link_program.Program.{ChunksDiffer, AreTables}
+use Rattle.link_marks.proofs.link_program_lemmas.Chunks.{chunk_is, stands_at}
 use Rattle.link_marks.specs.Seen.{number_in}
 use Rattle.lost_ctors.specs.Alive.{input_of, is_other, parts_of}
 

@@ -7,7 +7,7 @@ use Rattle.std.proofs.lemmas.List.{append-nil, length-set, length-replicate, get
 use Rattle.std.proofs.lemmas.List.Elements.{filter-append, All-head, All-tail}
 use Rattle.std.proofs.lemmas.Option.{slice_get-get_or}
 use Rattle.std.proofs.lemmas.List.Folds.{list_any-append}
-use Rattle.link_program.specs.declared.program.Tables.{Tables}
+use Rattle.link_marks.specs.link_program.declared.program.Tables.{Tables}
 use Rattle.lost_ctors.specs.declared.alive.Alive.{Alive}
 use Rattle.lost_ctors.specs.declared.alive.Alive.TheVariants.{Nothing, Alone, Many}
 use Rattle.lost_ctors.specs.Alive.{input_of, with_part, is_other, lives_beside, lives, Sums, parts_of, kept_count, count_part, count_parts, AreAlive}

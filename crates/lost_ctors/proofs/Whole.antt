@@ -3,26 +3,26 @@ use Rattle.std.proofs.Common.{◌≡◌, ℕ, suc, ◌+◌, ◌<◌, ◌^◌, �
 use Rattle.std.specs.Prelude.{flat_map, is_some, IsSome}
 use Rattle.std.specs.List.{list_any}
 use Rattle.std.proofs.lemmas.List.{length-map}
-use Rattle.link_program.specs.wl_base.Choice.{given}
-use Rattle.link_program.specs.wl_base.Names.{number_of}
-use Rattle.link_program.specs.wl_base.declared.fault.Fault.{Fault}
-use Rattle.link_program.specs.wl_base.declared.fault.Fault.TheVariants.{Uncalled}
-use Rattle.link_program.specs.object_file.declared.object.Object.{Object}
-use Rattle.link_program.specs.made_symbols.declared.mode.Mode.TheVariants.{Plain}
+use Rattle.link_marks.specs.link_program.wl_base.Choice.{given}
+use Rattle.link_marks.specs.link_program.wl_base.Names.{number_of}
+use Rattle.link_marks.specs.link_program.wl_base.declared.fault.Fault.{Fault}
+use Rattle.link_marks.specs.link_program.wl_base.declared.fault.Fault.TheVariants.{Uncalled}
+use Rattle.link_marks.specs.link_program.object_file.declared.object.Object.{Object}
+use Rattle.link_marks.specs.link_program.made_symbols.declared.mode.Mode.TheVariants.{Plain}
 use Rattle.link_plan.specs.declared.plan.Plan.{Plan}
-use Rattle.link_program.specs.name_rules.Entries.{InputSymbol, symbols_of, entries, name_of, is_named}
-use Rattle.link_program.specs.name_rules.Meanings.{Meaning, Resolved, meaning, no_uses, resolve, resolved_in}
-use Rattle.link_program.specs.name_entries.View.{rows_of, is_number}
-use Rattle.link_program.specs.link_rules.Program as rules
-use Rattle.link_program.specs.link_rules.Marks.{demanded, ctors_name, names_ctors, loses_inits, loses_exits}
-use Rattle.link_program.specs.wl_base.Choice.{has_name}
-use Rattle.link_program.specs.link_names.Numbered.{Held}
-use Rattle.link_program.specs.declared.program.Program.{Program}
-use Rattle.link_program.specs.Told.{told_all, told_symbols, told_variant}
-use Rattle.link_program.specs.Program.{IsProgram}
+use Rattle.link_marks.specs.link_program.name_rules.Entries.{InputSymbol, symbols_of, entries, name_of, is_named}
+use Rattle.link_marks.specs.link_program.name_rules.Meanings.{Meaning, Resolved, meaning, no_uses, resolve, resolved_in}
+use Rattle.link_marks.specs.link_program.name_entries.View.{rows_of, is_number}
+use Rattle.link_marks.specs.link_program.link_rules.Program as rules
+use Rattle.link_marks.specs.link_program.link_rules.Marks.{demanded, ctors_name, names_ctors, loses_inits, loses_exits}
+use Rattle.link_marks.specs.link_program.wl_base.Choice.{has_name}
+use Rattle.link_marks.specs.link_program.link_names.Numbered.{Held}
+use Rattle.link_marks.specs.link_program.declared.program.Program.{Program}
+use Rattle.link_marks.specs.link_program.Told.{told_all, told_symbols, told_variant}
+use Rattle.link_marks.specs.link_program.Program.{IsProgram}
 use Rattle.link_marks.specs.Alive.{IsLive}
 use Rattle.link_marks.specs.declared.live.Live.{Live}
-use Rattle.link_program.proofs.name_entries_lemmas.Few.{few}
+use Rattle.link_marks.proofs.link_program_lemmas.name_entries_lemmas.Few.{few}
 use Rattle.link_marks.proofs.Winning.{winner_names_held}
 use Rattle.lost_ctors.specs.declared.alive.Alive.{Alive}
 use Rattle.lost_ctors.specs.Alive.{AreAlive}

@@ -1,8 +1,8 @@
 -- How many parts of each input are live, as far as it matters.
 use Rattle.std.specs.Prelude.{◌≡◌, ℕ, ◌==◌, Bool, true, false, not, List, [], ◌∷◌, filter, if◌then◌else◌, Option, Some, None, slice_get, slice_index_or, slice_set}
 use Rattle.std.specs.List.{list_any}
-use Rattle.link_program.specs.declared.program.Tables.{Tables}
-use Rattle.link_program.specs.Look.{part_at}
+use Rattle.link_marks.specs.link_program.declared.program.Tables.{Tables}
+use Rattle.link_marks.specs.link_program.Look.{part_at}
 use Rattle.lost_ctors.specs.declared.alive.Alive.{Alive}
 use Rattle.lost_ctors.specs.declared.alive.Alive.TheVariants.{Nothing, Alone, Many}
 

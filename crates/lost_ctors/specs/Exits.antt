@@ -1,10 +1,10 @@
 -- What is to be done at exit, as the data tell it.
 use Rattle.std.specs.Prelude.{ℕ, ◌==◌, ◌&&◌, ◌||◌, Bool, false, not, List, find, Option, Some, None, option_and_then, codes}
-use Rattle.link_program.specs.wl_base.Names.{number_of}
-use Rattle.link_program.specs.linking_section.Flags.{has_bit}
-use Rattle.link_program.specs.mark_bits.declared.chunk.Chunk.{Chunk}
+use Rattle.link_marks.specs.link_program.wl_base.Names.{number_of}
+use Rattle.link_marks.specs.link_program.linking_section.Flags.{has_bit}
+use Rattle.link_marks.specs.link_program.mark_bits.declared.chunk.Chunk.{Chunk}
 use Rattle.std.specs.List.{list_any}
-use Rattle.link_program.specs.declared.symbol.Winner.{Winner}
+use Rattle.link_marks.specs.link_program.declared.symbol.Winner.{Winner}
 use Rattle.link_marks.specs.Seen.{defined_chunk, number_in}
 use Rattle.lost_ctors.specs.declared.alive.Alive.{Alive}
 use Rattle.lost_ctors.specs.Alive.{lives, alive_of}

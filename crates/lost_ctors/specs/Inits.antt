@@ -1,13 +1,13 @@
 -- Which init functions would be lost, as the data tell it.
 use Rattle.std.specs.Prelude.{ℕ, ◌+◌, ◌&&◌, ◌||◌, Bool, false, List, [], ◌∷◌, length, slice_index_or, Option, Some, None}
 use Rattle.std.specs.List.{list_any}
-use Rattle.link_program.specs.linking_section.declared.init.InitFunc.{InitFunc}
-use Rattle.link_program.specs.object_file.declared.object.Object.{Object}
-use Rattle.link_program.specs.name_rules.Entries.{InputSymbol, symbols_of}
-use Rattle.link_program.specs.name_rules.Meanings.{is_init_use}
-use Rattle.link_program.specs.name_entries.View.{entry_at}
-use Rattle.link_program.specs.declared.program.Tables.{Tables}
-use Rattle.link_program.specs.Seen.{no_symbol}
+use Rattle.link_marks.specs.link_program.linking_section.declared.init.InitFunc.{InitFunc}
+use Rattle.link_marks.specs.link_program.object_file.declared.object.Object.{Object}
+use Rattle.link_marks.specs.link_program.name_rules.Entries.{InputSymbol, symbols_of}
+use Rattle.link_marks.specs.link_program.name_rules.Meanings.{is_init_use}
+use Rattle.link_marks.specs.link_program.name_entries.View.{entry_at}
+use Rattle.link_marks.specs.link_program.declared.program.Tables.{Tables}
+use Rattle.link_marks.specs.link_program.Seen.{no_symbol}
 use Rattle.link_marks.specs.Seen.{led_number}
 use Rattle.lost_ctors.specs.declared.alive.Alive.{Alive}
 use Rattle.lost_ctors.specs.Alive.{lives_beside, alive_of}

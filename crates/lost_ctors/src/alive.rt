@@ -3,7 +3,7 @@ ghost use Rattle.std.specs.Prelude.{◌≡◌, ◌<◌, ◌≤◌, All, IfOk, re
 ghost use Rattle.lost_ctors.specs.declared.alive.Alive.TheVariants.{Nothing};
 ghost use Rattle.lost_ctors.specs.Alive.{input_of, with_part, is_other, lives_beside, lives, alive_of, count_part, count_parts, AreAlive};
 
-use link_program::{Tables, part_at};
+use link_marks::{Tables, part_at};
 use std::alloc::Global;
 use wl_base::{InputId, OutOfMemory};
 

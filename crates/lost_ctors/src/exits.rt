@@ -1,12 +1,11 @@
 //! Whether what is to be done at exit would be lost, as wasi-libc's `__wasm_call_dtors` does it.
 ghost use Rattle.std.specs.Prelude.{◌≡◌, ◌==◌, ◌&&◌, not, codes};
 ghost use Rattle.std.specs.List.{list_any};
-ghost use Rattle.link_program.specs.linking_section.Flags.{has_bit};
+ghost use Rattle.link_marks.specs.link_program.linking_section.Flags.{has_bit};
 ghost use Rattle.lost_ctors.specs.Exits.{strong_by, strong_seen, lives_with, lives_itself, exits_lost};
 
 use crate::alive::{Alive, alive_of, lives};
-use link_marks::number_defined;
-use link_program::{Names, Tables, Winner};
+use link_marks::{Names, Tables, Winner, number_defined};
 use linking_section::WEAK;
 
 /// Defined strongly where `atexit` is linked (wasi-libc).

@@ -1,14 +1,13 @@
 //! Whether init functions would be lost: where one isn't skipped, and another part of its object is live.
 ghost use Rattle.std.specs.Prelude.{◌≡◌, ◌||◌, ◌+◌, ◌<◌, ◌^◌, [], length, flat_map, slice_get, slice_index_or};
-ghost use Rattle.link_program.specs.linking_section.Flags.{is_undefined};
-ghost use Rattle.link_program.specs.object_columns.Seen.{symbol_seen};
-ghost use Rattle.link_program.specs.name_entries.Fits.{FitsObjects};
-ghost use Rattle.link_program.specs.name_entries.View.{rows_of};
+ghost use Rattle.link_marks.specs.link_program.linking_section.Flags.{is_undefined};
+ghost use Rattle.link_marks.specs.link_program.object_columns.Seen.{symbol_seen};
+ghost use Rattle.link_marks.specs.link_program.name_entries.Fits.{FitsObjects};
+ghost use Rattle.link_marks.specs.link_program.name_entries.View.{rows_of};
 ghost use Rattle.lost_ctors.specs.Inits.{init_lost, inits_lost, lost_of, objects_lost};
 
 use crate::alive::{Alive, alive_of, lives_beside};
-use link_marks::number_led;
-use link_program::{Entries, EntryRef, Tables, symbol_at};
+use link_marks::{Entries, EntryRef, Tables, number_led, symbol_at};
 use linking_section::InitFunc;
 
 /// Whether an init function of this symbol is called: not where it is defined in a part that isn't kept.

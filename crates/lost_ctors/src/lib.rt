@@ -8,4 +8,5 @@ mod inits;
 mod lost;
 mod words;
 
+pub use link_marks::{Live, all_are_meant, exports, live_parts, repeated_export, unresolved};
 pub use lost::uncalled;

@@ -1,12 +1,12 @@
 //! The fault of a link that would lose constructors.
 ghost use Rattle.std.specs.Prelude.{◌≡◌, ◌||◌, ◌<◌, ◌^◌, not, length, flat_map};
-ghost use Rattle.link_program.specs.made_symbols.declared.mode.Mode.TheVariants.{Plain};
-ghost use Rattle.link_program.specs.name_entries.Fits.{Fits, FitsObjects};
-ghost use Rattle.link_program.specs.name_entries.View.{rows_of};
-ghost use Rattle.link_program.specs.link_rules.Program as rules;
-ghost use Rattle.link_program.specs.link_rules.Marks as marks;
-ghost use Rattle.link_program.specs.Answers.{Passes};
-ghost use Rattle.link_program.specs.Program.{IsProgram};
+ghost use Rattle.link_marks.specs.link_program.made_symbols.declared.mode.Mode.TheVariants.{Plain};
+ghost use Rattle.link_marks.specs.link_program.name_entries.Fits.{Fits, FitsObjects};
+ghost use Rattle.link_marks.specs.link_program.name_entries.View.{rows_of};
+ghost use Rattle.link_marks.specs.link_program.link_rules.Program as rules;
+ghost use Rattle.link_marks.specs.link_program.link_rules.Marks as marks;
+ghost use Rattle.link_marks.specs.link_program.Answers.{Passes};
+ghost use Rattle.link_marks.specs.link_program.Program.{IsProgram};
 ghost use Rattle.link_marks.specs.About.{Living};
 ghost use Rattle.link_marks.specs.Alive.{IsLive};
 ghost use Rattle.lost_ctors.specs.Inits.{objects_lost};
@@ -16,8 +16,7 @@ use crate::alive::{Alive, alive_by_input};
 use crate::exits::exits_are_lost;
 use crate::inits::some_are_lost;
 use crate::words::names_ctors;
-use link_marks::Live;
-use link_program::{Entries, LinkError, Names, Program, Tables};
+use link_marks::{Entries, LinkError, Live, Names, Program, Tables};
 use std::alloc::Global;
 use wl_base::Fault;
 

@@ -1,16 +1,16 @@
 //! Whether anything names the linker's function that calls the init functions.
 ghost use Rattle.std.specs.Prelude.{◌≡◌, [], length, slice_index_or, option_to_list, bytes_eq};
 ghost use Rattle.std.specs.List.{list_any};
-ghost use Rattle.link_program.specs.wl_base.Choice.{has_name};
-ghost use Rattle.link_program.specs.wl_base.Names.{number_of};
-ghost use Rattle.link_program.specs.made_symbols.declared.mode.Mode.TheVariants.{Plain};
-ghost use Rattle.link_program.specs.name_entries.View.{is_number};
-ghost use Rattle.link_program.specs.link_rules.Program as rules;
-ghost use Rattle.link_program.specs.link_rules.Marks.{demanded, ctors_name, names_ctors};
-ghost use Rattle.link_program.specs.Program.{IsProgram};
+ghost use Rattle.link_marks.specs.link_program.wl_base.Choice.{has_name};
+ghost use Rattle.link_marks.specs.link_program.wl_base.Names.{number_of};
+ghost use Rattle.link_marks.specs.link_program.made_symbols.declared.mode.Mode.TheVariants.{Plain};
+ghost use Rattle.link_marks.specs.link_program.name_entries.View.{is_number};
+ghost use Rattle.link_marks.specs.link_program.link_rules.Program as rules;
+ghost use Rattle.link_marks.specs.link_program.link_rules.Marks.{demanded, ctors_name, names_ctors};
+ghost use Rattle.link_marks.specs.link_program.Program.{IsProgram};
 
+use link_marks::{Names, Program};
 use link_plan::Plan;
-use link_program::{Names, Program};
 use wl_base::Name;
 
 /// The linker's function that calls the init functions.

@@ -1,13 +1,13 @@
 -- What is told of functions that are called by another type than their definition has, in a link with loose calls.
 use Rattle.std.specs.Prelude.{ℕ, Bool, true, false, ◌&&◌, List, [], ◌∷◌, flat_map, Option, None, bytes_eq, Result, Ok, Err}
-use Rattle.object_file.specs.wl_base.Choice.{given, distinct, unless, ◌>>=◌}
-use Rattle.object_file.specs.wl_base.declared.fault.Fault.{Fault}
-use Rattle.object_file.specs.wasm_types.Same.{same_type}
+use Rattle.link_rules.specs.object_file.wl_base.Choice.{given, distinct, unless, ◌>>=◌}
+use Rattle.link_rules.specs.object_file.wl_base.declared.fault.Fault.{Fault}
+use Rattle.link_rules.specs.object_file.wasm_types.Same.{same_type}
 use Rattle.made_symbols.specs.declared.mode.Mode.{Mode}
-use Rattle.round_rules.specs.Rounds.{load}
-use Rattle.name_rules.specs.Entries.{InputSymbol, name_of}
-use Rattle.name_rules.specs.Cases.{clash_by, duplicate, has_other_type}
-use Rattle.name_rules.specs.Meanings.{Meaning, here, imported, null, nothing}
+use Rattle.link_rules.specs.round_rules.Rounds.{load}
+use Rattle.link_rules.specs.name_rules.Entries.{InputSymbol, name_of}
+use Rattle.link_rules.specs.name_rules.Cases.{clash_by, duplicate, has_other_type}
+use Rattle.link_rules.specs.name_rules.Meanings.{Meaning, here, imported, null, nothing}
 use Rattle.link_plan.specs.declared.plan.Plan.{Plan}
 use Rattle.link_rules.specs.Candidates.{Readers, candidates_of}
 use Rattle.link_rules.specs.Program.{Program, program_of, option_onto}

@@ -1,13 +1,13 @@
 -- What is told of worked links.
 use Rattle.std.specs.Prelude.{◌≡◌, List, [], ◌∷◌, refl, codes}
-use Rattle.object_file.specs.wasm_types.declared.function.FuncType.{FuncType}
-use Rattle.object_file.specs.wasm_types.declared.value.ValType.TheVariants.{I32}
-use Rattle.object_file.specs.declared.object.Object.{Object}
+use Rattle.link_rules.specs.object_file.wasm_types.declared.function.FuncType.{FuncType}
+use Rattle.link_rules.specs.object_file.wasm_types.declared.value.ValType.TheVariants.{I32}
+use Rattle.link_rules.specs.object_file.declared.object.Object.{Object}
 use Rattle.made_symbols.specs.declared.mode.Mode.TheVariants.{Plain}
-use Rattle.round_rules.specs.Rounds.{load}
-use Rattle.name_rules.specs.Entries.{entries}
-use Rattle.name_rules.specs.Meanings.{resolve}
-use Rattle.name_rules.specs.Cases.{clash, loose_clash, duplicate}
+use Rattle.link_rules.specs.round_rules.Rounds.{load}
+use Rattle.link_rules.specs.name_rules.Entries.{entries}
+use Rattle.link_rules.specs.name_rules.Meanings.{resolve}
+use Rattle.link_rules.specs.name_rules.Cases.{clash, loose_clash, duplicate}
 use Rattle.link_plan.specs.declared.plan.Plan.{Plan}
 use Rattle.link_rules.specs.Candidates.{candidates_of}
 use Rattle.link_rules.specs.Program.{init_calls, parts_of, winners_of, program_of}

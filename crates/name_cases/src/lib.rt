@@ -14,3 +14,4 @@ mod tests;
 pub use cases::{
     Judges, first_clash, first_duplicate, first_loose_clash, has_other_type, judges_of,
 };
+pub use name_entries::SymbolKind;

@@ -1,11 +1,11 @@
 -- The places of the imports of each kind, from those of the three kinds that symbols name.
 use Rattle.std.proofs.Common.{◌≡◌, ℕ, false, List, [], ◌∷◌, length, take, map, filter, slice_get, Option, Some, refl, ap, ◌∙◌}
 use Rattle.std.proofs.Math.Seq.{take-length}
-use Rattle.object_file.specs.wasm_types.declared.import.Import.{Import}
-use Rattle.object_file.specs.linking_section.declared.symbol.SymbolKind.{SymbolKind}
-use Rattle.object_file.specs.linking_section.declared.symbol.SymbolKind.TheVariants.{Function, Datum, GlobalVar, Section, Table}
-use Rattle.object_file.specs.object_rules.declared.spaces.ImportPlaces.{ImportPlaces}
-use Rattle.object_file.specs.object_rules.Spaces.{imports_of, ArePlaces}
+use Rattle.name_rules.specs.object_file.wasm_types.declared.import.Import.{Import}
+use Rattle.name_rules.specs.object_file.linking_section.declared.symbol.SymbolKind.{SymbolKind}
+use Rattle.name_rules.specs.object_file.linking_section.declared.symbol.SymbolKind.TheVariants.{Function, Datum, GlobalVar, Section, Table}
+use Rattle.name_rules.specs.object_file.object_rules.declared.spaces.ImportPlaces.{ImportPlaces}
+use Rattle.name_rules.specs.object_file.object_rules.Spaces.{imports_of, ArePlaces}
 
 none : (imports : List Import) → [] ≡ map {A = Import} {B = Option Import} (λ i. Some i) (filter (λ i. false) imports)
 none [] = refl

@@ -1,6 +1,6 @@
 -- Inputs that rise are few.
 use Rattle.std.proofs.Common.{ℕ, ◌+◌, ◌<◌, ◌^◌, List, [], ◌∷◌, length, arith}
-use Rattle.object_file.specs.declared.object.Object.{Object}
+use Rattle.name_rules.specs.object_file.declared.object.Object.{Object}
 use Rattle.name_entries.specs.View.{InputsRise}
 
 pub few : (last : ℕ) (objects : List Object) → last < 2 ^ 20 → InputsRise last objects → length objects + last < 2 ^ 20

@@ -7,9 +7,9 @@ use Rattle.std.proofs.Math.Seq.{take-length}
 use Rattle.std.proofs.lemmas.List.{length-map}
 use Rattle.std.proofs.lemmas.List.Folds.{list_any_more}
 use Rattle.std.proofs.lemmas.Option.{slice_get-map, slice_get_within, get_or_from_slice_get}
-use Rattle.object_file.specs.wl_base.Names.{number_of}
-use Rattle.object_file.specs.linking_section.declared.group.Group.{Group}
-use Rattle.object_file.specs.declared.object.Object.{Object}
+use Rattle.name_rules.specs.object_file.wl_base.Names.{number_of}
+use Rattle.name_rules.specs.object_file.linking_section.declared.group.Group.{Group}
+use Rattle.name_rules.specs.object_file.declared.object.Object.{Object}
 use Rattle.link_names.specs.Numbered.{Numbered, group_names}
 use Rattle.name_rules.specs.Entries.{group_winner, is_input, has_member}
 use Rattle.name_entries.specs.View.{GroupsAre}

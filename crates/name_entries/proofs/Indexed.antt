@@ -2,17 +2,17 @@
 use Rattle.std.proofs.Common.{◌≡◌, ℕ, ◌-◌, ◌<◌, ◌≤◌, false, List, [], ◌∷◌, length, map, filter, slice_get, Option, Some, None, is_some, refl, sym, ap, ◌∙◌, arith}
 use Rattle.std.proofs.lemmas.Option.{slice_get-map}
 use Rattle.std.specs.Option.{option_map, option_and_then}
-use Rattle.object_file.specs.wasm_types.declared.import.Import.{Import}
-use Rattle.object_file.specs.wasm_types.declared.import.ImportKind.{ImportKind}
-use Rattle.object_file.specs.wasm_types.declared.import.ImportKind.TheVariants as kinds
-use Rattle.object_file.specs.linking_section.declared.symbol.Symbol.{Symbol}
-use Rattle.object_file.specs.linking_section.declared.symbol.SymbolKind.{SymbolKind}
-use Rattle.object_file.specs.linking_section.declared.symbol.SymbolKind.TheVariants.{Function, Datum, GlobalVar, Section, Table}
-use Rattle.object_file.specs.object_rules.Spaces.{is_of, imports_of, HoldPlaces, imported_type as type_index_of}
-use Rattle.object_file.specs.object_columns.declared.functions.FunctionDef.{FunctionDef}
-use Rattle.object_file.specs.object_parts.declared.parts.GlobalDef.{GlobalDef}
-use Rattle.object_file.specs.declared.object.Object.{Object}
-use Rattle.object_file.specs.Spaces.{written_type, imported_type, imported_global, defined_type, function_types, global_types}
+use Rattle.name_rules.specs.object_file.wasm_types.declared.import.Import.{Import}
+use Rattle.name_rules.specs.object_file.wasm_types.declared.import.ImportKind.{ImportKind}
+use Rattle.name_rules.specs.object_file.wasm_types.declared.import.ImportKind.TheVariants as kinds
+use Rattle.name_rules.specs.object_file.linking_section.declared.symbol.Symbol.{Symbol}
+use Rattle.name_rules.specs.object_file.linking_section.declared.symbol.SymbolKind.{SymbolKind}
+use Rattle.name_rules.specs.object_file.linking_section.declared.symbol.SymbolKind.TheVariants.{Function, Datum, GlobalVar, Section, Table}
+use Rattle.name_rules.specs.object_file.object_rules.Spaces.{is_of, imports_of, HoldPlaces, imported_type as type_index_of}
+use Rattle.name_rules.specs.object_file.object_columns.declared.functions.FunctionDef.{FunctionDef}
+use Rattle.name_rules.specs.object_file.object_parts.declared.parts.GlobalDef.{GlobalDef}
+use Rattle.name_rules.specs.object_file.declared.object.Object.{Object}
+use Rattle.name_rules.specs.object_file.Spaces.{written_type, imported_type, imported_global, defined_type, function_types, global_types}
 use Rattle.name_rules.specs.Entries.{import_in}
 use Rattle.name_entries.proofs.Found.{imported, defined}
 

@@ -10,4 +10,4 @@ pub mod Each
 pub mod Added
 pub mod Along
 pub mod Told
-pub use Rattle.object_file.proofs as object_file_lemmas
+pub use Rattle.name_rules.proofs.object_file_lemmas as object_file_lemmas

@@ -10,7 +10,7 @@ use Rattle.std.proofs.lemmas.List.Sums.{position_or_len_is}
 use Rattle.std.proofs.lemmas.Map.Keys.{apart_from_distinct}
 use Rattle.std.proofs.lemmas.Option.{slice_get_within, slice_get-get_or, get_or_from_slice_get}
 use Rattle.std.proofs.lemmas.Slice.Eq.{bytes_eq-Decides}
-use Rattle.object_file.specs.wl_base.Names.{number_of}
+use Rattle.name_rules.specs.object_file.wl_base.Names.{number_of}
 use Rattle.name_entries.specs.View.{is_number}
 
 -- the name of a number

@@ -2,10 +2,10 @@
 use Rattle.std.proofs.Common.{◌≡◌, ℕ, zero, suc, ◌+◌, List, [], ◌∷◌, length, map, get_or, slice_get, Option, Some, None, refl, sym, ap, subst, ◌∙◌, arith}
 use Rattle.std.specs.Option.{option_map}
 use Rattle.std.proofs.lemmas.Option.{same_Some}
-use Rattle.object_file.specs.linking_section.declared.symbol.Symbol.{Symbol}
-use Rattle.object_file.specs.object_columns.Seen.{import_seen}
-use Rattle.object_file.specs.object_columns.declared.imports.ImportRef.{ImportRef}
-use Rattle.object_file.specs.declared.object.Object.{Object}
+use Rattle.name_rules.specs.object_file.linking_section.declared.symbol.Symbol.{Symbol}
+use Rattle.name_rules.specs.object_file.object_columns.Seen.{import_seen}
+use Rattle.name_rules.specs.object_file.object_columns.declared.imports.ImportRef.{ImportRef}
+use Rattle.name_rules.specs.object_file.declared.object.Object.{Object}
 use Rattle.link_names.specs.Numbered.{symbol_number}
 use Rattle.name_rules.specs.Entries.{InputSymbol, SymbolType, entry_in, entries_from, symbols_of, type_in, import_in, key_of}
 use Rattle.name_entries.specs.View.{rows_of, entry_at}

@@ -3,13 +3,13 @@ use Rattle.std.proofs.Common.{◌≡◌, ℕ, zero, suc, ◌<◌, ◌≤◌, ◌
 use Rattle.std.specs.Option.{option_map, option_and_then, option_copied, MatchOption}
 use Rattle.std.proofs.lemmas.Option.{same_Some, slice_get_past, slice_get_within}
 use Rattle.std.proofs.lemmas.Bool.Decides.{nat_tests}
-use Rattle.object_file.specs.linking_section.declared.symbol.Symbol.{Symbol}
-use Rattle.object_file.specs.linking_section.Flags.{is_weak}
-use Rattle.object_file.specs.object_columns.Seen.{import_seen}
-use Rattle.object_file.specs.object_columns.declared.imports.ImportRef.{ImportRef}
-use Rattle.object_file.specs.object_rules.declared.spaces.ImportPlaces.{ImportPlaces}
-use Rattle.object_file.specs.object_rules.Spaces.{imports_of, places_in, ArePlaces}
-use Rattle.object_file.specs.declared.object.Object.{Object}
+use Rattle.name_rules.specs.object_file.linking_section.declared.symbol.Symbol.{Symbol}
+use Rattle.name_rules.specs.object_file.linking_section.Flags.{is_weak}
+use Rattle.name_rules.specs.object_file.object_columns.Seen.{import_seen}
+use Rattle.name_rules.specs.object_file.object_columns.declared.imports.ImportRef.{ImportRef}
+use Rattle.name_rules.specs.object_file.object_rules.declared.spaces.ImportPlaces.{ImportPlaces}
+use Rattle.name_rules.specs.object_file.object_rules.Spaces.{imports_of, places_in, ArePlaces}
+use Rattle.name_rules.specs.object_file.declared.object.Object.{Object}
 use Rattle.link_names.specs.Numbered.{symbol_number}
 use Rattle.name_rules.specs.Entries.{InputSymbol, SymbolType, import_in, key_of, entry_in}
 use Rattle.name_entries.specs.View.{entry_at}

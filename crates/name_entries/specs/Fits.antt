@@ -1,7 +1,7 @@
 -- When a view of the objects can be asked.
 use Rattle.std.specs.Prelude.{◌≡◌, List, map, Some}
-use Rattle.object_file.specs.wl_base.Names.{number_of}
-use Rattle.object_file.specs.declared.object.Object.{Object}
+use Rattle.name_rules.specs.object_file.wl_base.Names.{number_of}
+use Rattle.name_rules.specs.object_file.declared.object.Object.{Object}
 use Rattle.made_symbols.specs.declared.mode.Mode.{Mode}
 use Rattle.link_names.specs.Numbered.{Numbered, symbol_number, group_names, AreNumbers}
 use Rattle.name_entries.specs.View.{InputsRise}

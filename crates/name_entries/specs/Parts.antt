@@ -1,10 +1,10 @@
 -- What is looked up of an object: where its imports of each kind stand, and which of its parts aren't kept.
 use Rattle.std.specs.Prelude.{◌≡◌, ℕ, Bool, true, false, not, List, length, slice_get, slice_index_or, Some}
-use Rattle.object_file.specs.linking_section.declared.symbol.SymbolKind.{SymbolKind}
-use Rattle.object_file.specs.linking_section.declared.symbol.SymbolKind.TheVariants.{Function, Datum, GlobalVar, Section, Table}
-use Rattle.object_file.specs.declared.object.Object.{Object}
-use Rattle.object_file.specs.object_rules.Spaces.{ArePlaces}
-use Rattle.object_file.specs.linking_section.declared.member_kinds.TheConstants as kinds
+use Rattle.name_rules.specs.object_file.linking_section.declared.symbol.SymbolKind.{SymbolKind}
+use Rattle.name_rules.specs.object_file.linking_section.declared.symbol.SymbolKind.TheVariants.{Function, Datum, GlobalVar, Section, Table}
+use Rattle.name_rules.specs.object_file.declared.object.Object.{Object}
+use Rattle.name_rules.specs.object_file.object_rules.Spaces.{ArePlaces}
+use Rattle.name_rules.specs.object_file.linking_section.declared.member_kinds.TheConstants as kinds
 use Rattle.name_rules.specs.Entries.{is_kept}
 use Rattle.name_entries.specs.declared.parts.ObjectParts.{ObjectParts}
 

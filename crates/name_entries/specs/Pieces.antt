@@ -1,6 +1,6 @@
 -- The table of what is looked up, made in pieces.
 use Rattle.std.specs.Prelude.{◌≡◌, ℕ, ◌+◌, List, [], length, slice_get, slice_index_or, Option, Some}
-use Rattle.object_file.specs.declared.object.Object.{Object}
+use Rattle.name_rules.specs.object_file.declared.object.Object.{Object}
 use Rattle.wl_rows.specs.Ranges.{first_at}
 use Rattle.name_entries.specs.Parts.{ArePartsOf}
 use Rattle.name_entries.specs.Rows.{AreRowsOf}

@@ -1,12 +1,12 @@
 -- What is looked up of the symbols of all objects: a row each.
 use Rattle.std.specs.Prelude.{◌≡◌, ℕ, ◌==◌, not, ◌&&◌, List, [], length, slice_get, slice_index_or, Option, Some, None, is_some}
-use Rattle.object_file.specs.wasm_types.declared.table.GlobalType.{GlobalType}
-use Rattle.object_file.specs.linking_section.declared.symbol.Symbol.{Symbol}
-use Rattle.object_file.specs.linking_section.declared.symbol.SymbolKind.{SymbolKind}
-use Rattle.object_file.specs.linking_section.declared.symbol.SymbolKind.TheVariants.{Function, Datum, GlobalVar, Section, Table}
-use Rattle.object_file.specs.linking_section.Flags.{is_undefined}
-use Rattle.object_file.specs.declared.object.Object.{Object}
-use Rattle.object_file.specs.Spaces.{written_type}
+use Rattle.name_rules.specs.object_file.wasm_types.declared.table.GlobalType.{GlobalType}
+use Rattle.name_rules.specs.object_file.linking_section.declared.symbol.Symbol.{Symbol}
+use Rattle.name_rules.specs.object_file.linking_section.declared.symbol.SymbolKind.{SymbolKind}
+use Rattle.name_rules.specs.object_file.linking_section.declared.symbol.SymbolKind.TheVariants.{Function, Datum, GlobalVar, Section, Table}
+use Rattle.name_rules.specs.object_file.linking_section.Flags.{is_undefined}
+use Rattle.name_rules.specs.object_file.declared.object.Object.{Object}
+use Rattle.name_rules.specs.object_file.Spaces.{written_type}
 use Rattle.link_names.specs.Numbered.{number_seen}
 use Rattle.name_rules.specs.Entries.{SymbolType, of_function, of_global, untyped, in_kept_part, type_in, import_in, index_in}
 use Rattle.name_entries.specs.declared.symbol_rows.EntryRow.{EntryRow}

@@ -1,8 +1,8 @@
 -- What lent entries and types tell.
 use Rattle.std.specs.Prelude.{◌≡◌, ℕ, List, if◌then◌else◌, Option, Some, None}
-use Rattle.object_file.specs.linking_section.declared.symbol.Symbol.{Symbol}
-use Rattle.object_file.specs.linking_section.Flags.{is_weak}
-use Rattle.object_file.specs.object_columns.Seen.{symbol_seen, func_type_seen}
+use Rattle.name_rules.specs.object_file.linking_section.declared.symbol.Symbol.{Symbol}
+use Rattle.name_rules.specs.object_file.linking_section.Flags.{is_weak}
+use Rattle.name_rules.specs.object_file.object_columns.Seen.{symbol_seen, func_type_seen}
 use Rattle.link_names.specs.Numbered.{number_seen}
 use Rattle.name_rules.specs.Entries.{InputSymbol, SymbolType, of_function, of_global, untyped}
 use Rattle.name_entries.specs.View.{entry_number}

@@ -1,7 +1,7 @@
 -- The symbols of the loaded objects, as the calls of the rules find them: by the place of the object and that of the symbol.
 use Rattle.std.specs.Prelude.{◌≡◌, ℕ, ◌<◌, ◌≤◌, ◌^◌, ◌==◌, Bool, false, List, [], ◌∷◌, map, slice_get, slice_index_or, Option, Some, None, option_map, if◌then◌else◌}
-use Rattle.object_file.specs.declared.object.Object.{Object}
-use Rattle.object_file.specs.wl_base.Names.{number_of}
+use Rattle.name_rules.specs.object_file.declared.object.Object.{Object}
+use Rattle.name_rules.specs.object_file.wl_base.Names.{number_of}
 use Rattle.name_rules.specs.Entries.{InputSymbol, is_entry, name_of, symbols_of, group_winner}
 use Rattle.name_rules.specs.Meanings.{entry_rank, winner}
 

@@ -1,7 +1,7 @@
 //! Which parts of an object aren't kept, since another input wins their groups.
 ghost use Rattle.std.specs.Prelude.{◌≡◌, ℕ, ◌==◌, ◌&&◌, ◌||◌, not, [], slice_get, slice_index_or, option_and_then, Some, None, OnOk, IfOk};
 ghost use Rattle.std.specs.List.{list_any};
-ghost use Rattle.object_file.specs.linking_section.declared.member_kinds.TheConstants as kinds;
+ghost use Rattle.name_rules.specs.object_file.linking_section.declared.member_kinds.TheConstants as kinds;
 ghost use Rattle.name_rules.specs.Entries.{has_member, is_input};
 ghost use Rattle.name_entries.specs.View.{GroupsAre};
 ghost use Rattle.name_entries.specs.Parts.{has_flag, AreDropped};
@@ -10,7 +10,7 @@ ghost use Rattle.name_entries.specs.Fits.{GroupsAreNumbered};
 use comdat_pick::ComdatWinners;
 use link_names::Names;
 use linking_section::member_kinds;
-use object_file::{Group, Member, Object};
+use name_rules::{Group, Member, Object};
 use std::alloc::Global;
 use wl_base::{InputId, OutOfMemory};
 

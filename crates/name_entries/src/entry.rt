@@ -1,6 +1,6 @@
 //! Entries and types, lent.
 
-use object_file::{FuncTypeRef, SymbolRef};
+use name_rules::{FuncTypeRef, SymbolRef};
 use wasm_types::GlobalType;
 use wl_base::InputId;
 

@@ -15,11 +15,10 @@ mod table;
 pub use entry::{EntryRef, TypeRef};
 pub use link_names::Names;
 pub use lookups::Entries;
-pub use name_rules::{Meaning, PairCase};
-pub use object_file::{
+pub use name_rules::{
     FuncTypeRef, FuncTypes, FunctionRef, Functions, GlobalDef, HIDDEN, ImportPlaces, ImportRef,
-    Imports, InitFunc, Object, Operand, Operands, Reference, Reloc, SegmentRef, Segments,
-    SymbolKind, SymbolRef, Symbols, UNDEFINED, read_object,
+    Imports, InitFunc, Meaning, Object, Operand, Operands, PairCase, Reference, Reloc, SegmentRef,
+    Segments, SymbolKind, SymbolRef, Symbols, UNDEFINED, read_object,
 };
 pub use parts::ObjectParts;
 pub use table::EntryTable;

@@ -1,8 +1,8 @@
 //! The view of all loaded objects.
 ghost use Rattle.std.specs.Prelude.{◌≡◌, [], Some, None, length, slice_get, slice_index_or, option_map, option_and_then, option_copied, is_some, MatchOption};
 ghost use Rattle.link_names.specs.Numbered.{number_seen};
-ghost use Rattle.object_file.specs.linking_section.declared.symbol.Symbol.{Symbol};
-ghost use Rattle.object_file.specs.object_columns.Seen.{symbol_seen, import_seen};
+ghost use Rattle.name_rules.specs.object_file.linking_section.declared.symbol.Symbol.{Symbol};
+ghost use Rattle.name_rules.specs.object_file.object_columns.Seen.{symbol_seen, import_seen};
 ghost use Rattle.name_rules.specs.Entries.{InputSymbol, key_of};
 ghost use Rattle.name_entries.specs.View.{rows_of, entry_at};
 ghost use Rattle.name_entries.specs.Fits.{FitsObjects};
@@ -14,7 +14,7 @@ use crate::parts::{ObjectParts, class_of};
 use crate::spaces::written_type;
 use crate::symbol_rows::{EntryRow, NONE};
 use link_names::Names;
-use object_file::{ImportRef, Object, SymbolKind, SymbolRef};
+use name_rules::{ImportRef, Object, SymbolKind, SymbolRef};
 use wl_lists::Lists;
 
 /// The loaded objects, their names' numbers, and what is looked up of each: all by reference.

@@ -8,7 +8,7 @@ ghost use Rattle.name_entries.specs.Pieces.{IsPiece, AreMade, AreJoined};
 use crate::pieces::Piece;
 use comdat_pick::ComdatWinners;
 use link_names::Names;
-use object_file::Object;
+use name_rules::Object;
 use std::alloc::Global;
 use std::thread::Threads;
 use wl_base::OutOfMemory;

@@ -1,10 +1,10 @@
 //! What is looked up of an object.
 ghost use Rattle.std.specs.Prelude.{◌≡◌, not, ◌&&◌, if◌then◌else◌};
-ghost use Rattle.object_file.specs.linking_section.Flags.{is_weak, is_undefined};
-ghost use Rattle.object_file.specs.object_columns.Seen.{symbol_seen};
+ghost use Rattle.name_rules.specs.object_file.linking_section.Flags.{is_weak, is_undefined};
+ghost use Rattle.name_rules.specs.object_file.object_columns.Seen.{symbol_seen};
 ghost use Rattle.name_entries.specs.Parts.{has_flag, keeps};
 
-use object_file::{ImportPlaces, SymbolKind, SymbolRef};
+use name_rules::{ImportPlaces, SymbolKind, SymbolRef};
 use wl_base::Seq;
 
 /// What is looked up of an object by index.

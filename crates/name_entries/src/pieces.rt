@@ -9,7 +9,7 @@ use crate::symbol_rows::{EntryRow, fill_rows};
 use crate::table::parts_of;
 use comdat_pick::ComdatWinners;
 use link_names::Names;
-use object_file::Object;
+use name_rules::Object;
 use std::alloc::Global;
 use wl_base::{OutOfMemory, Seq};
 use wl_lists::{Lists, with_room};

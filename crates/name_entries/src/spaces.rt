@@ -1,11 +1,11 @@
 //! What the indexes of an object name.
 ghost use Rattle.std.specs.Prelude.{◌≡◌, false, slice_get, slice_index_or, option_map};
-ghost use Rattle.object_file.specs.wasm_types.declared.value.ValType.TheVariants as values;
-ghost use Rattle.object_file.specs.object_columns.Seen.{func_type_seen, import_seen};
-ghost use Rattle.object_file.specs.object_rules.Spaces.{ArePlaces, imports_of, imported_type};
-ghost use Rattle.object_file.specs.Spaces.{written_type, function_types, global_types, imported_global};
+ghost use Rattle.name_rules.specs.object_file.wasm_types.declared.value.ValType.TheVariants as values;
+ghost use Rattle.name_rules.specs.object_file.object_columns.Seen.{func_type_seen, import_seen};
+ghost use Rattle.name_rules.specs.object_file.object_rules.Spaces.{ArePlaces, imports_of, imported_type};
+ghost use Rattle.name_rules.specs.object_file.Spaces.{written_type, function_types, global_types, imported_global};
 
-use object_file::{FuncTypeRef, ImportPlaces, ImportRef, Object, SymbolKind};
+use name_rules::{FuncTypeRef, ImportPlaces, ImportRef, Object, SymbolKind};
 use wasm_types::{GlobalType, ImportKind, ValType};
 
 /// The place of an index; `None` exactly where there is none.

@@ -2,9 +2,9 @@
 //! reached through several pieces of memory each time.
 ghost use Rattle.std.specs.Prelude.{◌≡◌, ◌-◌, ◌<◌, [], length, slice_index_or, OnOk, IfOk};
 ghost use Rattle.link_names.specs.Numbered.{number_seen};
-ghost use Rattle.object_file.specs.object_columns.Seen.{symbol_seen};
-ghost use Rattle.object_file.specs.object_rules.Spaces.{ArePlaces};
-ghost use Rattle.object_file.specs.Spaces.{no_type, written_type, function_types};
+ghost use Rattle.name_rules.specs.object_file.object_columns.Seen.{symbol_seen};
+ghost use Rattle.name_rules.specs.object_file.object_rules.Spaces.{ArePlaces};
+ghost use Rattle.name_rules.specs.object_file.Spaces.{no_type, written_type, function_types};
 ghost use Rattle.name_rules.specs.Entries.{index_in, type_in};
 ghost use Rattle.name_entries.specs.Parts.{ArePartsOf};
 ghost use Rattle.name_entries.specs.Rows.{type_told, IsImportAt, Tells, AreRowsOf};
@@ -12,7 +12,7 @@ ghost use Rattle.name_entries.specs.Rows.{type_told, IsImportAt, Tells, AreRowsO
 use crate::parts::ObjectParts;
 use crate::spaces::{global_type, place_at, type_index};
 use link_names::Names;
-use object_file::{ImportPlaces, Object, SymbolKind, SymbolRef};
+use name_rules::{ImportPlaces, Object, SymbolKind, SymbolRef};
 use wasm_types::{GlobalType, ValType};
 use wl_base::{InputId, OutOfMemory, Seq};
 

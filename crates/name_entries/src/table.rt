@@ -1,6 +1,6 @@
 //! What is looked up of all objects.
 ghost use Rattle.std.specs.Prelude.{◌≡◌, ◌++◌, ◌∷◌, [], ◌<◌, length, slice_get, Some, if◌then◌else◌, OnOk, IfOk};
-ghost use Rattle.object_file.specs.object_rules.Spaces.{is_function, is_table, is_global, ArePlaces};
+ghost use Rattle.name_rules.specs.object_file.object_rules.Spaces.{is_function, is_table, is_global, ArePlaces};
 ghost use Rattle.made_symbols.specs.declared.mode.Mode.{Mode};
 ghost use Rattle.link_names.specs.Numbered.{AreNumbers};
 ghost use Rattle.name_entries.specs.View.{InputsRise, GroupsAre};
@@ -15,7 +15,7 @@ use crate::pieces::Piece;
 use crate::symbol_rows::EntryRow;
 use comdat_pick::ComdatWinners;
 use link_names::Names;
-use object_file::{ImportPlaces, Imports, Object};
+use name_rules::{ImportPlaces, Imports, Object};
 use std::alloc::Global;
 use std::thread::Threads;
 use wasm_types::ImportKind;

@@ -10,3 +10,4 @@ mod Finding
 mod Rowed
 mod Rows
 mod Whole
+pub use Rattle.name_entries.proofs as name_entries_lemmas

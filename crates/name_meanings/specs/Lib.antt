@@ -3,3 +3,4 @@ pub mod Kept
 pub mod Columns
 pub mod Known
 mod Examples
+pub use Rattle.name_entries.specs as name_entries

@@ -8,5 +8,10 @@ mod resolution;
 mod resolving;
 
 pub use imports::ImportType;
+pub use name_entries::{
+    Entries, EntryRef, EntryTable, FuncTypeRef, FunctionRef, GlobalDef, ImportPlaces, InitFunc,
+    Meaning, Names, Object, ObjectParts, Operand, PairCase, Reference, Reloc, SegmentRef,
+    SymbolKind, SymbolRef, TypeRef,
+};
 pub use resolution::Resolution;
 pub use resolving::resolve;

@@ -1,0 +1,1 @@
+pub use Rattle.object_file.proofs as object_file_lemmas

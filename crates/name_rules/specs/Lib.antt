@@ -2,3 +2,4 @@ pub mod Entries
 pub mod Meanings
 pub mod Cases
 pub mod Rows
+pub use Rattle.object_file.specs as object_file

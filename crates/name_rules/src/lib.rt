@@ -7,3 +7,8 @@ mod meaning;
 
 pub use case::PairCase;
 pub use meaning::Meaning;
+pub use object_file::{
+    FuncTypeRef, FuncTypes, FunctionRef, Functions, GlobalDef, Group, HIDDEN, ImportPlaces,
+    ImportRef, Imports, InitFunc, Member, Object, Operand, Operands, Reference, Reloc, SegmentRef,
+    Segments, SymbolKind, SymbolRef, Symbols, UNDEFINED, read_object,
+};

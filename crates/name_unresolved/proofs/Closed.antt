@@ -3,9 +3,9 @@ use Rattle.std.proofs.Common.{◌≡◌, ℕ, zero, suc, Bool, true, false, ◌&
 use Rattle.std.specs.List.{list_all}
 use Rattle.std.proofs.lemmas.Bool.{false≢true}
 use Rattle.std.proofs.lemmas.Option.{get_or_from_slice_get}
-use Rattle.name_entries.specs.object_file.declared.object.Object.{Object}
-use Rattle.name_entries.specs.name_rules.declared.meaning.Meaning.{Meaning}
-use Rattle.name_entries.specs.name_rules.declared.meaning.Meaning.TheVariants.{Here, Made, Import, Null, Nothing}
+use Rattle.name_meanings.specs.name_entries.object_file.declared.object.Object.{Object}
+use Rattle.name_meanings.specs.name_entries.name_rules.declared.meaning.Meaning.{Meaning}
+use Rattle.name_meanings.specs.name_entries.name_rules.declared.meaning.Meaning.TheVariants.{Here, Made, Import, Null, Nothing}
 use Rattle.mark_bits.specs.declared.chunk.Chunk.{Chunk}
 use Rattle.name_meanings.specs.Means.{row_of, means_something}
 use Rattle.name_unresolved.specs.Refers.{SymbolAt}

@@ -4,10 +4,10 @@ use Rattle.std.specs.Prelude.{◌==◌}
 use Rattle.std.specs.List.{flat_map, range_with_len, fold}
 use Rattle.std.specs.Option.{option_and_then}
 use Rattle.std.specs.List.Sorted.{IsStrictlyIncreasing}
-use Rattle.name_entries.specs.object_file.declared.object.Object.{Object}
+use Rattle.name_meanings.specs.name_entries.object_file.declared.object.Object.{Object}
 use Rattle.mark_bits.specs.declared.chunk.Chunk.{Chunk}
 use Rattle.mark_bits.specs.Words.{bit_of}
-use Rattle.name_entries.specs.View.{InputsRise}
+use Rattle.name_meanings.specs.name_entries.View.{InputsRise}
 use Rattle.name_unresolved.specs.declared.search.Search.{Search}
 use Rattle.std.proofs.lemmas.List.FromFn.{get_or-range_with_len, length-range_with_len}
 use Rattle.name_unresolved.specs.Refers.{SymbolAt, open_inits, refers}

@@ -2,11 +2,11 @@
 use Rattle.std.proofs.Common.{◌≡◌, ℕ, zero, suc, ◌<◌, List, [], ◌∷◌, length, map, slice_get, get_or, refl, ap, ◌∙◌, arith, subst, Bool, ◌+◌}
 use Rattle.std.specs.List.{AllZip}
 use Rattle.std.specs.Option.{IsSome}
-use Rattle.name_entries.specs.linking_section.declared.symbol.Symbol.{Symbol}
-use Rattle.name_entries.specs.made_symbols.declared.mode.Mode.{Mode}
-use Rattle.name_entries.specs.object_file.declared.object.Object.{Object}
-use Rattle.name_entries.specs.name_rules.Entries.{InputSymbol, symbols_of, entries_from}
-use Rattle.name_entries.specs.name_rules.Meanings.{meaning, resolve, resolved_in, uses_of, Resolved}
+use Rattle.name_meanings.specs.name_entries.linking_section.declared.symbol.Symbol.{Symbol}
+use Rattle.name_meanings.specs.name_entries.made_symbols.declared.mode.Mode.{Mode}
+use Rattle.name_meanings.specs.name_entries.object_file.declared.object.Object.{Object}
+use Rattle.name_meanings.specs.name_entries.name_rules.Entries.{InputSymbol, symbols_of, entries_from}
+use Rattle.name_meanings.specs.name_entries.name_rules.Meanings.{meaning, resolve, resolved_in, uses_of, Resolved}
 use Rattle.name_meanings.specs.Means.{Means, Answers, row_of, IsResolution}
 use Rattle.name_unresolved.specs.Unresolved.{AreMeant}
 

@@ -2,12 +2,12 @@
 use Rattle.std.proofs.Common.{◌≡◌, ℕ, zero, suc, cond, List, [], ◌∷◌, map, filter, slice_get, Option, None, refl, sym, ap, ◌∙◌}
 use Rattle.std.specs.Prelude.{replicate}
 use Rattle.std.specs.List.{filter_map}
-use Rattle.name_entries.specs.linking_section.declared.init.InitFunc.{InitFunc}
-use Rattle.name_entries.specs.reloc_section.declared.entry.Reloc.{Reloc}
-use Rattle.name_entries.specs.body_windows.declared.operand.Operand.{Operand}
-use Rattle.name_entries.specs.body_windows.declared.operand.Operand.TheVariants.{Number}
-use Rattle.name_entries.specs.body_windows.declared.operands.Reference.{Reference}
-use Rattle.name_entries.specs.body_windows.Operands.{operand_of, spread}
+use Rattle.name_meanings.specs.name_entries.linking_section.declared.init.InitFunc.{InitFunc}
+use Rattle.name_meanings.specs.name_entries.reloc_section.declared.entry.Reloc.{Reloc}
+use Rattle.name_meanings.specs.name_entries.body_windows.declared.operand.Operand.{Operand}
+use Rattle.name_meanings.specs.name_entries.body_windows.declared.operand.Operand.TheVariants.{Number}
+use Rattle.name_meanings.specs.name_entries.body_windows.declared.operands.Reference.{Reference}
+use Rattle.name_meanings.specs.name_entries.body_windows.Operands.{operand_of, spread}
 use Rattle.name_unresolved.specs.declared.piece.Piece.{Piece}
 use Rattle.name_unresolved.specs.Refers.{SymbolAt, at, symbol_named, is_undefined_one, open_inits}
 use Rattle.name_unresolved.specs.Least.{lesser, least_by}

@@ -1,9 +1,9 @@
 -- What a resolution gives.
 use Rattle.std.specs.Prelude.{Bool, List}
-use Rattle.name_entries.specs.made_symbols.declared.mode.Mode.{Mode}
-use Rattle.name_entries.specs.object_file.declared.object.Object.{Object}
-use Rattle.name_entries.specs.name_rules.Entries.{InputSymbol}
-use Rattle.name_entries.specs.name_rules.Meanings.{resolve}
+use Rattle.name_meanings.specs.name_entries.made_symbols.declared.mode.Mode.{Mode}
+use Rattle.name_meanings.specs.name_entries.object_file.declared.object.Object.{Object}
+use Rattle.name_meanings.specs.name_entries.name_rules.Entries.{InputSymbol}
+use Rattle.name_meanings.specs.name_entries.name_rules.Meanings.{resolve}
 use Rattle.name_meanings.specs.Means.{Answers, IsResolution}
 use Rattle.name_unresolved.specs.Unresolved.{AreMeant}
 

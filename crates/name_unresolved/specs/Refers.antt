@@ -1,12 +1,12 @@
 -- Which symbols a chunk refers to (tool conventions, Linking.md: "Relocation Sections", "Init Functions Subsection").
 use Rattle.std.specs.Prelude.{ℕ, ◌==◌, Bool, false, ◌&&◌, List, [], map, filter, filter_map, flat_map, find, slice_get, if◌then◌else◌, Option, Some, None}
-use Rattle.name_entries.specs.linking_section.declared.symbol.Symbol.{Symbol}
-use Rattle.name_entries.specs.linking_section.Flags.{is_undefined}
-use Rattle.name_entries.specs.body_windows.declared.operand.Operand.{Operand}
-use Rattle.name_entries.specs.body_windows.declared.operand.Operand.TheVariants as operands
-use Rattle.name_entries.specs.object_columns.declared.functions.FunctionDef.{FunctionDef}
-use Rattle.name_entries.specs.object_columns.declared.segments.SegmentDef.{SegmentDef}
-use Rattle.name_entries.specs.object_file.declared.object.Object.{Object}
+use Rattle.name_meanings.specs.name_entries.linking_section.declared.symbol.Symbol.{Symbol}
+use Rattle.name_meanings.specs.name_entries.linking_section.Flags.{is_undefined}
+use Rattle.name_meanings.specs.name_entries.body_windows.declared.operand.Operand.{Operand}
+use Rattle.name_meanings.specs.name_entries.body_windows.declared.operand.Operand.TheVariants as operands
+use Rattle.name_meanings.specs.name_entries.object_columns.declared.functions.FunctionDef.{FunctionDef}
+use Rattle.name_meanings.specs.name_entries.object_columns.declared.segments.SegmentDef.{SegmentDef}
+use Rattle.name_meanings.specs.name_entries.object_file.declared.object.Object.{Object}
 use Rattle.mark_bits.specs.declared.chunk.Chunk.{Chunk}
 
 -- A symbol: an input, and a place among its symbols.

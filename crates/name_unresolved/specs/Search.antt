@@ -1,10 +1,10 @@
 -- The least unresolved symbol, piece by piece, as the code finds it.
 use Rattle.std.specs.Prelude.{◌≡◌, ℕ, ◌==◌, List, length, map, slice_get, if◌then◌else◌, Option, Some, None, option_and_then}
 use Rattle.std.specs.List.Sorted.{IsStrictlyIncreasing}
-use Rattle.name_entries.specs.linking_section.declared.init.InitFunc.{InitFunc}
-use Rattle.name_entries.specs.body_windows.declared.operand.Operand.{Operand}
-use Rattle.name_entries.specs.object_file.declared.object.Object.{Object}
-use Rattle.name_entries.specs.name_rules.declared.meaning.Meaning.{Meaning}
+use Rattle.name_meanings.specs.name_entries.linking_section.declared.init.InitFunc.{InitFunc}
+use Rattle.name_meanings.specs.name_entries.body_windows.declared.operand.Operand.{Operand}
+use Rattle.name_meanings.specs.name_entries.object_file.declared.object.Object.{Object}
+use Rattle.name_meanings.specs.name_entries.name_rules.declared.meaning.Meaning.{Meaning}
 use Rattle.name_meanings.specs.Means.{row_of}
 use Rattle.mark_bits.specs.declared.chunk.Chunk.{Chunk}
 use Rattle.mark_bits.specs.Words.{bit_of}

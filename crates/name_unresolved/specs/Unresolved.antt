@@ -1,9 +1,9 @@
 -- The first symbol that is unresolved where it is used.
 use Rattle.std.specs.Prelude.{◌≡◌, ℕ, ◌+◌, ◌==◌, Bool, true, false, List, [], ◌∷◌, filter, flat_map, length, slice_get, if◌then◌else◌, Option, Some, None}
 use Rattle.std.specs.List.{All}
-use Rattle.name_entries.specs.object_file.declared.object.Object.{Object}
-use Rattle.name_entries.specs.name_rules.declared.meaning.Meaning.{Meaning}
-use Rattle.name_entries.specs.name_rules.declared.meaning.Meaning.TheVariants.{Here, Made, Import, Null, Nothing}
+use Rattle.name_meanings.specs.name_entries.object_file.declared.object.Object.{Object}
+use Rattle.name_meanings.specs.name_entries.name_rules.declared.meaning.Meaning.{Meaning}
+use Rattle.name_meanings.specs.name_entries.name_rules.declared.meaning.Meaning.TheVariants.{Here, Made, Import, Null, Nothing}
 use Rattle.name_meanings.specs.Means.{row_of}
 use Rattle.mark_bits.specs.declared.chunk.Chunk.{Chunk}
 use Rattle.mark_bits.specs.Words.{bit_of}

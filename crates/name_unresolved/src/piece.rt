@@ -1,14 +1,13 @@
 //! The least unresolved symbol of a piece of an object.
 ghost use Rattle.std.specs.Prelude.{◌≡◌, slice_get};
-ghost use Rattle.name_entries.specs.body_windows.Operands.{operand_of};
+ghost use Rattle.name_meanings.specs.name_entries.body_windows.Operands.{operand_of};
 ghost use Rattle.name_unresolved.specs.Refers.{function_names, segment_names, names_in, open_inits, is_undefined_one};
 ghost use Rattle.name_unresolved.specs.Least.{least_by};
 ghost use Rattle.name_unresolved.specs.Search.{rows_in, IsMeant, opened_in, opened_by, opened_init, least_open, object_least};
 
 use crate::order::lesser;
 use mark_bits::Chunk;
-use name_entries::{InitFunc, Meaning, Object, Operand, Reference, Reloc};
-use name_meanings::Resolution;
+use name_meanings::{InitFunc, Meaning, Object, Operand, Reference, Reloc, Resolution};
 use wl_base::InputId;
 
 /// An object, and what its symbols mean.

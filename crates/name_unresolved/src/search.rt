@@ -1,7 +1,7 @@
 //! The least unresolved symbol of the live chunks.
 ghost use Rattle.std.specs.Prelude.{◌≡◌, ◌==◌, length, map, slice_get, option_and_then, None, IfOk};
 ghost use Rattle.std.specs.List.{find};
-ghost use Rattle.name_entries.specs.View.{InputsRise};
+ghost use Rattle.name_meanings.specs.name_entries.View.{InputsRise};
 ghost use Rattle.name_unresolved.specs.Refers.{refers_in, open_inits};
 ghost use Rattle.name_unresolved.specs.Least.{lesser, least_by};
 ghost use Rattle.name_unresolved.specs.Unresolved.{AreMeant, first_unresolved_of};
@@ -10,8 +10,7 @@ ghost use Rattle.name_unresolved.specs.Search.{IsReady, rows_of, least_open, chu
 use crate::order::lesser;
 use crate::piece::Piece;
 use mark_bits::{Chunk, ChunkTable, MarkSet};
-use name_entries::Object;
-use name_meanings::Resolution;
+use name_meanings::{Object, Resolution};
 use rayon::prelude::*;
 use std::alloc::Global;
 use std::thread::Threads;

@@ -1,12 +1,12 @@
 -- Lists of records, kept as columns: the record at a place is made of what stands there in each.
 use Rattle.std.specs.Prelude.{ℕ, Bool, List, [], ◌∷◌, Option, Some, None, if◌then◌else◌}
-use Rattle.wasm_instr.specs.wl_base.declared.span.Span.{Span}
-use Rattle.wasm_instr.specs.wasm_types.declared.value.ValType.{ValType}
-use Rattle.wasm_instr.specs.wasm_types.declared.function.FuncType.{FuncType}
-use Rattle.wasm_instr.specs.wasm_types.declared.import.ImportKind.{ImportKind}
-use Rattle.wasm_instr.specs.wasm_types.declared.import.Import.{Import}
+use Rattle.body_windows.specs.wasm_instr.wl_base.declared.span.Span.{Span}
+use Rattle.body_windows.specs.wasm_instr.wasm_types.declared.value.ValType.{ValType}
+use Rattle.body_windows.specs.wasm_instr.wasm_types.declared.function.FuncType.{FuncType}
+use Rattle.body_windows.specs.wasm_instr.wasm_types.declared.import.ImportKind.{ImportKind}
+use Rattle.body_windows.specs.wasm_instr.wasm_types.declared.import.Import.{Import}
 use Rattle.linking_section.specs.declared.symbol.Symbol.{Symbol}
-use Rattle.reloc_section.specs.declared.entry.Reloc.{Reloc}
+use Rattle.body_windows.specs.reloc_section.declared.entry.Reloc.{Reloc}
 use Rattle.body_windows.specs.declared.operands.Reference.{Reference}
 use Rattle.body_windows.specs.Operands.{spread}
 use Rattle.object_columns.specs.declared.functions.FunctionRow.{FunctionRow}

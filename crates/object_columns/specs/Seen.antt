@@ -1,7 +1,7 @@
 -- What a lent record tells: the record of what it lends.
 use Rattle.std.specs.Prelude.{option_copied}
-use Rattle.wasm_instr.specs.wasm_types.declared.function.FuncType.{FuncType}
-use Rattle.wasm_instr.specs.wasm_types.declared.import.Import.{Import}
+use Rattle.body_windows.specs.wasm_instr.wasm_types.declared.function.FuncType.{FuncType}
+use Rattle.body_windows.specs.wasm_instr.wasm_types.declared.import.Import.{Import}
 use Rattle.linking_section.specs.declared.symbol.Symbol.{Symbol}
 use Rattle.body_windows.specs.Operands.{operands_seen}
 use Rattle.object_columns.specs.declared.functions.FunctionDef.{FunctionDef}

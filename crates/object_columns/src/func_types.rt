@@ -26,7 +26,7 @@ pub struct FuncTypes {
 
 impl Model for FuncTypes {
     ghost use Rattle.std.specs.Prelude.{◌≡◌, List, length};
-    ghost use Rattle.wasm_instr.specs.wasm_types.declared.function.FuncType.{FuncType as Kind};
+    ghost use Rattle.body_windows.specs.wasm_instr.wasm_types.declared.function.FuncType.{FuncType as Kind};
     ghost use Rattle.object_columns.specs.Columns.{joined, func_type};
 
     ghost Value = { List Kind };

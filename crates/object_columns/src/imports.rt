@@ -29,7 +29,7 @@ pub struct Imports {
 
 impl Model for Imports {
     ghost use Rattle.std.specs.Prelude.{◌≡◌, List, length};
-    ghost use Rattle.wasm_instr.specs.wasm_types.declared.import.Import.{Import as Taken};
+    ghost use Rattle.body_windows.specs.wasm_instr.wasm_types.declared.import.Import.{Import as Taken};
     ghost use Rattle.object_columns.specs.Columns.{joined_three, import_of};
 
     ghost Value = { List Taken };

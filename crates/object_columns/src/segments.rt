@@ -3,8 +3,8 @@ ghost use Rattle.std.specs.Prelude.{◌≡◌, ◌++◌, ◌∷◌, [], length, 
 ghost use Rattle.object_columns.specs.Seen.{segment_seen};
 
 use crate::short_span::ShortSpan;
+use body_windows::Reloc;
 use linking_section::SegmentInfo;
-use reloc_section::Reloc;
 use std::alloc::Global;
 use std::marker::Model;
 use wl_base::{OutOfMemory, Seq, Span};

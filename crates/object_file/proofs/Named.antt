@@ -12,7 +12,7 @@ use Rattle.object_rules.specs.linking_section.declared.group.Group.{Group}
 use Rattle.object_rules.specs.linking_section.declared.linking.Linking.{Linking}
 use Rattle.object_rules.specs.linking_section.Flags.{has_bit, is_named, is_undefined}
 use Rattle.object_rules.specs.linking_section.Linking.{SpellsMaybe, SpellsBody, SpellsSymbol, is_member_kind, SpellsMember, SpellsGroup, IsSaid, SpellsLinking}
-use Rattle.wasm_grammar.specs.Subsections.{payloads_of}
+use Rattle.object_rules.specs.wasm_grammar.Subsections.{payloads_of}
 use Rattle.object_rules.specs.Spaces.{imports_of}
 use Rattle.object_rules.specs.Symbols.{field_of, own_or, import_name, name_of, is_section}
 

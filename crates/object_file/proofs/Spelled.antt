@@ -6,7 +6,7 @@ use Rattle.std.specs.List.{prefix_len}
 use Rattle.std.proofs.lemmas.Str.{IsUtf8-nil}
 use Rattle.std.proofs.lemmas.List.Elements.{All-nil, All-cons, All-head, All-tail, All-append, All-map, All-weaker, All-take, All-drop, All-filter}
 use Rattle.object_rules.specs.wl_base.declared.span.Span.{Span}
-use Rattle.wasm_grammar.proofs.leb_codec_lemmas.Ranges.{u32_range, s32_range, s64_range}
+use Rattle.object_rules.proofs.wasm_grammar_lemmas.leb_codec_lemmas.Ranges.{u32_range, s32_range, s64_range}
 use Rattle.object_rules.specs.wasm_grammar.Grammar.{SpellsU32, SpellsMany}
 use Rattle.object_rules.specs.wasm_types.declared.import.Import.{Import}
 use Rattle.object_rules.specs.wasm_types.declared.import.ImportKind.{ImportKind}
@@ -31,7 +31,7 @@ use Rattle.object_rules.specs.linking_section.declared.symbol.SymbolKind.TheVari
 use Rattle.object_rules.specs.linking_section.declared.linking.Linking.{Linking}
 use Rattle.object_rules.specs.linking_section.Flags.{is_named, is_undefined}
 use Rattle.object_rules.specs.linking_section.Linking.{SpellsMaybe, SpellsExtent, SpellsBody, SpellsSymbol, SpellsSegmentInfo, SpellsInit, SpellsMember, SpellsGroup}
-use Rattle.wasm_grammar.specs.Subsections.{payloads_of}
+use Rattle.object_rules.specs.wasm_grammar.Subsections.{payloads_of}
 use Rattle.object_rules.specs.body_windows.declared.immediate.Immediate.{Immediate}
 use Rattle.object_rules.specs.body_windows.Immediates.{operand_of}
 use Rattle.object_rules.specs.body_windows.declared.operand.Operand.TheVariants as operands

@@ -5,9 +5,8 @@ ghost use Rattle.object_rules.specs.Spaces.{ArePlaces};
 ghost use Rattle.object_file.specs.Objects.{with_name};
 
 use object_columns::{SymbolRef, Symbols};
-use object_rules::{ImportPlaces, Symbol, name_of};
+use object_rules::{Import, ImportPlaces, Symbol, name_of};
 use std::alloc::Global;
-use wasm_types::Import;
 use wl_base::OutOfMemory;
 
 /// A symbol with its name.

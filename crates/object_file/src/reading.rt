@@ -9,10 +9,9 @@ ghost use Rattle.object_file.specs.declared.object.Object.{Object as Read};
 use crate::building::object_from;
 use crate::object::Object;
 use object_rules::{
-    FrameFault, Parts, PartsFault, SectionSpan, SectionStop, broken_rule, frame, parts_of,
+    FrameFault, Parts, PartsFault, SectionSpan, SectionStop, Stop, broken_rule, frame, parts_of,
 };
 use std::alloc::Global;
-use wasm_grammar::Stop;
 use wl_base::{Fault, InputId, OutOfMemory, Part};
 
 /// How many bytes an object has at most.

@@ -14,7 +14,7 @@ use Rattle.wasm_instr.specs.wasm_types.Types.{SpellsFuncType, func_type_at}
 use Rattle.wasm_instr.specs.wasm_types.TypeLaws.{func_type_reader}
 use Rattle.wasm_instr.specs.wasm_types.declared.function.FuncType.{FuncType}
 use Rattle.wasm_instr.specs.wasm_types.declared.import.Import.{Import}
-use Rattle.wasm_sections.specs.declared.section.SectionSpan.{SectionSpan}
+use Rattle.wasm_module.specs.wasm_sections.declared.section.SectionSpan.{SectionSpan}
 use Rattle.wasm_module.specs.declared.parts.Element.{Element}
 use Rattle.wasm_module.specs.declared.parts.Export.{Export}
 use Rattle.wasm_module.specs.Parts.{SpellsExport, SpellsElement}
@@ -24,10 +24,10 @@ use Rattle.linking_section.specs.declared.linking.Linking.{Linking}
 use Rattle.linking_section.specs.Linking.{SpellsLinking}
 use Rattle.linking_section.specs.Reading.{linking_at}
 use Rattle.linking_section.specs.LinkingLaws.{linking_found, linking_again}
-use Rattle.reloc_section.specs.declared.entry.Reloc.{Reloc}
-use Rattle.reloc_section.specs.declared.section.RelocSection.{RelocSection}
-use Rattle.reloc_section.specs.Relocs.{SpellsRelocSection, relocs_at}
-use Rattle.reloc_section.specs.RelocLaws.{relocs_found, relocs_again}
+use Rattle.body_windows.specs.reloc_section.declared.entry.Reloc.{Reloc}
+use Rattle.body_windows.specs.reloc_section.declared.section.RelocSection.{RelocSection}
+use Rattle.body_windows.specs.reloc_section.Relocs.{SpellsRelocSection, relocs_at}
+use Rattle.body_windows.specs.reloc_section.RelocLaws.{relocs_found, relocs_again}
 use Rattle.object_parts.specs.declared.kind.SectionKind.{SectionKind}
 use Rattle.object_parts.specs.declared.kind.SectionKind.TheVariants as sections
 use Rattle.object_parts.specs.declared.kind.CustomKind.{CustomKind}

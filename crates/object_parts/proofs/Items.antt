@@ -10,7 +10,7 @@ use Rattle.wasm_instr.specs.Bodies.{body_at}
 use Rattle.wasm_instr.specs.BodyLaws.{body_found, body_again}
 use Rattle.wasm_module.specs.PartReading.{data_segment_at}
 use Rattle.wasm_module.specs.PartLaws.{data_segment_reader}
-use Rattle.reloc_section.specs.declared.entry.Reloc.{Reloc}
+use Rattle.body_windows.specs.reloc_section.declared.entry.Reloc.{Reloc}
 use Rattle.body_windows.specs.Windows.{windows_of}
 use Rattle.object_parts.specs.declared.parts.GlobalDef.{GlobalDef}
 use Rattle.object_parts.specs.declared.parts.DataPart.{DataPart}

@@ -13,10 +13,10 @@ use Rattle.object_parts.proofs.Sections.{parts_found}
 use Rattle.object_parts.specs.Imports.{SpellsObjectImport, seen_import, none_seen}
 use Rattle.wasm_instr.specs.wl_base.declared.span.Span.{Span}
 use Rattle.wasm_instr.specs.wasm_grammar.declared.fault.Stop.{Stop}
-use Rattle.wasm_sections.specs.declared.section.SectionSpan.{SectionSpan}
+use Rattle.wasm_module.specs.wasm_sections.declared.section.SectionSpan.{SectionSpan}
 use Rattle.wasm_module.specs.declared.parts.DataSegment.{DataSegment}
 use Rattle.wasm_module.specs.Parts.{SpellsDataSegment}
-use Rattle.reloc_section.specs.declared.entry.Reloc.{Reloc}
+use Rattle.body_windows.specs.reloc_section.declared.entry.Reloc.{Reloc}
 use Rattle.object_parts.specs.declared.kind.SectionKind.{SectionKind}
 use Rattle.object_parts.specs.declared.kind.SectionKind.TheVariants as sections
 use Rattle.object_parts.specs.declared.kind.CustomKind.{CustomKind}

@@ -7,10 +7,10 @@ use Rattle.std.specs.List.{list_all, slice_get}
 use Rattle.wasm_instr.specs.wl_base.declared.span.Span.{Span}
 use Rattle.wasm_instr.specs.wasm_grammar.declared.fault.Stop.{Stop}
 use Rattle.wasm_instr.specs.wasm_grammar.Reading.{◌>>=◌, u32_at, name_at}
-use Rattle.wasm_sections.specs.declared.section.SectionSpan.{SectionSpan}
-use Rattle.reloc_section.specs.declared.entry.Reloc.{Reloc}
-use Rattle.reloc_section.specs.declared.section.RelocSection.{RelocSection}
-use Rattle.reloc_section.specs.Relocs.{relocs_at}
+use Rattle.wasm_module.specs.wasm_sections.declared.section.SectionSpan.{SectionSpan}
+use Rattle.body_windows.specs.reloc_section.declared.entry.Reloc.{Reloc}
+use Rattle.body_windows.specs.reloc_section.declared.section.RelocSection.{RelocSection}
+use Rattle.body_windows.specs.reloc_section.Relocs.{relocs_at}
 use Rattle.object_parts.specs.declared.kind.SectionKind.{SectionKind}
 use Rattle.object_parts.specs.declared.kind.SectionKind.TheVariants as sections
 use Rattle.object_parts.specs.declared.kind.CustomKind.{CustomKind}

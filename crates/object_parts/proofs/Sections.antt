@@ -7,8 +7,8 @@ use Rattle.wasm_instr.specs.wasm_grammar.declared.fault.ReadFault.TheVariants.{S
 use Rattle.wasm_instr.specs.wasm_grammar.Fault.{Fails}
 use Rattle.wasm_instr.specs.wasm_grammar.Reading.{part_at, u32_at}
 use Rattle.wasm_instr.specs.wasm_grammar.ReaderLaws.{part_found, u32_reader, taken_length}
-use Rattle.wasm_sections.specs.declared.section.SectionSpan.{SectionSpan}
-use Rattle.reloc_section.specs.declared.entry.Reloc.{Reloc}
+use Rattle.wasm_module.specs.wasm_sections.declared.section.SectionSpan.{SectionSpan}
+use Rattle.body_windows.specs.reloc_section.declared.entry.Reloc.{Reloc}
 use Rattle.object_parts.specs.declared.parts.Parts.{Parts}
 use Rattle.object_parts.specs.declared.reading.SectionStop.{SectionStop}
 use Rattle.object_parts.specs.Kinds.{kind_of}

@@ -23,18 +23,18 @@ use Rattle.wasm_instr.specs.wasm_types.declared.import.ImportKind.{ImportKind}
 use Rattle.wasm_instr.specs.wasm_types.declared.import.ImportKind.TheVariants as kinds
 use Rattle.wasm_instr.specs.declared.body.Body.{Body}
 use Rattle.wasm_instr.specs.Bodies.{body_at}
-use Rattle.wasm_sections.specs.declared.section.SectionSpan.{SectionSpan}
+use Rattle.wasm_module.specs.wasm_sections.declared.section.SectionSpan.{SectionSpan}
 use Rattle.wasm_module.specs.Parts.{SpellsExport, SpellsElement, SpellsDataSegment}
 use Rattle.wasm_module.specs.PartReading.{export_at, element_at, data_segment_at}
 use Rattle.wasm_module.specs.PartLaws.{export_reader, element_reader, data_segment_reader}
 use Rattle.wasm_module.specs.PartStays.{export_stays, element_stays, data_segment_stays}
 use Rattle.linking_section.specs.Reading.{linking_at}
 use Rattle.linking_section.specs.Stays.{linking_stays}
-use Rattle.reloc_section.specs.declared.entry.Reloc.{Reloc}
-use Rattle.reloc_section.specs.declared.section.RelocSection.{RelocSection}
-use Rattle.reloc_section.specs.Relocs.{SpellsRelocSection, reloc_section_at}
-use Rattle.reloc_section.specs.RelocLaws.{reloc_section_reader}
-use Rattle.reloc_section.specs.Stays.{reloc_section_stays}
+use Rattle.body_windows.specs.reloc_section.declared.entry.Reloc.{Reloc}
+use Rattle.body_windows.specs.reloc_section.declared.section.RelocSection.{RelocSection}
+use Rattle.body_windows.specs.reloc_section.Relocs.{SpellsRelocSection, reloc_section_at}
+use Rattle.body_windows.specs.reloc_section.RelocLaws.{reloc_section_reader}
+use Rattle.body_windows.specs.reloc_section.Stays.{reloc_section_stays}
 use Rattle.body_windows.specs.Windows.{windows_of}
 use Rattle.object_parts.specs.declared.imports.Seen.{Seen}
 use Rattle.object_parts.specs.declared.kind.SectionKind.{SectionKind}

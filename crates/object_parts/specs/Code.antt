@@ -11,7 +11,7 @@ use Rattle.wasm_instr.specs.wasm_grammar.Grammar.{SpellsU32}
 use Rattle.wasm_instr.specs.wasm_grammar.Reading.{Read, ◌>>=◌, part_at}
 use Rattle.wasm_instr.specs.Bodies.{SpellsBody, body_at}
 use Rattle.wasm_instr.specs.declared.body.Body.{Body}
-use Rattle.reloc_section.specs.declared.entry.Reloc.{Reloc}
+use Rattle.body_windows.specs.reloc_section.declared.entry.Reloc.{Reloc}
 use Rattle.body_windows.specs.Windows.{windows_of}
 use Rattle.object_parts.specs.declared.parts.CodeBody.{CodeBody}
 use Rattle.object_parts.specs.Turns.{Spelling}

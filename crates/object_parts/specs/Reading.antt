@@ -5,10 +5,10 @@ use Rattle.wasm_instr.specs.wasm_grammar.declared.fault.Stop.{Stop}
 use Rattle.wasm_instr.specs.wasm_grammar.declared.fault.ReadFault.{ReadFault}
 use Rattle.wasm_instr.specs.wasm_grammar.declared.fault.ReadFault.TheVariants as read
 use Rattle.wasm_instr.specs.wasm_grammar.Reading.{u32_at, name_at}
-use Rattle.wasm_sections.specs.declared.section.SectionSpan.{SectionSpan}
-use Rattle.reloc_section.specs.declared.entry.Reloc.{Reloc}
-use Rattle.reloc_section.specs.declared.section.RelocSection.{RelocSection}
-use Rattle.reloc_section.specs.Relocs.{relocs_at}
+use Rattle.wasm_module.specs.wasm_sections.declared.section.SectionSpan.{SectionSpan}
+use Rattle.body_windows.specs.reloc_section.declared.entry.Reloc.{Reloc}
+use Rattle.body_windows.specs.reloc_section.declared.section.RelocSection.{RelocSection}
+use Rattle.body_windows.specs.reloc_section.Relocs.{relocs_at}
 use Rattle.object_parts.specs.declared.kind.CustomKind.{CustomKind}
 use Rattle.object_parts.specs.declared.kind.CustomKind.TheVariants as customs
 use Rattle.object_parts.specs.declared.reading.SectionStop.{SectionStop}

@@ -1,8 +1,8 @@
 -- The parts of an object: what its sections add, one after another (Core 5.5.16, Linking.md).
 use Rattle.std.specs.Prelude.{◌≡◌, ℕ, List, [], ◌∷◌, take, drop}
 use Rattle.wasm_instr.specs.wl_base.declared.span.Span.{Span}
-use Rattle.wasm_sections.specs.declared.section.SectionSpan.{SectionSpan}
-use Rattle.reloc_section.specs.declared.entry.Reloc.{Reloc}
+use Rattle.wasm_module.specs.wasm_sections.declared.section.SectionSpan.{SectionSpan}
+use Rattle.body_windows.specs.reloc_section.declared.entry.Reloc.{Reloc}
 use Rattle.object_parts.specs.declared.parts.Parts.{Parts}
 use Rattle.object_parts.specs.Kinds.{kind_of}
 use Rattle.object_parts.specs.Adding.{AddsKind}

@@ -11,10 +11,10 @@ use crate::globals::globals_at;
 use crate::imports::imports_at;
 use crate::kind::SectionKind;
 use crate::parts::Parts;
-use reloc_section::Reloc;
+use body_windows::Reloc;
 use std::alloc::Global;
 use wasm_grammar::{ReadFault, Stop, none_at, u32_at, whole};
-use wasm_sections::SectionSpan;
+use wasm_module::SectionSpan;
 use wl_base::{Item, Span};
 
 fn none_of(item: Item, count: u32, end: usize, bytes: &[u8]) -> Result<(), Stop>

@@ -8,8 +8,7 @@ ghost use Rattle.object_parts.specs.Code.{begins_before, before, behind, left_be
 
 use crate::parts::CodeBody;
 use crate::placed::span_before;
-use body_windows::scan;
-use reloc_section::Reloc;
+use body_windows::{Reloc, scan};
 use std::alloc::Global;
 use wasm_grammar::{ReadFault, none_at, part_at, u32_at};
 use wl_base::{Seq, Span};

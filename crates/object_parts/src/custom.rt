@@ -5,12 +5,11 @@ ghost use Rattle.object_parts.specs.Adding.{has_id, with_linking, with_relocs, r
 
 use crate::kind::CustomKind;
 use crate::parts::Parts;
+use body_windows::{RelocSection, relocs_at};
 use linking_section::{Linking, linking_at};
-use reloc_section::{RelocSection, relocs_at};
 use std::alloc::Global;
 use wasm_grammar::{ReadFault, Stop, u32_at};
-use wasm_module::lent_name_at;
-use wasm_sections::SectionSpan;
+use wasm_module::{SectionSpan, lent_name_at};
 use wl_base::{Item, OutOfMemory, Seq};
 
 /// Whether the section at this place among all sections is there and has this id.

@@ -2,18 +2,17 @@
 //! it: so that section is read before its turn, and kept until then.
 ghost use Rattle.std.specs.Prelude.{◌≡◌, ◌+◌, ◌≤◌, length, All, IfOk, IfSome};
 ghost use Rattle.wasm_instr.specs.wasm_grammar.Reading.{u32_at, name_at};
-ghost use Rattle.reloc_section.specs.Relocs.{relocs_at};
+ghost use Rattle.body_windows.specs.reloc_section.Relocs.{relocs_at};
 ghost use Rattle.object_parts.specs.Reading.{code_relocs};
 ghost use Rattle.object_parts.specs.Early.{early_target, early_of, early_named, early_in, entries_of, StandsIn};
 
 use crate::custom::has_id;
 use crate::kind::CustomKind;
 use crate::placed::bytes_in;
-use reloc_section::{RelocSection, relocs_at};
+use body_windows::{RelocSection, relocs_at};
 use std::alloc::Global;
 use wasm_grammar::{ReadFault, Stop, u32_at};
-use wasm_module::lent_name_at;
-use wasm_sections::SectionSpan;
+use wasm_module::{SectionSpan, lent_name_at};
 use wl_base::OutOfMemory;
 
 /// The section of relocations for the code section, read before its turn.

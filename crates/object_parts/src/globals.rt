@@ -8,7 +8,7 @@ use crate::parts::GlobalDef;
 use crate::placed::span_between;
 use std::alloc::Global;
 use wasm_grammar::{ReadFault, Stop, none_at, u32_at};
-use wasm_types::{const_expr_at, global_type_at};
+use wasm_module::{const_expr_at, global_type_at};
 use wl_base::Seq;
 
 /// The global at the front, and the bytes after it (Core 5.5.9).

@@ -6,7 +6,7 @@ ghost use Rattle.object_parts.specs.Imports.{names_table, seen_kind, seen_import
 
 use std::alloc::Global;
 use wasm_grammar::{ReadFault, Stop, byte_at, name_at, none_at, u32_at};
-use wasm_types::{Import, ImportKind, import_kind_at, table_type_at};
+use wasm_module::{Import, ImportKind, import_kind_at, table_type_at};
 use wl_base::{Item, Seq};
 
 /// Which imports came before.

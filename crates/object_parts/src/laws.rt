@@ -2,8 +2,8 @@
 ghost use Rattle.std.specs.Prelude.{ℕ, ◌++◌, List, length};
 ghost use Rattle.wasm_instr.specs.wl_base.declared.span.Span.{Span};
 ghost use Rattle.wasm_instr.specs.wasm_grammar.Stays.{Stays};
-ghost use Rattle.wasm_sections.specs.declared.section.SectionSpan.{SectionSpan};
-ghost use Rattle.reloc_section.specs.declared.entry.Reloc.{Reloc};
+ghost use Rattle.wasm_module.specs.wasm_sections.declared.section.SectionSpan.{SectionSpan};
+ghost use Rattle.body_windows.specs.reloc_section.declared.entry.Reloc.{Reloc};
 ghost use Rattle.object_parts.specs.declared.kind.SectionKind.{SectionKind as Kind};
 ghost use Rattle.object_parts.specs.declared.parts.Parts.{Parts};
 ghost use Rattle.object_parts.specs.Adding.{longer, add_kind};

@@ -19,7 +19,9 @@ mod parts;
 mod placed;
 mod reading;
 
-pub use body_windows::{Mismatch, Operand, Operands, OperandsRef, Reference};
+pub use body_windows::{
+    Mismatch, Operand, Operands, OperandsRef, Reference, Reloc, RelocSection, kinds,
+};
 pub use code::split_at_place;
 pub use custom::has_id;
 pub use kind::{CustomKind, SectionKind};
@@ -30,7 +32,8 @@ pub use linking_section::{
 };
 pub use parts::{CodeBody, DataPart, GlobalDef, Parts};
 pub use reading::{PartsFault, SectionStop, parts_of};
-pub use reloc_section::{Reloc, RelocSection, kinds};
+pub use wasm_grammar::Stop;
 pub use wasm_instr::opcodes::GLOBAL_GET;
-pub use wasm_module::{Element, Export};
-pub use wasm_sections::{FrameFault, SectionSpan, frame};
+pub use wasm_module::{
+    Element, Export, FrameFault, FuncType, Import, ImportKind, SectionSpan, frame,
+};

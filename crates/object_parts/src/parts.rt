@@ -1,10 +1,8 @@
 //! The parts of an object.
 
-use body_windows::{Mismatch, Operands};
+use body_windows::{Mismatch, Operands, RelocSection};
 use linking_section::Linking;
-use reloc_section::RelocSection;
-use wasm_module::{Element, Export};
-use wasm_types::{ConstExpr, FuncType, GlobalType, Import};
+use wasm_module::{ConstExpr, Element, Export, FuncType, GlobalType, Import};
 use wl_base::{Seq, Span};
 
 /// A defined global (Core 2.5.6).

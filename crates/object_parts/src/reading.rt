@@ -14,10 +14,10 @@ use crate::early::{Early, code_relocs};
 use crate::kind::SectionKind;
 use crate::parts::Parts;
 use crate::placed::bytes_in;
-use reloc_section::Reloc;
+use body_windows::Reloc;
 use std::alloc::Global;
 use wasm_grammar::{ReadFault, Stop};
-use wasm_sections::SectionSpan;
+use wasm_module::SectionSpan;
 use wl_base::{OutOfMemory, Seq};
 
 /// The first section that isn't spelled whole.

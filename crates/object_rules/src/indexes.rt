@@ -4,8 +4,7 @@ ghost use Rattle.std.specs.List.{list_all};
 ghost use Rattle.object_rules.specs.Indexes.{count_is, are_counted, import_in_range, export_in_range, table_in_range, element_in_range, memory_in_range, segment_in_range, are_in_range};
 
 use crate::spaces::Counts;
-use object_parts::{DataPart, Element, Export, Parts};
-use wasm_types::{Import, ImportKind};
+use object_parts::{DataPart, Element, Export, Import, ImportKind, Parts};
 
 fn count_is(count: Option<u32>, segments: usize) -> bool
     ensures { result ≡ count_is count segments }

@@ -17,9 +17,9 @@ mod windows;
 
 pub use names::name_of;
 pub use object_parts::{
-    CodeBody, DataPart, Export, FrameFault, GlobalDef, Group, HIDDEN, InitFunc, LOCAL, Linking,
-    Member, Mismatch, Operand, Operands, OperandsRef, Parts, PartsFault, Reference, Reloc,
-    SectionSpan, SectionStop, SegmentInfo, Symbol, SymbolKind, UNDEFINED, frame, parts_of,
+    CodeBody, DataPart, Export, FrameFault, GlobalDef, Group, HIDDEN, Import, InitFunc, LOCAL,
+    Linking, Member, Mismatch, Operand, Operands, OperandsRef, Parts, PartsFault, Reference, Reloc,
+    SectionSpan, SectionStop, SegmentInfo, Stop, Symbol, SymbolKind, UNDEFINED, frame, parts_of,
 };
 pub use rules::broken_rule;
 pub use spaces::{Counts, ImportPlaces, function_types};

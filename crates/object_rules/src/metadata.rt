@@ -9,9 +9,10 @@ ghost use Rattle.object_rules.specs.Metadata.{infos_stand, is_plain, is_plain_at
 use crate::differ::{FEW, numbers_differ};
 use crate::spaces::{Counts, function_types};
 use indexmap::IndexSet;
-use object_parts::{Group, InitFunc, Member, Parts, SegmentInfo, Symbol, SymbolKind, member_kinds};
+use object_parts::{
+    FuncType, Group, InitFunc, Member, Parts, SegmentInfo, Symbol, SymbolKind, member_kinds,
+};
 use std::alloc::Global;
-use wasm_types::FuncType;
 use wl_base::{OutOfMemory, Seq};
 
 fn are_aligned(infos: &[SegmentInfo]) -> bool

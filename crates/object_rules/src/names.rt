@@ -8,9 +8,8 @@ ghost use Rattle.object_rules.specs.Symbols.{field_of, import_name, name_of, is_
 use crate::differ::FEW;
 use crate::spaces::ImportPlaces;
 use indexmap::IndexSet;
-use object_parts::{Symbol, SymbolKind};
+use object_parts::{Import, Symbol, SymbolKind};
 use std::alloc::Global;
-use wasm_types::Import;
 use wl_base::OutOfMemory;
 
 fn field_at(imports: &[Import], place: usize) -> Option<&[u8]>

@@ -9,9 +9,8 @@ ghost use Rattle.object_rules.specs.Relocs.{target_stands, lie_apart, payload_le
 use crate::differ::numbers_differ;
 use crate::names::name_of;
 use crate::spaces::{Counts, ImportPlaces};
-use object_parts::{Reloc, RelocSection, SectionSpan, Symbol, SymbolKind, has_id, kinds};
+use object_parts::{Import, Reloc, RelocSection, SectionSpan, Symbol, SymbolKind, has_id, kinds};
 use std::alloc::Global;
-use wasm_types::Import;
 use wl_base::{OutOfMemory, Seq};
 
 /// Whether the target is the code section, the data section or a custom section.

@@ -2,9 +2,8 @@
 ghost use Rattle.std.specs.Prelude.{◌≡◌, ◌≤◌, length, filter_map, IfOk};
 ghost use Rattle.object_rules.specs.Spaces.{is_of, imports_of, imported_type, function_types, counts_of, places_in, HoldPlaces, ArePlaces};
 
-use object_parts::{Parts, SectionSpan, SymbolKind};
+use object_parts::{Import, ImportKind, Parts, SectionSpan, SymbolKind};
 use std::alloc::Global;
-use wasm_types::{Import, ImportKind};
 use wl_base::{OutOfMemory, Seq};
 
 /// How many there are of each, what is imported included (Core 2.5.1).

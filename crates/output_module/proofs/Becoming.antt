@@ -17,8 +17,8 @@ use Rattle.body_windows.specs.Immediates.{between, immediates_in, may_stand, Are
 use Rattle.reloc_apply.specs.declared.window.Form.{Form}
 use Rattle.reloc_apply.specs.declared.window.Form.TheVariants.{Unsigned5, Signed5}
 use Rattle.reloc_apply.specs.Windows.{signed32, spelled, filled}
-use Rattle.link_rules.specs.Program.{Program, Ref, Named, a_symbol, a_type}
-use Rattle.link_rules.specs.Values.{Layout, form_of}
+use Rattle.link_worlds.specs.link_rules.Program.{Program, Ref, Named, a_symbol, a_type}
+use Rattle.link_worlds.specs.link_rules.Values.{Layout, form_of}
 use Rattle.link_worlds.specs.Names.{number_at}
 use Rattle.link_worlds.specs.Bodies.{place_of, named_at, first_place, number_or, constant_or, linked_at}
 use Rattle.linking_section.specs.declared.symbol.SymbolKind.TheVariants.{GlobalVar}

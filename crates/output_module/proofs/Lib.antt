@@ -5,3 +5,4 @@ mod Written
 mod Placeless
 mod Made
 mod Outputs
+pub use Rattle.link_worlds.proofs as link_worlds_lemmas

@@ -22,14 +22,14 @@ use Rattle.reloc_apply.specs.Windows.{filled, patch_of}
 use Rattle.image_emit.specs.Bytes.{Tree, source_bytes, bytes_of}
 use Rattle.image_emit.specs.Filled.{each_filled}
 use Rattle.image_emit.specs.Spelled.{module_with, IsTree, IsSpellable}
-use Rattle.link_rules.specs.Program.{Program, Part, Ref, refs}
-use Rattle.link_rules.specs.Marks.{live, refs_of}
-use Rattle.link_rules.specs.Keys.{FunctionKey, outside, linker_function, stub, own, functions, defined_functions, function_imports_of, is_function_at, function_number, ref_function, same_function}
+use Rattle.link_worlds.specs.link_rules.Program.{Program, Part, Ref, refs}
+use Rattle.link_worlds.specs.link_rules.Marks.{live, refs_of}
+use Rattle.link_worlds.specs.link_rules.Keys.{FunctionKey, outside, linker_function, stub, own, functions, defined_functions, function_imports_of, is_function_at, function_number, ref_function, same_function}
 use Rattle.dylink_out.specs.Shared.{apply_body}
-use Rattle.link_rules.specs.Loader.{words}
-use Rattle.link_rules.specs.Values.{Layout, part_bytes, windows, named_window, solid_segments}
-use Rattle.link_rules.specs.Output.{layout, image, source_windows, body_of, body_windows, windows_in, source_of, calls_of, defined}
-use Rattle.link_rules.specs.LinkOf.{output_bytes}
+use Rattle.link_worlds.specs.link_rules.Loader.{words}
+use Rattle.link_worlds.specs.link_rules.Values.{Layout, part_bytes, windows, named_window, solid_segments}
+use Rattle.link_worlds.specs.link_rules.Output.{layout, image, source_windows, body_of, body_windows, windows_in, source_of, calls_of, defined}
+use Rattle.link_worlds.specs.link_rules.LinkOf.{output_bytes}
 use Rattle.link_worlds.specs.Bodies.{linked_source, linked_part, linked_body, linked_calls, unplaced}
 use Rattle.link_worlds.specs.Worlds.{layout_of, linked_tree, linked_bodies, module_by}
 use Rattle.link_worlds.proofs.Functions.{stood, Stood, find_part, live_apart}

@@ -8,7 +8,7 @@ use Rattle.list_places.specs.Has.{Has}
 use Rattle.body_windows.specs.declared.immediate.Immediate.{Immediate}
 use Rattle.body_windows.specs.Immediates.{AreInOrder}
 use Rattle.reloc_apply.specs.Windows.{over}
-use Rattle.link_rules.specs.Program.{Named, a_symbol, a_type}
+use Rattle.link_worlds.specs.link_rules.Program.{Named, a_symbol, a_type}
 use Rattle.link_worlds.specs.Bodies.{place_of, named_at}
 use Rattle.output_module.specs.Filled.{StandsOn, AllStandOn, names_in}
 

@@ -14,8 +14,8 @@ use Rattle.made_symbols.specs.declared.mode.Mode.TheVariants.{Plain}
 use Rattle.reloc_apply.specs.declared.window.Form.{Form}
 use Rattle.reloc_apply.specs.declared.window.Form.TheVariants.{Unsigned5, Signed5}
 use Rattle.reloc_apply.specs.Windows.{bits32, value, signed32}
-use Rattle.link_rules.specs.Program.{Named}
-use Rattle.link_rules.specs.Values.{Layout, named_window, form_of}
+use Rattle.link_worlds.specs.link_rules.Program.{Named}
+use Rattle.link_worlds.specs.link_rules.Values.{Layout, named_window, form_of}
 use Rattle.link_worlds.specs.Names.{number_at}
 
 pub bits_small : (z : ℤ) → bits32 z < 2 ^ 32

@@ -11,8 +11,8 @@ use Rattle.body_windows.specs.declared.immediate.Immediate.{Immediate}
 use Rattle.body_windows.specs.Immediates.{immediates, immediates_in, end_of, AreInOrder}
 use Rattle.reloc_apply.specs.Windows.{filled, patch_of, patched}
 use Rattle.made_symbols.specs.declared.mode.Mode.TheVariants.{Plain}
-use Rattle.link_rules.specs.Program.{Program, Named}
-use Rattle.link_rules.specs.Values.{Layout, named_window}
+use Rattle.link_worlds.specs.link_rules.Program.{Program, Named}
+use Rattle.link_worlds.specs.link_rules.Values.{Layout, named_window}
 use Rattle.link_worlds.specs.Bodies.{place_of, linked_placed, linked_at}
 use Rattle.output_module.specs.Filled.{AllStandOn, names_in, patches, FilledBody, Reads, TakenBody}
 use Rattle.link_worlds.specs.Sound.{Takes}

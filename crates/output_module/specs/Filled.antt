@@ -9,8 +9,8 @@ use Rattle.body_windows.specs.Immediates.{immediates, may_stand, needs_window}
 use Rattle.made_symbols.specs.declared.mode.Mode.TheVariants.{Plain}
 use Rattle.reloc_apply.specs.declared.window.Patch.{Patch}
 use Rattle.reloc_apply.specs.Windows.{patch_of, filled}
-use Rattle.link_rules.specs.Program.{Program, Ref, Named, a_symbol, a_type}
-use Rattle.link_rules.specs.Values.{Layout, named_window}
+use Rattle.link_worlds.specs.link_rules.Program.{Program, Ref, Named, a_symbol, a_type}
+use Rattle.link_worlds.specs.link_rules.Values.{Layout, named_window}
 use Rattle.link_worlds.specs.Bodies.{named_at, linked_placed}
 use Rattle.link_worlds.specs.Sound.{Takes}
 use Rattle.list_places.specs.Has.{Has}

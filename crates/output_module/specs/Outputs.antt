@@ -12,12 +12,12 @@ use Rattle.name_rules.specs.Entries.{InputSymbol}
 use Rattle.image_emit.specs.Spelled.{IsSpellable}
 use Rattle.run_rules.specs.declared.session.Session.{Session}
 use Rattle.run_rules.specs.Modules.{module_trace}
-use Rattle.link_rules.specs.Program.{Program, Part, Named}
-use Rattle.link_rules.specs.Marks.{live}
-use Rattle.link_rules.specs.Keys.{is_function_at}
-use Rattle.link_rules.specs.Values.{Layout, part_bytes}
-use Rattle.link_rules.specs.Output.{image, source_windows}
-use Rattle.link_rules.specs.LinkOf.{output_bytes}
+use Rattle.link_worlds.specs.link_rules.Program.{Program, Part, Named}
+use Rattle.link_worlds.specs.link_rules.Marks.{live}
+use Rattle.link_worlds.specs.link_rules.Keys.{is_function_at}
+use Rattle.link_worlds.specs.link_rules.Values.{Layout, part_bytes}
+use Rattle.link_worlds.specs.link_rules.Output.{image, source_windows}
+use Rattle.link_worlds.specs.link_rules.LinkOf.{output_bytes}
 use Rattle.link_worlds.specs.Worlds.{layout_of, linked_tree, linked_module}
 use Rattle.output_module.specs.Filled.{AllStandOn, names_in}
 use Rattle.link_worlds.specs.Sound.{Sound}

@@ -32,3 +32,5 @@ pub fn outputs_are_read()
     image_emit::bytes_are_the_module();
     image_emit::bytes_are_no_other();
 }
+
+pub use link_worlds::runs_agree;

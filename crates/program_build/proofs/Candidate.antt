@@ -6,7 +6,7 @@ use Rattle.std.proofs.lemmas.Bool.{eq-eqb, ne_eqb}
 use Rattle.std.proofs.lemmas.List.Folds.{find_at}
 use Rattle.std.proofs.lemmas.List.Sums.{position_or_len_is}
 use Rattle.std.proofs.lemmas.Option.{slice_get_within, slice_get-get_or, get_or_from_slice_get}
-use Rattle.link_program.specs.round_rules.Rounds.{Candidate}
+use Rattle.loose_calls.specs.link_program.round_rules.Rounds.{Candidate}
 
 abbrev pub Counted : List Candidate → Type 0
 Counted all = (i : ℕ) (c : Candidate) → slice_get all i ≡ Some c → c.input ≡ i + 1

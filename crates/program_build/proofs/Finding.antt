@@ -4,37 +4,37 @@ use Rattle.std.specs.Prelude.{map, flat_map, filter_map, bytes_eq, All, IsErr}
 use Rattle.std.specs.List.{list_any}
 use Rattle.std.proofs.lemmas.List.Elements.{All-cons, All-nil, All-head, All-tail}
 use Rattle.std.specs.Result.{IsErrAnd}
-use Rattle.link_program.specs.wl_base.Choice.{distinct, unless}
-use Rattle.link_program.specs.wl_base.declared.name_table.NameFault.{NameFault}
-use Rattle.link_program.specs.wl_base.declared.name_table.NameFault.TheVariants.{TooMany}
-use Rattle.link_program.specs.wl_base.declared.fault.Fault.{Fault}
-use Rattle.link_program.specs.wl_base.declared.fault.Fault.TheVariants.{TooManyNames}
-use Rattle.link_program.specs.object_file.declared.object.Object.{Object}
-use Rattle.link_program.specs.made_symbols.declared.mode.Mode.{Mode}
-use Rattle.link_program.specs.made_symbols.declared.mode.Mode.TheVariants.{Plain}
-use Rattle.link_program.specs.link_names.Numbered.{AreNumbers}
-use Rattle.link_program.specs.name_entries.View.{WinnersAre}
-use Rattle.link_program.specs.declared.program.Tables.{Tables}
-use Rattle.link_program.specs.Program.{AreTables, variant_names}
-use Rattle.link_program.specs.link_names.Numbered as names
-use Rattle.link_program.specs.name_rules.Entries.{InputSymbol, entries, name_of, same_import}
-use Rattle.link_program.specs.name_rules.Meanings.{Meaning, here, imported, null, nothing}
-use Rattle.link_program.specs.name_entries.Fits.{IsTable}
-use Rattle.link_program.specs.name_entries.declared.table.EntryTable.{EntryTable}
-use Rattle.link_program.specs.name_meanings.Means.{import_meant, imports_meant}
-use Rattle.link_program.specs.link_plan.declared.plan.Plan.{Plan}
-use Rattle.link_program.specs.link_rules.Program.{Program, program_of}
-use Rattle.link_program.specs.link_rules.Keys.{import_of, imports_in_order}
-use Rattle.link_program.specs.declared.home.Home.{Home}
-use Rattle.link_program.specs.Loaded.{Origin, IsLoaded}
-use Rattle.link_program.specs.declared.error.LinkError.{LinkError}
-use Rattle.link_program.specs.declared.error.LinkError.TheVariants.{Refused, OutOfMemory}
+use Rattle.loose_calls.specs.link_program.wl_base.Choice.{distinct, unless}
+use Rattle.loose_calls.specs.link_program.wl_base.declared.name_table.NameFault.{NameFault}
+use Rattle.loose_calls.specs.link_program.wl_base.declared.name_table.NameFault.TheVariants.{TooMany}
+use Rattle.loose_calls.specs.link_program.wl_base.declared.fault.Fault.{Fault}
+use Rattle.loose_calls.specs.link_program.wl_base.declared.fault.Fault.TheVariants.{TooManyNames}
+use Rattle.loose_calls.specs.link_program.object_file.declared.object.Object.{Object}
+use Rattle.loose_calls.specs.link_program.made_symbols.declared.mode.Mode.{Mode}
+use Rattle.loose_calls.specs.link_program.made_symbols.declared.mode.Mode.TheVariants.{Plain}
+use Rattle.loose_calls.specs.link_program.link_names.Numbered.{AreNumbers}
+use Rattle.loose_calls.specs.link_program.name_entries.View.{WinnersAre}
+use Rattle.loose_calls.specs.link_program.declared.program.Tables.{Tables}
+use Rattle.loose_calls.specs.link_program.Program.{AreTables, variant_names}
+use Rattle.loose_calls.specs.link_program.link_names.Numbered as names
+use Rattle.loose_calls.specs.link_program.name_rules.Entries.{InputSymbol, entries, name_of, same_import}
+use Rattle.loose_calls.specs.link_program.name_rules.Meanings.{Meaning, here, imported, null, nothing}
+use Rattle.loose_calls.specs.link_program.name_entries.Fits.{IsTable}
+use Rattle.loose_calls.specs.link_program.name_entries.declared.table.EntryTable.{EntryTable}
+use Rattle.loose_calls.specs.link_program.name_meanings.Means.{import_meant, imports_meant}
+use Rattle.loose_calls.specs.link_program.link_plan.declared.plan.Plan.{Plan}
+use Rattle.loose_calls.specs.link_program.link_rules.Program.{Program, program_of}
+use Rattle.loose_calls.specs.link_program.link_rules.Keys.{import_of, imports_in_order}
+use Rattle.loose_calls.specs.link_program.declared.home.Home.{Home}
+use Rattle.loose_calls.specs.link_program.Loaded.{Origin, IsLoaded}
+use Rattle.loose_calls.specs.link_program.declared.error.LinkError.{LinkError}
+use Rattle.loose_calls.specs.link_program.declared.error.LinkError.TheVariants.{Refused, OutOfMemory}
 use Rattle.program_build.specs.declared.found.Found.{Found}
 use Rattle.program_build.specs.declared.meanings.Meanings.{Meanings}
-use Rattle.link_program.specs.link_rules.LinkOf.{asked_names, too_many_names}
+use Rattle.loose_calls.specs.link_program.link_rules.LinkOf.{asked_names, too_many_names}
 use Rattle.program_build.specs.Steps.{Numbered, names_of, case_of, AreMeant, MeansOrRefused}
 use Rattle.program_build.specs.Found.{found_of, IsFound, Finds}
-use Rattle.program_tables.specs.Loose.{variants_in}
+use Rattle.loose_calls.specs.program_tables.Loose.{variants_in}
 use Rattle.loose_calls.specs.Interned.{Stays}
 use Rattle.loose_calls.proofs.Behind.{IsNot, all_behind}
 use Rattle.program_build.proofs.Grown.{numbers_grown, table_grown, winners_grown}

@@ -3,19 +3,19 @@ use Rattle.std.proofs.Common.{◌≡◌, ℕ, zero, suc, ◌+◌, ◌-◌, ◌<�
 use Rattle.std.specs.Prelude.{map, slice_get, if◌then◌else◌, option_map, bytes_eq, All}
 use Rattle.std.specs.List.{list_any, IsDistinct}
 use Rattle.std.proofs.lemmas.List.Elements.{All-append, All-cons, All-nil, All-head, All-tail}
-use Rattle.link_program.specs.wl_base.Choice.{distinct, distinct_onto}
-use Rattle.link_program.specs.wl_base.Names.{number_of}
-use Rattle.link_program.specs.linking_section.declared.symbol.Symbol.{Symbol}
-use Rattle.link_program.specs.object_file.declared.object.Object.{Object}
-use Rattle.link_program.specs.made_symbols.declared.mode.Mode.{Mode}
-use Rattle.link_program.specs.made_symbols.Made.{made}
-use Rattle.link_program.specs.link_names.Numbered.{Numbered, AreNumbers, Held, Short, entry_names, group_names, is_entry_symbol, symbol_name, symbol_number}
-use Rattle.link_program.specs.name_rules.Entries.{entries}
-use Rattle.link_program.specs.name_rules.Meanings.{winner, least, entry_rank}
-use Rattle.link_program.specs.name_entries.View.{WinnersAre, NonePast}
-use Rattle.link_program.specs.name_entries.Fits.{IsTable}
-use Rattle.link_program.specs.name_entries.Rows.{AreRows}
-use Rattle.link_program.specs.name_entries.declared.table.EntryTable.{EntryTable}
+use Rattle.loose_calls.specs.link_program.wl_base.Choice.{distinct, distinct_onto}
+use Rattle.loose_calls.specs.link_program.wl_base.Names.{number_of}
+use Rattle.loose_calls.specs.link_program.linking_section.declared.symbol.Symbol.{Symbol}
+use Rattle.loose_calls.specs.link_program.object_file.declared.object.Object.{Object}
+use Rattle.loose_calls.specs.link_program.made_symbols.declared.mode.Mode.{Mode}
+use Rattle.loose_calls.specs.link_program.made_symbols.Made.{made}
+use Rattle.loose_calls.specs.link_program.link_names.Numbered.{Numbered, AreNumbers, Held, Short, entry_names, group_names, is_entry_symbol, symbol_name, symbol_number}
+use Rattle.loose_calls.specs.link_program.name_rules.Entries.{entries}
+use Rattle.loose_calls.specs.link_program.name_rules.Meanings.{winner, least, entry_rank}
+use Rattle.loose_calls.specs.link_program.name_entries.View.{WinnersAre, NonePast}
+use Rattle.loose_calls.specs.link_program.name_entries.Fits.{IsTable}
+use Rattle.loose_calls.specs.link_program.name_entries.Rows.{AreRows}
+use Rattle.loose_calls.specs.link_program.name_entries.declared.table.EntryTable.{EntryTable}
 use Rattle.link_names.specs.Interning.{more}
 use Rattle.link_names.proofs.More.{numbers_stay}
 use Rattle.link_names.proofs.Held.{more_distinct}

@@ -4,7 +4,7 @@ use Rattle.std.specs.Prelude.{IfSome, slice_get, flat_map, filter_map, if◌then
 use Rattle.std.specs.List.{cons_option}
 use Rattle.std.proofs.lemmas.List.Elements.{All-append, All-cons, All-nil, All-head, All-tail}
 use Rattle.std.proofs.lemmas.Option.{slice_get-get_or}
-use Rattle.link_program.specs.link_rules.Program.{indexed, InitCall, insert_call, by_priority}
+use Rattle.loose_calls.specs.link_program.link_rules.Program.{indexed, InitCall, insert_call, by_priority}
 
 pub each_there : {A : Type 0} (P : A → Type 0) (xs : List A) → ((i : ℕ) (x : A) → slice_get xs i ≡ Some x → P x) → All P xs
 each_there P xs h = λ k d within. h k (get_or xs k d) (slice_get-get_or xs k d within)

@@ -4,14 +4,14 @@ use Rattle.std.specs.Prelude.{slice_get, bytes_eq, All}
 use Rattle.std.specs.List.{list_any, AllByRecursion}
 use Rattle.std.proofs.lemmas.Slice.Eq.{bytes_eq-Decides}
 use Rattle.std.proofs.lemmas.List.Elements.{filter-append, All-head, All-tail}
-use Rattle.link_program.specs.wl_base.Names.{number_of}
-use Rattle.link_program.specs.linking_section.declared.symbol.Symbol.{Symbol}
-use Rattle.link_program.specs.object_file.declared.object.Object.{Object}
-use Rattle.link_program.specs.made_symbols.declared.mode.Mode.{Mode}
-use Rattle.link_program.specs.made_symbols.Made.{MadeSymbol, made}
-use Rattle.link_program.specs.link_names.Numbered.{Numbered, AreNumbers, Held, entry_names, is_entry_symbol, symbol_name}
-use Rattle.link_program.specs.name_rules.Entries.{InputSymbol, entries, entries_from, entry_in, symbols_of, made_from, name_of, is_entry, is_named}
-use Rattle.link_program.proofs.name_entries_lemmas.Numbers.{name_at}
+use Rattle.loose_calls.specs.link_program.wl_base.Names.{number_of}
+use Rattle.loose_calls.specs.link_program.linking_section.declared.symbol.Symbol.{Symbol}
+use Rattle.loose_calls.specs.link_program.object_file.declared.object.Object.{Object}
+use Rattle.loose_calls.specs.link_program.made_symbols.declared.mode.Mode.{Mode}
+use Rattle.loose_calls.specs.link_program.made_symbols.Made.{MadeSymbol, made}
+use Rattle.loose_calls.specs.link_program.link_names.Numbered.{Numbered, AreNumbers, Held, entry_names, is_entry_symbol, symbol_name}
+use Rattle.loose_calls.specs.link_program.name_rules.Entries.{InputSymbol, entries, entries_from, entry_in, symbols_of, made_from, name_of, is_entry, is_named}
+use Rattle.loose_calls.proofs.link_program_lemmas.name_entries_lemmas.Numbers.{name_at}
 use Rattle.loose_calls.proofs.Behind.{IsNot}
 
 none : IsSome {T = ℕ} None → ⊥

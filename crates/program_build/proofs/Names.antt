@@ -3,18 +3,18 @@ use Rattle.std.proofs.Common.{◌≡◌, ℕ, ◌+◌, ◌≤◌, ◌<◌, ◌^�
 use Rattle.std.specs.Prelude.{filter, flat_map, bytes_eq, nat_lt}
 use Rattle.std.proofs.lemmas.List.{map-append}
 use Rattle.std.proofs.lemmas.List.Elements.{filter-append}
-use Rattle.link_program.specs.wl_base.Choice.{given, distinct}
-use Rattle.link_program.specs.wl_base.declared.fault.Fault.{Fault}
-use Rattle.link_program.specs.wl_base.declared.fault.Fault.TheVariants.{TooManyNames}
-use Rattle.link_program.specs.linking_section.declared.symbol.Symbol.{Symbol}
-use Rattle.link_program.specs.object_file.declared.object.Object.{Object}
-use Rattle.link_program.specs.made_symbols.declared.mode.Mode.{Mode}
-use Rattle.link_program.specs.made_symbols.Made.{made, MadeSymbol}
-use Rattle.link_program.specs.name_rules.Entries.{InputSymbol, entries, entries_from, entry_in, made_from, made_entry, symbols_of, is_entry, name_of}
-use Rattle.link_program.specs.link_names.Numbered.{different_names, is_entry_symbol, symbol_name, entry_names, group_names}
-use Rattle.link_program.specs.link_names.Numbered as numbered
-use Rattle.link_program.specs.link_rules.Program.{Program}
-use Rattle.link_program.specs.link_rules.LinkOf.{all_names, asked_names, too_many_names}
+use Rattle.loose_calls.specs.link_program.wl_base.Choice.{given, distinct}
+use Rattle.loose_calls.specs.link_program.wl_base.declared.fault.Fault.{Fault}
+use Rattle.loose_calls.specs.link_program.wl_base.declared.fault.Fault.TheVariants.{TooManyNames}
+use Rattle.loose_calls.specs.link_program.linking_section.declared.symbol.Symbol.{Symbol}
+use Rattle.loose_calls.specs.link_program.object_file.declared.object.Object.{Object}
+use Rattle.loose_calls.specs.link_program.made_symbols.declared.mode.Mode.{Mode}
+use Rattle.loose_calls.specs.link_program.made_symbols.Made.{made, MadeSymbol}
+use Rattle.loose_calls.specs.link_program.name_rules.Entries.{InputSymbol, entries, entries_from, entry_in, made_from, made_entry, symbols_of, is_entry, name_of}
+use Rattle.loose_calls.specs.link_program.link_names.Numbered.{different_names, is_entry_symbol, symbol_name, entry_names, group_names}
+use Rattle.loose_calls.specs.link_program.link_names.Numbered as numbered
+use Rattle.loose_calls.specs.link_program.link_rules.Program.{Program}
+use Rattle.loose_calls.specs.link_program.link_rules.LinkOf.{all_names, asked_names, too_many_names}
 
 made_names : (place : ℕ) (ms : List MadeSymbol) → map name_of (made_from place ms) ≡ map (λ (m : MadeSymbol). m.name) ms
 made_names place [] = refl

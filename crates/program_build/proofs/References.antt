@@ -2,14 +2,14 @@
 use Rattle.std.proofs.Common.{◌≡◌, ℕ, ℤ, pos, List, [], ◌∷◌, refl, Option, Some, None, All, Bool, true, false, map, not}
 use Rattle.std.specs.Prelude.{IfSome, slice_get, filter_map, flat_map, option_map, filter}
 use Rattle.std.proofs.lemmas.List.Elements.{All-cons, All-nil, All-head, All-tail, All-map, All-filter}
-use Rattle.link_program.specs.reloc_section.declared.entry.Reloc.{Reloc}
-use Rattle.link_program.specs.body_windows.declared.operand.Operand.{Operand}
-use Rattle.link_program.specs.body_windows.declared.operand.Operand.TheVariants as operands
-use Rattle.link_program.specs.linking_section.declared.init.InitFunc.{InitFunc}
-use Rattle.link_program.specs.name_rules.Entries.{InputSymbol}
-use Rattle.link_program.specs.name_rules.Meanings.{Meaning, Resolved}
-use Rattle.link_program.specs.link_rules.Program.{Ref, Named, a_symbol, a_type, named_ref, ref_to, ref_in, operand_named, window_named, InitCall, init_call, is_skipped, init_calls_in, init_calls, by_priority}
-use Rattle.link_program.specs.Stand.{IsSymbolOf}
+use Rattle.loose_calls.specs.link_program.reloc_section.declared.entry.Reloc.{Reloc}
+use Rattle.loose_calls.specs.link_program.body_windows.declared.operand.Operand.{Operand}
+use Rattle.loose_calls.specs.link_program.body_windows.declared.operand.Operand.TheVariants as operands
+use Rattle.loose_calls.specs.link_program.linking_section.declared.init.InitFunc.{InitFunc}
+use Rattle.loose_calls.specs.link_program.name_rules.Entries.{InputSymbol}
+use Rattle.loose_calls.specs.link_program.name_rules.Meanings.{Meaning, Resolved}
+use Rattle.loose_calls.specs.link_program.link_rules.Program.{Ref, Named, a_symbol, a_type, named_ref, ref_to, ref_in, operand_named, window_named, InitCall, init_call, is_skipped, init_calls_in, init_calls, by_priority}
+use Rattle.loose_calls.specs.link_program.Stand.{IsSymbolOf}
 use Rattle.program_build.proofs.Lists.{each_there, all_flat_map, all_filter_map, all_by_priority}
 
 module _ (resolved : List Resolved) where

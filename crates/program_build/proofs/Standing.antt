@@ -3,27 +3,27 @@ use Rattle.std.proofs.Common.{◌≡◌, ℕ, ◌+◌, ◌-◌, ◌≤◌, ◌==
 use Rattle.std.specs.Prelude.{IfSome, slice_get, slice_index_or, find, flat_map, option_map, filter_map, if◌then◌else◌}
 use Rattle.std.proofs.lemmas.List.Elements.{All-append, All-cons, All-nil, All-filter}
 use Rattle.std.proofs.lemmas.Option.{slice_get-map}
-use Rattle.link_program.specs.wl_base.declared.span.Span.{Span}
-use Rattle.link_program.specs.linking_section.declared.symbol.SymbolKind.{SymbolKind}
-use Rattle.link_program.specs.linking_section.declared.symbol.SymbolKind.TheVariants.{Function, Datum, GlobalVar, Section, Table}
-use Rattle.link_program.specs.object_parts.declared.parts.GlobalDef.{GlobalDef}
-use Rattle.link_program.specs.object_columns.declared.functions.FunctionDef.{FunctionDef}
-use Rattle.link_program.specs.object_columns.declared.segments.SegmentDef.{SegmentDef}
-use Rattle.link_program.specs.body_windows.Operands.{StandIn}
-use Rattle.link_program.specs.object_parts.Spans.{LiesIn}
-use Rattle.link_program.specs.object_file.declared.object.Object.{Object}
-use Rattle.link_program.specs.object_file.Sound.{Sound, WindowNames, WindowsStandIn}
-use Rattle.link_program.specs.made_symbols.declared.mode.Mode.{Mode}
-use Rattle.link_program.specs.made_symbols.Made.{made, MadeSymbol}
-use Rattle.link_program.specs.round_rules.Rounds.{Candidate}
-use Rattle.link_program.specs.name_rules.Entries.{InputSymbol, entries, made_entry}
-use Rattle.link_program.specs.name_rules.Meanings.{Resolved, resolve, resolved_in, uses_of}
-use Rattle.link_program.specs.link_plan.declared.plan.Plan.{Plan}
-use Rattle.link_program.specs.link_rules.Program.{Program, strict_program, program_of, Part, Ref, parts_of, parts_in, made_parts_from, made_part, made_kind, linker_made, no_source, a_symbol, init_calls, function_part, segment_part, global_part, is_part_kept, span_in, option_onto, operand_named, window_named}
-use Rattle.link_program.specs.declared.home.Home.{Home}
-use Rattle.link_program.specs.Loaded.{IsLoaded, IsReadFrom}
-use Rattle.link_program.specs.Stand.{PartStandsBy, SourceLies, NamedStand}
-use Rattle.link_program.proofs.Loose.{IsMeant as IsMeantOf, parts_stand as loose_stand}
+use Rattle.loose_calls.specs.link_program.wl_base.declared.span.Span.{Span}
+use Rattle.loose_calls.specs.link_program.linking_section.declared.symbol.SymbolKind.{SymbolKind}
+use Rattle.loose_calls.specs.link_program.linking_section.declared.symbol.SymbolKind.TheVariants.{Function, Datum, GlobalVar, Section, Table}
+use Rattle.loose_calls.specs.link_program.object_parts.declared.parts.GlobalDef.{GlobalDef}
+use Rattle.loose_calls.specs.link_program.object_columns.declared.functions.FunctionDef.{FunctionDef}
+use Rattle.loose_calls.specs.link_program.object_columns.declared.segments.SegmentDef.{SegmentDef}
+use Rattle.loose_calls.specs.link_program.body_windows.Operands.{StandIn}
+use Rattle.loose_calls.specs.link_program.object_parts.Spans.{LiesIn}
+use Rattle.loose_calls.specs.link_program.object_file.declared.object.Object.{Object}
+use Rattle.loose_calls.specs.link_program.object_file.Sound.{Sound, WindowNames, WindowsStandIn}
+use Rattle.loose_calls.specs.link_program.made_symbols.declared.mode.Mode.{Mode}
+use Rattle.loose_calls.specs.link_program.made_symbols.Made.{made, MadeSymbol}
+use Rattle.loose_calls.specs.link_program.round_rules.Rounds.{Candidate}
+use Rattle.loose_calls.specs.link_program.name_rules.Entries.{InputSymbol, entries, made_entry}
+use Rattle.loose_calls.specs.link_program.name_rules.Meanings.{Resolved, resolve, resolved_in, uses_of}
+use Rattle.loose_calls.specs.link_program.link_plan.declared.plan.Plan.{Plan}
+use Rattle.loose_calls.specs.link_program.link_rules.Program.{Program, strict_program, program_of, Part, Ref, parts_of, parts_in, made_parts_from, made_part, made_kind, linker_made, no_source, a_symbol, init_calls, function_part, segment_part, global_part, is_part_kept, span_in, option_onto, operand_named, window_named}
+use Rattle.loose_calls.specs.link_program.declared.home.Home.{Home}
+use Rattle.loose_calls.specs.link_program.Loaded.{IsLoaded, IsReadFrom}
+use Rattle.loose_calls.specs.link_program.Stand.{PartStandsBy, SourceLies, NamedStand}
+use Rattle.loose_calls.proofs.link_program_lemmas.Loose.{IsMeant as IsMeantOf, parts_stand as loose_stand}
 use Rattle.program_build.specs.Standing.{StrictPartsStand, LoadedPartsStand}
 use Rattle.program_build.proofs.Lists.{each_there, there, all_flat_map, all_indexed}
 use Rattle.program_build.proofs.Candidate.{found}

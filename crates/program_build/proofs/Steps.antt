@@ -1,10 +1,10 @@
 -- The first faults of a program, one after another.
 use Rattle.std.proofs.Common.{◌≡◌, ◌∙◌, refl, ap, [], ◌∷◌, Option, Some, None, Result, Err}
-use Rattle.link_program.specs.wl_base.Choice.{first_some, unless, ◌>>=◌}
-use Rattle.link_program.specs.wl_base.declared.fault.Fault.{Fault}
-use Rattle.link_program.specs.name_rules.Cases.{clash_by, duplicate}
-use Rattle.link_program.specs.link_rules.Program.{Program}
-use Rattle.link_program.specs.link_rules.LinkOf.{too_many_names}
+use Rattle.loose_calls.specs.link_program.wl_base.Choice.{first_some, unless, ◌>>=◌}
+use Rattle.loose_calls.specs.link_program.wl_base.declared.fault.Fault.{Fault}
+use Rattle.loose_calls.specs.link_program.name_rules.Cases.{clash_by, duplicate}
+use Rattle.loose_calls.specs.link_program.link_rules.Program.{Program}
+use Rattle.loose_calls.specs.link_program.link_rules.LinkOf.{too_many_names}
 use Rattle.program_build.specs.Steps.{case_of}
 use Rattle.program_build.specs.Found.{found_of}
 

@@ -4,18 +4,18 @@ use Rattle.std.specs.Prelude.{IfSome, IsTrue, slice_get, filter_map, option_map,
 use Rattle.std.specs.List.{cons_option}
 use Rattle.std.proofs.lemmas.Bool.{eqb-true}
 use Rattle.std.proofs.lemmas.List.Elements.{All-head, All-tail}
-use Rattle.link_program.specs.reloc_section.declared.entry.Reloc.{Reloc}
-use Rattle.link_program.specs.body_windows.declared.operand.Operand.{Operand}
-use Rattle.link_program.specs.body_windows.declared.operand.Operand.TheVariants as operands
-use Rattle.link_program.specs.body_windows.Operands.{StandIn}
-use Rattle.link_program.specs.reloc_apply.declared.window.Form.TheVariants.{Unsigned5, Signed5, Word4}
-use Rattle.link_program.specs.reloc_apply.Apart.{size_of}
-use Rattle.link_program.specs.object_file.declared.object.Object.{Object}
-use Rattle.link_program.specs.object_file.Sound.{is_data_type, WindowNames, WindowsStandIn}
-use Rattle.link_program.specs.name_rules.Meanings.{Resolved}
-use Rattle.link_program.specs.link_rules.Program.{Ref, Named, a_symbol, a_type, ref_in, operand_named, window_named}
-use Rattle.link_program.specs.link_rules.Values.{form_of}
-use Rattle.link_program.specs.Stand.{NamedStand, named_place, named_size}
+use Rattle.loose_calls.specs.link_program.reloc_section.declared.entry.Reloc.{Reloc}
+use Rattle.loose_calls.specs.link_program.body_windows.declared.operand.Operand.{Operand}
+use Rattle.loose_calls.specs.link_program.body_windows.declared.operand.Operand.TheVariants as operands
+use Rattle.loose_calls.specs.link_program.body_windows.Operands.{StandIn}
+use Rattle.loose_calls.specs.link_program.reloc_apply.declared.window.Form.TheVariants.{Unsigned5, Signed5, Word4}
+use Rattle.loose_calls.specs.link_program.reloc_apply.Apart.{size_of}
+use Rattle.loose_calls.specs.link_program.object_file.declared.object.Object.{Object}
+use Rattle.loose_calls.specs.link_program.object_file.Sound.{is_data_type, WindowNames, WindowsStandIn}
+use Rattle.loose_calls.specs.link_program.name_rules.Meanings.{Resolved}
+use Rattle.loose_calls.specs.link_program.link_rules.Program.{Ref, Named, a_symbol, a_type, ref_in, operand_named, window_named}
+use Rattle.loose_calls.specs.link_program.link_rules.Values.{form_of}
+use Rattle.loose_calls.specs.link_program.Stand.{NamedStand, named_place, named_size}
 use Rattle.program_build.proofs.References.{IsAt, ref_is}
 
 -- ---- sizes

@@ -1,25 +1,25 @@
 -- What is found of the loaded objects.
 use Rattle.std.specs.Prelude.{◌≡◌, ◌++◌, false, List, Result, Ok, Err, All, bytes_eq}
 use Rattle.std.specs.List.{list_any}
-use Rattle.link_program.specs.wl_base.Choice.{unless, ◌>>=◌}
-use Rattle.link_program.specs.wl_base.declared.fault.Fault.{Fault}
-use Rattle.link_program.specs.object_file.declared.object.Object.{Object}
-use Rattle.link_program.specs.made_symbols.declared.mode.Mode.{Mode}
-use Rattle.link_program.specs.round_rules.Rounds.{Candidate}
-use Rattle.link_program.specs.link_names.Numbered.{AreNumbers, different_names}
-use Rattle.link_program.specs.name_rules.Entries.{entries, name_of}
-use Rattle.link_program.specs.name_rules.Meanings.{resolve}
-use Rattle.link_program.specs.name_rules.Cases.{clash_by, duplicate}
-use Rattle.link_program.specs.name_entries.View.{InputsRise, WinnersAre}
-use Rattle.link_program.specs.name_entries.Fits.{IsTable}
-use Rattle.link_program.specs.name_meanings.Means.{IsResolution}
-use Rattle.link_program.specs.link_plan.declared.plan.Plan.{Plan}
-use Rattle.link_program.specs.link_rules.Program.{Program, winners_of, parts_of, loose_parts, loose_variants}
-use Rattle.link_program.specs.link_rules.Keys.{imports_in_order}
-use Rattle.link_program.specs.link_rules.LinkOf.{asked_names, too_many_names}
-use Rattle.link_program.specs.Program.{AreTables, variant_names}
-use Rattle.link_program.specs.declared.error.LinkError.{LinkError}
-use Rattle.link_program.specs.declared.error.LinkError.TheVariants.{Refused, OutOfMemory}
+use Rattle.loose_calls.specs.link_program.wl_base.Choice.{unless, ◌>>=◌}
+use Rattle.loose_calls.specs.link_program.wl_base.declared.fault.Fault.{Fault}
+use Rattle.loose_calls.specs.link_program.object_file.declared.object.Object.{Object}
+use Rattle.loose_calls.specs.link_program.made_symbols.declared.mode.Mode.{Mode}
+use Rattle.loose_calls.specs.link_program.round_rules.Rounds.{Candidate}
+use Rattle.loose_calls.specs.link_program.link_names.Numbered.{AreNumbers, different_names}
+use Rattle.loose_calls.specs.link_program.name_rules.Entries.{entries, name_of}
+use Rattle.loose_calls.specs.link_program.name_rules.Meanings.{resolve}
+use Rattle.loose_calls.specs.link_program.name_rules.Cases.{clash_by, duplicate}
+use Rattle.loose_calls.specs.link_program.name_entries.View.{InputsRise, WinnersAre}
+use Rattle.loose_calls.specs.link_program.name_entries.Fits.{IsTable}
+use Rattle.loose_calls.specs.link_program.name_meanings.Means.{IsResolution}
+use Rattle.loose_calls.specs.link_program.link_plan.declared.plan.Plan.{Plan}
+use Rattle.loose_calls.specs.link_program.link_rules.Program.{Program, winners_of, parts_of, loose_parts, loose_variants}
+use Rattle.loose_calls.specs.link_program.link_rules.Keys.{imports_in_order}
+use Rattle.loose_calls.specs.link_program.link_rules.LinkOf.{asked_names, too_many_names}
+use Rattle.loose_calls.specs.link_program.Program.{AreTables, variant_names}
+use Rattle.loose_calls.specs.link_program.declared.error.LinkError.{LinkError}
+use Rattle.loose_calls.specs.link_program.declared.error.LinkError.TheVariants.{Refused, OutOfMemory}
 use Rattle.program_build.specs.declared.found.Found.{Found}
 
 -- The first faults of a program, in this order: too many names, a clash, a duplicate.

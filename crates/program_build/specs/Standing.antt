@@ -1,13 +1,13 @@
 -- Where the parts of loaded objects stand.
 use Rattle.std.specs.Prelude.{ℕ, List, All}
-use Rattle.link_program.specs.object_file.declared.object.Object.{Object}
-use Rattle.link_program.specs.made_symbols.declared.mode.Mode.{Mode}
-use Rattle.link_program.specs.round_rules.Rounds.{Candidate}
-use Rattle.link_program.specs.link_plan.declared.plan.Plan.{Plan}
-use Rattle.link_program.specs.link_rules.Program.{strict_program, program_of}
-use Rattle.link_program.specs.declared.home.Home.{Home}
-use Rattle.link_program.specs.Loaded.{IsLoaded}
-use Rattle.link_program.specs.Stand.{PartsStand, PartStandsBy, IsSymbolOf}
+use Rattle.loose_calls.specs.link_program.object_file.declared.object.Object.{Object}
+use Rattle.loose_calls.specs.link_program.made_symbols.declared.mode.Mode.{Mode}
+use Rattle.loose_calls.specs.link_program.round_rules.Rounds.{Candidate}
+use Rattle.loose_calls.specs.link_program.link_plan.declared.plan.Plan.{Plan}
+use Rattle.loose_calls.specs.link_program.link_rules.Program.{strict_program, program_of}
+use Rattle.loose_calls.specs.link_program.declared.home.Home.{Home}
+use Rattle.loose_calls.specs.link_program.Loaded.{IsLoaded}
+use Rattle.loose_calls.specs.link_program.Stand.{PartsStand, PartStandsBy, IsSymbolOf}
 
 -- The same before calls are loosened, where each reference means what its symbol means.
 abbrev pub StrictPartsStand : Type 0

@@ -1,25 +1,25 @@
 -- What each step of building a program answers.
 use Rattle.std.specs.Prelude.{◌≡◌, ℕ, ◌≤◌, ◌<◌, ◌^◌, Bool, List, [], ◌∷◌, ◌++◌, length, Option, Some, None, Result, Ok, Err}
-use Rattle.link_program.specs.wl_base.Choice.{first_some}
-use Rattle.link_program.specs.wl_base.declared.fault.Fault.{Fault}
-use Rattle.link_program.specs.wl_base.declared.fault.Fault.TheVariants.{TooManyNames}
-use Rattle.link_program.specs.object_file.declared.object.Object.{Object}
-use Rattle.link_program.specs.made_symbols.declared.mode.Mode.{Mode}
-use Rattle.link_program.specs.made_symbols.declared.mode.Mode.TheVariants.{Plain}
-use Rattle.link_program.specs.name_entries.Fits.{IsTable}
-use Rattle.link_program.specs.name_entries.declared.table.EntryTable.{EntryTable}
-use Rattle.link_program.specs.link_names.Numbered as names
-use Rattle.link_program.specs.link_names.Numbered.{AreNumbers, different_names}
-use Rattle.link_program.specs.name_rules.Entries.{InputSymbol, entries}
-use Rattle.link_program.specs.name_rules.Meanings.{resolve}
-use Rattle.link_program.specs.name_rules.Cases.{clash_by, duplicate}
-use Rattle.link_program.specs.name_entries.View.{WinnersAre, NonePast}
-use Rattle.link_program.specs.name_meanings.Means.{IsResolution}
-use Rattle.link_program.specs.link_plan.declared.plan.Plan.{Plan}
-use Rattle.link_program.specs.link_rules.LinkOf.{asked_names}
-use Rattle.link_program.specs.Loaded.{Origin}
-use Rattle.link_program.specs.declared.error.LinkError.{LinkError}
-use Rattle.link_program.specs.declared.error.LinkError.TheVariants.{Refused, OutOfMemory}
+use Rattle.loose_calls.specs.link_program.wl_base.Choice.{first_some}
+use Rattle.loose_calls.specs.link_program.wl_base.declared.fault.Fault.{Fault}
+use Rattle.loose_calls.specs.link_program.wl_base.declared.fault.Fault.TheVariants.{TooManyNames}
+use Rattle.loose_calls.specs.link_program.object_file.declared.object.Object.{Object}
+use Rattle.loose_calls.specs.link_program.made_symbols.declared.mode.Mode.{Mode}
+use Rattle.loose_calls.specs.link_program.made_symbols.declared.mode.Mode.TheVariants.{Plain}
+use Rattle.loose_calls.specs.link_program.name_entries.Fits.{IsTable}
+use Rattle.loose_calls.specs.link_program.name_entries.declared.table.EntryTable.{EntryTable}
+use Rattle.loose_calls.specs.link_program.link_names.Numbered as names
+use Rattle.loose_calls.specs.link_program.link_names.Numbered.{AreNumbers, different_names}
+use Rattle.loose_calls.specs.link_program.name_rules.Entries.{InputSymbol, entries}
+use Rattle.loose_calls.specs.link_program.name_rules.Meanings.{resolve}
+use Rattle.loose_calls.specs.link_program.name_rules.Cases.{clash_by, duplicate}
+use Rattle.loose_calls.specs.link_program.name_entries.View.{WinnersAre, NonePast}
+use Rattle.loose_calls.specs.link_program.name_meanings.Means.{IsResolution}
+use Rattle.loose_calls.specs.link_program.link_plan.declared.plan.Plan.{Plan}
+use Rattle.loose_calls.specs.link_program.link_rules.LinkOf.{asked_names}
+use Rattle.loose_calls.specs.link_program.Loaded.{Origin}
+use Rattle.loose_calls.specs.link_program.declared.error.LinkError.{LinkError}
+use Rattle.loose_calls.specs.link_program.declared.error.LinkError.TheVariants.{Refused, OutOfMemory}
 use Rattle.program_build.specs.declared.meanings.Meanings.{Meanings}
 
 -- ---- names

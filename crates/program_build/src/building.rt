@@ -1,10 +1,10 @@
 //! What is found of the loaded objects, in order: the numbers of names, the winners of groups and of names, the least clash and the least
 //! duplicate, what symbols mean, and the tables of parts.
 ghost use Rattle.std.specs.Prelude.{◌≡◌, IfOk};
-ghost use Rattle.link_program.specs.made_symbols.declared.mode.Mode.TheVariants as modes;
-ghost use Rattle.link_program.specs.link_plan.Plan.{IsPlan};
-ghost use Rattle.link_program.specs.link_rules.Program.{program_of};
-ghost use Rattle.link_program.specs.Loaded.{IsLoaded, Origin};
+ghost use Rattle.loose_calls.specs.link_program.made_symbols.declared.mode.Mode.TheVariants as modes;
+ghost use Rattle.loose_calls.specs.link_program.link_plan.Plan.{IsPlan};
+ghost use Rattle.loose_calls.specs.link_program.link_rules.Program.{program_of};
+ghost use Rattle.loose_calls.specs.link_program.Loaded.{IsLoaded, Origin};
 ghost use Rattle.program_build.specs.Steps.{AreMeant};
 ghost use Rattle.program_build.specs.Found.{Finds, IsFound};
 
@@ -12,11 +12,9 @@ use crate::found::Found;
 use crate::meanings::{Meanings, meanings_of};
 use crate::numbers::numbers_of;
 use link_plan::Plan;
-use link_program::{EntryTable, Home, LinkError, Names, Object};
-use loose_calls::loosened;
+use loose_calls::{EntryTable, Home, LinkError, Names, Object, loosened, tables_of};
 use made_symbols::Mode;
 use name_jobs::group_winners;
-use program_tables::tables_of;
 use std::alloc::Global;
 use std::thread::Threads;
 use wl_base::OutOfMemory;

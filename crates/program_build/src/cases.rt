@@ -1,16 +1,17 @@
 //! Entries of one name that can't stand together.
 ghost use Rattle.std.specs.Prelude.{◌≡◌, ◌<◌, length, option_map, IfOk};
-ghost use Rattle.link_program.specs.made_symbols.declared.mode.Mode.TheVariants as modes;
-ghost use Rattle.link_program.specs.name_rules.Entries.{entries};
-ghost use Rattle.link_program.specs.name_rules.Cases.{clash_by};
-ghost use Rattle.link_program.specs.name_entries.Fits.{Fits};
-ghost use Rattle.name_cases.specs.Told.{clash_told, duplicate_told, IsNamed};
-ghost use Rattle.link_program.specs.Answers.{Passes};
+ghost use Rattle.loose_calls.specs.link_program.made_symbols.declared.mode.Mode.TheVariants as modes;
+ghost use Rattle.loose_calls.specs.link_program.name_rules.Entries.{entries};
+ghost use Rattle.loose_calls.specs.link_program.name_rules.Cases.{clash_by};
+ghost use Rattle.loose_calls.specs.link_program.name_entries.Fits.{Fits};
+ghost use Rattle.loose_calls.specs.name_cases.Told.{clash_told, duplicate_told, IsNamed};
+ghost use Rattle.loose_calls.specs.link_program.Answers.{Passes};
 ghost use Rattle.program_build.specs.Steps.{case_of};
 
-use link_program::{Entries, LinkError, Names, PairCase};
+use loose_calls::{
+    Entries, LinkError, Names, PairCase, first_clash, first_duplicate, first_loose_clash,
+};
 use made_symbols::Mode;
-use name_cases::{first_clash, first_duplicate, first_loose_clash};
 use std::alloc::Global;
 use std::thread::Threads;
 use wl_base::{Fault, OutOfMemory, Seq};

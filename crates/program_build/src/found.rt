@@ -1,15 +1,15 @@
 //! What is found of the loaded objects.
 ghost use Rattle.std.specs.Prelude.{◌≡◌};
-ghost use Rattle.link_program.specs.made_symbols.declared.mode.Mode.{Mode};
-ghost use Rattle.link_program.specs.link_names.Numbered.{AreNumbers};
-ghost use Rattle.link_program.specs.name_entries.View.{InputsRise};
-ghost use Rattle.link_program.specs.name_entries.Fits.{IsTable, Fits};
-ghost use Rattle.link_program.specs.link_rules.Program as rules;
-ghost use Rattle.link_program.specs.Program.{IsProgram};
+ghost use Rattle.loose_calls.specs.link_program.made_symbols.declared.mode.Mode.{Mode};
+ghost use Rattle.loose_calls.specs.link_program.link_names.Numbered.{AreNumbers};
+ghost use Rattle.loose_calls.specs.link_program.name_entries.View.{InputsRise};
+ghost use Rattle.loose_calls.specs.link_program.name_entries.Fits.{IsTable, Fits};
+ghost use Rattle.loose_calls.specs.link_program.link_rules.Program as rules;
+ghost use Rattle.loose_calls.specs.link_program.Program.{IsProgram};
 ghost use Rattle.program_build.specs.Found.{IsFound};
 
 use link_plan::Plan;
-use link_program::{Entries, EntryTable, Names, Object, Program, Resolution, Tables};
+use loose_calls::{Entries, EntryTable, Names, Object, Program, Resolution, Tables};
 use symbol_race::Winners;
 
 /// What is found of the loaded objects of a link.

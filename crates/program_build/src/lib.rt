@@ -12,4 +12,4 @@ mod words;
 
 pub use building::find;
 pub use found::Found;
-pub use link_program::LinkError;
+pub use loose_calls::{LinkError, mismatches};

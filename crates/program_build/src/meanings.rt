@@ -1,16 +1,15 @@
 //! Who wins each name, and what each symbol means.
 ghost use Rattle.std.specs.Prelude.{◌≡◌};
-ghost use Rattle.link_program.specs.made_symbols.declared.mode.Mode.TheVariants as modes;
-ghost use Rattle.link_program.specs.name_entries.Fits.{Fits};
-ghost use Rattle.link_program.specs.Loaded.{Origin};
+ghost use Rattle.loose_calls.specs.link_program.made_symbols.declared.mode.Mode.TheVariants as modes;
+ghost use Rattle.loose_calls.specs.link_program.name_entries.Fits.{Fits};
+ghost use Rattle.loose_calls.specs.link_program.Loaded.{Origin};
 ghost use Rattle.program_build.specs.Steps.{MeansOrRefused};
 
 use crate::cases::refuse_cases;
 use link_plan::Plan;
-use link_program::{Entries, LinkError};
+use loose_calls::{Entries, LinkError, Resolution, resolve};
 use made_symbols::Mode;
 use name_jobs::name_winners;
-use name_meanings::{Resolution, resolve};
 use std::alloc::Global;
 use std::thread::Threads;
 use symbol_race::Winners;

@@ -3,7 +3,7 @@ ghost use Rattle.program_build.specs.Steps.{Numbered};
 
 use crate::words::words_of;
 use link_plan::Plan;
-use link_program::{LinkError, Names, Object};
+use loose_calls::{LinkError, Names, Object};
 use made_symbols::Mode;
 use std::alloc::Global;
 use wl_base::{Fault, NameFault};

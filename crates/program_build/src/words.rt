@@ -1,9 +1,9 @@
 //! The names that the words of the command line give.
 ghost use Rattle.std.specs.Prelude.{◌≡◌, ◌++◌, IfOk};
-ghost use Rattle.link_program.specs.link_rules.LinkOf.{asked_names};
+ghost use Rattle.loose_calls.specs.link_program.link_rules.LinkOf.{asked_names};
 
 use link_plan::Plan;
-use link_program::{add_names, asked_names};
+use loose_calls::{add_names, asked_names};
 use std::alloc::Global;
 use wl_base::{Name, OutOfMemory, Seq};
 

@@ -19,3 +19,4 @@ pub mod Turning
 pub mod Spread
 pub mod Joined
 pub mod Differing
+pub use Rattle.link_program.proofs as link_program_lemmas

@@ -9,3 +9,4 @@ pub mod Gains
 pub mod Pieces
 pub mod Inits
 pub mod Loose
+pub use Rattle.link_program.specs as link_program

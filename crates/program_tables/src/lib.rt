@@ -18,5 +18,10 @@ mod view;
 mod windows;
 mod winners;
 
+pub use link_program::{
+    Entries, EntryRef, EntryTable, FuncTypeRef, Home, Lead, LinkError, Meaning, Names, Object,
+    PairCase, Program, Resolution, Symbol, SymbolRef, Tables, TypeRef, add_names, asked_names,
+    resolve,
+};
 pub use loose::Loose;
 pub use tables::tables_of;

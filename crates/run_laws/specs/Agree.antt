@@ -12,7 +12,7 @@ use Rattle.link_rules.specs.LinkOf.{asked_names, the_readers, link_of}
 use Rattle.link_rules.specs.Marks.{exported}
 use Rattle.link_rules.specs.Program.{Program, program_of}
 use Rattle.link_worlds.specs.Worlds.{layout_of, plan_trace}
-use Rattle.link_facts.specs.Faults.{Enough}
+use Rattle.link_runs.specs.link_facts.Faults.{Enough}
 use Rattle.run_machines.specs.declared.outcome.Run.TheVariants.{Traced}
 use Rattle.run_machines.specs.Runs.{run_of_bytes}
 use Rattle.run_machines.specs.Sym.{run_of_sym}

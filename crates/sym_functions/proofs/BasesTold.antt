@@ -27,9 +27,9 @@ use Rattle.link_keys.proofs.Any.{any_filter}
 use Rattle.link_keys.proofs.Positions.{position_none}
 use Rattle.link_keys.proofs.Imports.{both}
 use Rattle.link_numbers.specs.Knows.{KnowsFunction}
-use Rattle.link_layout.specs.declared.values.Layout.{Layout}
-use Rattle.link_layout.specs.Layout.{IsLayout}
-use Rattle.link_layout.proofs.KeysTold.{function_told, function_known}
+use Rattle.link_image.specs.link_layout.declared.values.Layout.{Layout}
+use Rattle.link_image.specs.link_layout.Layout.{IsLayout}
+use Rattle.link_image.proofs.link_layout_lemmas.KeysTold.{function_told, function_known}
 use Rattle.link_image.proofs.Pieces.{tells_all}
 use Rattle.sym_functions.specs.Bases.{base_seen}
 use Rattle.sym_parts.specs.Sought.{slot_in, address_in, asked}

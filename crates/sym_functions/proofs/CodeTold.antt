@@ -28,9 +28,9 @@ use Rattle.link_program.specs.declared.part.Part.{Part}
 use Rattle.link_program.specs.Seen.{seen_named, told_named}
 use Rattle.link_program.specs.Look.{part_at, row_at, chunk_number}
 use Rattle.link_program.proofs.Chunks.{stands_at}
-use Rattle.link_layout.specs.declared.values.Layout.{Layout}
-use Rattle.link_layout.specs.Layout.{IsLayout}
-use Rattle.link_layout.proofs.Parts.{part_told, row_told, same_part}
+use Rattle.link_image.specs.link_layout.declared.values.Layout.{Layout}
+use Rattle.link_image.specs.link_layout.Layout.{IsLayout}
+use Rattle.link_image.proofs.link_layout_lemmas.Parts.{part_told, row_told, same_part}
 use Rattle.link_keys.proofs.Any.{all_none}
 use Rattle.link_keys.proofs.Imports.{both}
 use Rattle.link_image.proofs.Lists.{first_ones, last_ones}

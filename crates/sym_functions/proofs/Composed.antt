@@ -13,8 +13,8 @@ use Rattle.link_program.specs.link_rules.Values as values
 use Rattle.link_program.specs.link_rules.Output.{layout}
 use Rattle.link_program.specs.Keys.{same_function_key}
 use Rattle.link_keys.specs.Firsts.{firsts_rows}
-use Rattle.link_layout.specs.declared.values.Layout.{Layout}
-use Rattle.link_layout.specs.Layout.{IsLayout}
+use Rattle.link_image.specs.link_layout.declared.values.Layout.{Layout}
+use Rattle.link_image.specs.link_layout.Layout.{IsLayout}
 use Rattle.run_rules.specs.declared.world.Function.{Function as Runs}
 use Rattle.link_worlds.specs.Names.{all_functions}
 use Rattle.link_worlds.specs.Worlds.{plan_function, plan_table}

@@ -35,8 +35,8 @@ use Rattle.link_keys.proofs.Imports.{both}
 use Rattle.link_keys.proofs.LiveTold.{content_is}
 use Rattle.link_numbers.specs.Knows.{KnowsFunction}
 use Rattle.link_numbers.proofs.TypesTold.{stub_types_told}
-use Rattle.link_layout.specs.declared.values.Layout.{Layout}
-use Rattle.link_layout.specs.Layout.{IsLayout}
+use Rattle.link_image.specs.link_layout.declared.values.Layout.{Layout}
+use Rattle.link_image.specs.link_layout.Layout.{IsLayout}
 use Rattle.link_image.proofs.Known as image_known
 use Rattle.link_image.proofs.Lists.{import_there, all_chosen, all_mapped}
 use Rattle.run_rules.specs.declared.world.Source.{Source}

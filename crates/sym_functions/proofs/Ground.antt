@@ -35,7 +35,7 @@ use Rattle.link_keys.proofs.StubsTold.{later_names, names_in_order}
 use Rattle.link_numbers.specs.Knows.{KnowsFunction, KnowsGlobal}
 use Rattle.link_numbers.proofs.Knows.{tells_function, tells_global}
 use Rattle.link_numbers.proofs.Ordered.{IsNot, one, held}
-use Rattle.link_layout.proofs.KeysTold.{function_told, function_known}
+use Rattle.link_image.proofs.link_layout_lemmas.KeysTold.{function_told, function_known}
 use Rattle.link_worlds.specs.Names as rules_names
 use Rattle.link_worlds.specs.Names.{all_functions, all_cells}
 use Rattle.sym_parts.specs.Keys.{functions_of, cells_of}

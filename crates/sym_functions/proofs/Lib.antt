@@ -6,3 +6,4 @@ pub mod OpsTold
 pub mod CodeTold
 pub mod FunctionsTold
 pub mod Composed
+pub use Rattle.link_image.proofs as link_image_lemmas

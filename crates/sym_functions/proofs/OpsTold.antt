@@ -21,8 +21,8 @@ use Rattle.link_program.specs.declared.named.Named.{Named}
 use Rattle.link_program.specs.declared.named.Named.TheVariants as items
 use Rattle.link_program.specs.Told.{told_symbol, told_lead}
 use Rattle.link_program.specs.Seen.{SeenRef, SeenNamed, seen_symbol, seen_type, seen_named, told_named, told_ref, no_symbol}
-use Rattle.link_layout.specs.declared.values.Layout.{Layout}
-use Rattle.link_layout.specs.Layout.{IsLayout}
+use Rattle.link_image.specs.link_layout.declared.values.Layout.{Layout}
+use Rattle.link_image.specs.link_layout.Layout.{IsLayout}
 use Rattle.wasm_instr.specs.declared.instr.Instr.{Instr}
 use Rattle.wasm_instr.specs.declared.instr.Instr.TheVariants as instrs
 use Rattle.wasm_instr.specs.declared.instr.BlockKind.{BlockKind}

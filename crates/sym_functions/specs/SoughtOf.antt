@@ -1,7 +1,7 @@
 -- When what references are looked up in is that of a layout.
 use Rattle.std.specs.Prelude.{◌≡◌, map}
 use Rattle.link_program.specs.link_rules.Values as values
-use Rattle.link_layout.specs.declared.values.Layout.{Layout}
+use Rattle.link_image.specs.link_layout.declared.values.Layout.{Layout}
 use Rattle.sym_parts.specs.declared.sought.Sought.{Sought}
 use Rattle.sym_parts.specs.Keys.{functions_of, cells_of}
 use Rattle.sym_functions.specs.Bases.{base_seen}

@@ -5,11 +5,11 @@ ghost use Rattle.link_program.specs.made_symbols.declared.mode.Mode.TheVariants.
 ghost use Rattle.link_program.specs.link_rules.Values as values;
 ghost use Rattle.link_program.specs.link_rules.Output.{layout as laid_out};
 ghost use Rattle.link_program.specs.Live.{Stage};
-ghost use Rattle.link_layout.specs.Layout.{IsLayout};
+ghost use Rattle.link_image.specs.link_layout.Layout.{IsLayout};
 ghost use Rattle.link_image.specs.Sections.{entry_of};
 ghost use Rattle.sym_functions.specs.Bases.{base_seen};
 
-use link_layout::Layout;
+use link_image::Layout;
 use link_program::{Definition, FunctionKey, Lead, Symbol, function_of};
 use linking_section::SymbolKind;
 use std::alloc::Global;

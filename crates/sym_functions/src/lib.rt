@@ -7,3 +7,4 @@ mod runs;
 
 pub use bases::{address, bases_of};
 pub use runs::{functions, table};
+pub use sym_parts::{Cells, Functions, Sought, first_cells, numbers_in_order, segments_of};

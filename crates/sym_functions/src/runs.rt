@@ -4,12 +4,12 @@ ghost use Rattle.link_program.specs.made_symbols.declared.mode.Mode.TheVariants.
 ghost use Rattle.link_program.specs.name_entries.Fits.{FitsObjects};
 ghost use Rattle.link_program.specs.link_rules.Output.{layout as laid_out};
 ghost use Rattle.link_program.specs.Live.{Stage};
-ghost use Rattle.link_layout.specs.Layout.{IsLayout};
+ghost use Rattle.link_image.specs.link_layout.Layout.{IsLayout};
 ghost use Rattle.link_worlds.specs.Names.{all_functions};
 ghost use Rattle.link_worlds.specs.Worlds.{plan_function, plan_table};
 ghost use Rattle.sym_functions.specs.SoughtOf.{IsSoughtOf};
 
-use link_layout::Layout;
+use link_image::Layout;
 use link_program::Entries;
 use run_rules::Function;
 use std::alloc::Global;

@@ -36,7 +36,7 @@ use Rattle.link_layout.specs.Placed.{address_among, chunks_of}
 use Rattle.link_layout.specs.Segments.{segment_numbers}
 use Rattle.link_layout.proofs.Parts.{part_told, segments_are, shape_told}
 use Rattle.link_layout.proofs.Pairs.{filter_pairs}
-use Rattle.link_image.proofs.Lists.{import_there, all_chosen, all_mapped}
+use Rattle.sym_functions.proofs.link_image_lemmas.Lists.{import_there, all_chosen, all_mapped}
 use Rattle.link_keys.proofs.Imports.{both}
 use Rattle.run_rules.specs.declared.value.Value.TheVariants.{I32}
 use Rattle.run_rules.specs.Modules.{expr_value}
@@ -47,9 +47,9 @@ use Rattle.link_worlds.specs.Names.{number_at, all_cells}
 use Rattle.link_worlds.specs.Worlds as worlds
 use Rattle.link_worlds.specs.Worlds.{global_kind, segment_block, zero_segments}
 use Rattle.run_laws.specs.Objects.{sym_cell, sym_segment, blocks_of}
-use Rattle.sym_parts.specs.Sought.{Known, named_place, number_named}
-use Rattle.sym_parts.specs.Data as seen
-use Rattle.sym_parts.specs.Data.{words_on, word_named, is_word}
+use Rattle.sym_functions.specs.sym_parts.Sought.{Known, named_place, number_named}
+use Rattle.sym_functions.specs.sym_parts.Data as seen
+use Rattle.sym_functions.specs.sym_parts.Data.{words_on, word_named, is_word}
 use Rattle.link_numbers.specs.Knows.{KnowsGlobal}
 use Rattle.sym_functions.proofs.Ground.{all_gs, cells_are, cells_known}
 use Rattle.sym_functions.proofs.OpsTold.{IsSought, IsKnownNamed, alike, number_told}

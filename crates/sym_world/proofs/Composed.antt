@@ -22,11 +22,11 @@ use Rattle.run_machines.specs.declared.sym.SymSegment.{SymSegment}
 use Rattle.link_worlds.specs.Names.{all_functions, all_cells}
 use Rattle.link_worlds.specs.Worlds.{plan_function, plan_table, world_by, plan_world}
 use Rattle.run_laws.specs.Objects.{sym_cell, sym_segment, blocks_of, objects_of}
-use Rattle.sym_parts.specs.declared.sought.Sought.{Sought}
-use Rattle.sym_parts.specs.Sought.{known}
-use Rattle.sym_parts.specs.Data.{cell_seen, segment_seen, is_so}
+use Rattle.sym_functions.specs.sym_parts.declared.sought.Sought.{Sought}
+use Rattle.sym_functions.specs.sym_parts.Sought.{known}
+use Rattle.sym_functions.specs.sym_parts.Data.{cell_seen, segment_seen, is_so}
 use Rattle.sym_world.specs.Exports.{export_seen}
-use Rattle.sym_parts.specs.Keys.{functions_of}
+use Rattle.sym_functions.specs.sym_parts.Keys.{functions_of}
 use Rattle.sym_functions.specs.SoughtOf.{IsSoughtOf}
 use Rattle.sym_functions.proofs.Composed.{sought_is}
 use Rattle.sym_world.proofs.CellsTold.{cells_told, segments_told}

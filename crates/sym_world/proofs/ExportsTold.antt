@@ -16,7 +16,7 @@ use Rattle.link_layout.proofs.KeysTold.{function_told, function_known}
 use Rattle.run_rules.specs.declared.world.Target.TheVariants.{ToFunction, ToCell}
 use Rattle.link_worlds.specs.Worlds as worlds
 use Rattle.link_worlds.specs.Worlds.{plan_export, target_by}
-use Rattle.sym_parts.specs.Data.{target_seen}
+use Rattle.sym_functions.specs.sym_parts.Data.{target_seen}
 use Rattle.sym_world.specs.Exports.{export_seen}
 use Rattle.sym_functions.proofs.Ground.{all_fs, all_gs, function_at, own_cell}
 use Rattle.sym_functions.proofs.OpsTold as ops

@@ -9,7 +9,7 @@ use Rattle.link_program.specs.declared.keys.FunctionKey.{FunctionKey}
 use Rattle.link_program.specs.declared.keys.GlobalKey.{GlobalKey}
 use Rattle.link_program.specs.Told.{told_definition}
 use Rattle.run_rules.specs.declared.world.Exported.{Exported}
-use Rattle.sym_parts.specs.Data.{target_seen}
+use Rattle.sym_functions.specs.sym_parts.Data.{target_seen}
 
 abbrev pub export_seen : Program → Layout → List FunctionKey → List GlobalKey → InputSymbol → Exported
 export_seen p l fs gs e = record { name = export_name p e; target = target_seen fs gs (address_of Plain l e) (told_definition e) e.symbol.kind }

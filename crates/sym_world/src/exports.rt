@@ -8,10 +8,10 @@ ghost use Rattle.link_program.specs.Live.{Stage};
 ghost use Rattle.link_program.specs.Told.{told_winner};
 ghost use Rattle.link_marks.specs.Names.{IsWinner};
 ghost use Rattle.link_layout.specs.Layout.{IsLayout};
-ghost use Rattle.link_image.specs.Sections.{entry_of};
+ghost use Rattle.sym_functions.specs.link_image.Sections.{entry_of};
 ghost use Rattle.run_rules.specs.declared.world.Target.TheVariants.{ToFunction, ToCell};
 ghost use Rattle.link_worlds.specs.Worlds.{target_by};
-ghost use Rattle.sym_parts.specs.Data.{target_seen};
+ghost use Rattle.sym_functions.specs.sym_parts.Data.{target_seen};
 ghost use Rattle.sym_world.specs.Exports.{export_seen};
 
 use link_layout::Layout;
@@ -20,8 +20,7 @@ use link_program::{Definition, GlobalKey, Winner, function_of, index_of};
 use linking_section::SymbolKind;
 use run_rules::{Exported, Target};
 use std::alloc::Global;
-use sym_functions::address;
-use sym_parts::{Cells, Functions};
+use sym_functions::{Cells, Functions, address};
 use wl_base::{OutOfMemory, Seq};
 
 /// The function of a place.

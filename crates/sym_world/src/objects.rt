@@ -9,7 +9,7 @@ ghost use Rattle.link_layout.specs.Layout.{IsLayout};
 ghost use Rattle.link_worlds.specs.Worlds.{world_by};
 ghost use Rattle.run_laws.specs.Objects.{sym_segment, blocks_of, objects_of};
 ghost use Rattle.sym_world.specs.Choosing.{IsStage};
-ghost use Rattle.sym_parts.specs.Sought.{known};
+ghost use Rattle.sym_functions.specs.sym_parts.Sought.{known};
 ghost use Rattle.sym_functions.specs.SoughtOf.{IsSoughtOf};
 
 use crate::world::{exports_of, most_pages};
@@ -18,8 +18,10 @@ use link_program::{Entries, Winner};
 use run_machines::{SymSegment, SymWorld};
 use run_rules::World;
 use std::alloc::Global;
-use sym_functions::{bases_of, functions, table};
-use sym_parts::{Cells, Functions, Sought, first_cells, numbers_in_order, segments_of};
+use sym_functions::{
+    Cells, Functions, Sought, bases_of, first_cells, functions, numbers_in_order, segments_of,
+    table,
+};
 use wl_base::{OutOfMemory, Seq};
 
 /// What the machine asks of the objects.

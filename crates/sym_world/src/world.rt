@@ -14,7 +14,7 @@ use link_layout::Layout;
 use link_program::Winner;
 use run_rules::{Exported, Target};
 use std::alloc::Global;
-use sym_parts::{Cells, Functions};
+use sym_functions::{Cells, Functions};
 use wl_base::{OutOfMemory, Seq};
 
 /// The export of the memory, if it isn't imported.

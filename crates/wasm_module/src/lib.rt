@@ -24,4 +24,9 @@ pub use reading::read;
 pub use sections::lent_name_at;
 pub use segments::{data_segment_at, element_at, lent_segment_at};
 pub use structure::Module;
+pub use wasm_sections::{FrameFault, SectionSpan, frame};
+pub use wasm_types::{
+    ConstExpr, FuncType, GlobalType, Import, ImportKind, const_expr_at, global_type_at,
+    import_kind_at, table_type_at,
+};
 pub use writing::write;

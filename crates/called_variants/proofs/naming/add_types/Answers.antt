@@ -1,5 +1,5 @@
 use Rattle.std.proofs.Common.{map}
-use Rattle.link_program.specs.wasm_types.Types.{val_byte}
+use Rattle.link_keys.specs.link_program.wasm_types.Types.{val_byte}
 use Rattle.called_variants.proofs.NameBytes.{marked}
 use Rattle.called_variants.proofs.naming.add_types.Goals as goal
 

@@ -1,6 +1,6 @@
 use Rattle.std.proofs.Common.{◌++◌, take, length}
 use Rattle.std.specs.List.{flat_map}
-use Rattle.wasm_instr.specs.leb_codec.Shortest.{u32}
+use Rattle.wasm_module.specs.wasm_instr.leb_codec.Shortest.{u32}
 use Rattle.image_emit.specs.Put.{IsPut}
 use Rattle.image_emit.proofs.put.put_vector.Given as goal
 

@@ -1,7 +1,7 @@
 use Rattle.std.proofs.Common.{◌≡◌, ◌+◌, take, length}
 use Rattle.std.specs.List.{flat_map}
 use Rattle.image_emit.specs.Put.{capped}
-use Rattle.wasm_instr.specs.leb_codec.Shortest.{u32}
+use Rattle.wasm_module.specs.wasm_instr.leb_codec.Shortest.{u32}
 use Rattle.image_emit.proofs.put.vector_size.Given as goal
 
 abbrev pub invariant-loop-item : goal.invariant-loop-item

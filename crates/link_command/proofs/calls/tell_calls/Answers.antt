@@ -1,6 +1,6 @@
 use Rattle.std.proofs.Common.{◌≡◌, subst, true, List, ℕ}
 use Rattle.std.specs.Prelude.{IfSome}
-use Rattle.called_variants.specs.Called.{calls_told_of}
+use Rattle.link_core.specs.called_variants.Called.{calls_told_of}
 use Rattle.link_command.specs.Command.{planned}
 use Rattle.link_command.proofs.Would.{would_tell}
 use Rattle.link_command.proofs.calls.tell_calls.Goals as goal

@@ -1,12 +1,12 @@
 use Rattle.std.proofs.Common.{ℕ, List, ap, subst, sym, ◌∙◌}
 use Rattle.link_rules.specs.LinkOf.{link_of}
-use Rattle.link_runs.specs.Links.{Runs}
+use Rattle.link_core.specs.link_runs.Links.{Runs}
 use Rattle.std.specs.Option.{option_map}
 use Rattle.link_command.specs.Ending.{summary_of}
 use Rattle.link_command.proofs.Lines.{line_is}
 use Rattle.link_command.proofs.Saves.{save_shows, save_runs}
 use Rattle.link_command.proofs.Telling.{saved_tells}
-use Rattle.called_variants.specs.Called.{calls_told_of}
+use Rattle.link_core.specs.called_variants.Called.{calls_told_of}
 use Rattle.link_command.proofs.command.run_plan.Goals as goal
 
 pub returns-clause-cause : goal.returns-clause-cause

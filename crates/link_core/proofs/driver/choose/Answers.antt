@@ -1,7 +1,7 @@
 use Rattle.std.proofs.Common.{rules, ◌∙◌}
 use Rattle.std.proofs.lemmas.Result.{err_from_is_err_and}
-use Rattle.link_program.specs.made_symbols.declared.mode.Mode.TheVariants.{Plain}
-use Rattle.link_program.specs.link_rules.Marks as marks
+use Rattle.link_output.specs.link_program.made_symbols.declared.mode.Mode.TheVariants.{Plain}
+use Rattle.link_output.specs.link_program.link_rules.Marks as marks
 use Rattle.link_core.proofs.Answering.{exports_are_winners, export_repeats, name_left_open, ctors_lost, all_closed}
 use Rattle.link_core.proofs.driver.choose.Goals as goal
 

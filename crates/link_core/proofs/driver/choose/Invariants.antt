@@ -1,5 +1,5 @@
-use Rattle.link_program.specs.made_symbols.declared.mode.Mode.TheVariants.{Plain}
-use Rattle.link_program.specs.link_rules.Marks.{exported, live}
+use Rattle.link_output.specs.link_program.made_symbols.declared.mode.Mode.TheVariants.{Plain}
+use Rattle.link_output.specs.link_program.link_rules.Marks.{exported, live}
 use Rattle.link_core.proofs.driver.choose.Given as goal
 
 abbrev pub ghost-exports : goal.ghost-exports

@@ -1,8 +1,8 @@
 use Rattle.std.proofs.Common.{◌∙◌, Ok, Err, ap, sym}
 use Rattle.std.proofs.lemmas.Result.{err_from_is_err_and}
-use Rattle.link_program.specs.made_symbols.declared.mode.Mode.TheVariants.{Plain}
-use Rattle.link_program.specs.link_rules.LinkOf.{link_program}
-use Rattle.link_program.specs.Loaded.{the_candidates}
+use Rattle.link_output.specs.link_program.made_symbols.declared.mode.Mode.TheVariants.{Plain}
+use Rattle.link_output.specs.link_program.link_rules.LinkOf.{link_program}
+use Rattle.link_output.specs.link_program.Loaded.{the_candidates}
 use Rattle.link_core.specs.Loading.{Loading, program_in}
 use Rattle.link_core.specs.Prepared.{output_of}
 use Rattle.link_core.proofs.Answering.{fails_by, load_failed, goes_on_loaded}

@@ -1,4 +1,4 @@
-use Rattle.link_program.specs.Loaded.{the_candidates}
+use Rattle.link_output.specs.link_program.Loaded.{the_candidates}
 use Rattle.link_core.proofs.driver.link_files.Given as goal
 
 abbrev pub ghost-prepare : goal.ghost-prepare

@@ -1,11 +1,11 @@
 use Rattle.std.proofs.Common.{◌≡◌, ◌∙◌, Err, ap, sym, subst, rules}
 use Rattle.std.proofs.lemmas.Result.{err_from_is_err_and}
-use Rattle.link_program.specs.wl_base.Answers.{Answers}
-use Rattle.link_program.specs.reloc_apply.declared.window.Patches.{Patches}
-use Rattle.link_program.specs.reloc_apply.Windows.{patches_of, filled}
-use Rattle.link_program.specs.image_emit.Bytes.{bytes_of, tree_of}
-use Rattle.link_program.specs.Moved.{moved_windows}
-use Rattle.link_layout.specs.Layout.{IsLayout}
+use Rattle.link_output.specs.link_program.wl_base.Answers.{Answers}
+use Rattle.link_output.specs.link_program.reloc_apply.declared.window.Patches.{Patches}
+use Rattle.link_output.specs.link_program.reloc_apply.Windows.{patches_of, filled}
+use Rattle.link_output.specs.link_program.image_emit.Bytes.{bytes_of, tree_of}
+use Rattle.link_output.specs.link_program.Moved.{moved_windows}
+use Rattle.link_image.specs.link_layout.Layout.{IsLayout}
 use Rattle.link_core.specs.Chosen.{IsChosen}
 use Rattle.link_core.specs.Making.{the_image, the_windows}
 use Rattle.link_core.proofs.Answering.{lie_there, stand_there, measure_failed, write_failed, wrote}

@@ -1,8 +1,8 @@
 use Rattle.std.proofs.Common.{rules, sym, subst, ◌∙◌}
 use Rattle.std.proofs.lemmas.Result.{err_from_is_err_and}
-use Rattle.link_program.specs.made_symbols.declared.mode.Mode.TheVariants.{Plain}
-use Rattle.link_program.specs.link_rules.Program.{program_of}
-use Rattle.link_program.specs.Loaded.{IsLoaded}
+use Rattle.link_output.specs.link_program.made_symbols.declared.mode.Mode.TheVariants.{Plain}
+use Rattle.link_output.specs.link_program.link_rules.Program.{program_of}
+use Rattle.link_output.specs.link_program.Loaded.{IsLoaded}
 use Rattle.mismatch_rules.specs.Mismatches.{standing}
 use Rattle.called_variants.specs.Called.{told_of}
 use Rattle.link_core.specs.Telling.{TellsBeside}

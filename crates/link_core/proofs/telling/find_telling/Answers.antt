@@ -1,7 +1,7 @@
 use Rattle.std.proofs.Common.{ap, sym, ◌∙◌}
 use Rattle.std.proofs.lemmas.Result.{err_from_is_err_and}
-use Rattle.link_program.specs.made_symbols.declared.mode.Mode.TheVariants.{Plain}
-use Rattle.link_program.specs.link_rules.Program.{program_of}
+use Rattle.link_output.specs.link_program.made_symbols.declared.mode.Mode.TheVariants.{Plain}
+use Rattle.link_output.specs.link_program.link_rules.Program.{program_of}
 use Rattle.called_variants.specs.Called.{told_of}
 use Rattle.link_core.proofs.Listing.{find_told, finds_by}
 use Rattle.link_core.proofs.telling.find_telling.Goals as goal

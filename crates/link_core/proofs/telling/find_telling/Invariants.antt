@@ -1,5 +1,5 @@
-use Rattle.link_program.specs.made_symbols.declared.mode.Mode.TheVariants.{Plain}
-use Rattle.link_program.specs.link_rules.Program.{program_of}
+use Rattle.link_output.specs.link_program.made_symbols.declared.mode.Mode.TheVariants.{Plain}
+use Rattle.link_output.specs.link_program.link_rules.Program.{program_of}
 use Rattle.link_core.proofs.telling.find_telling.Given as goal
 
 abbrev pub ghost-find : goal.ghost-find

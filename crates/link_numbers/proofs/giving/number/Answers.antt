@@ -1,11 +1,11 @@
 use Rattle.std.proofs.Common.{rules, ◌≡◌, map, Err, sym, ◌∙◌}
 use Rattle.std.proofs.lemmas.Result.{err_from_is_err_and}
-use Rattle.link_program.specs.made_symbols.declared.mode.Mode.TheVariants.{Plain}
-use Rattle.link_program.specs.name_entries.Fits.{Fits}
-use Rattle.link_program.specs.Told.{told_winner}
-use Rattle.link_program.specs.Program.{IsProgram}
-use Rattle.link_program.specs.Stand.{PartsStand}
-use Rattle.link_program.specs.Live.{AreLive, AllMeant}
+use Rattle.link_keys.specs.link_program.made_symbols.declared.mode.Mode.TheVariants.{Plain}
+use Rattle.link_keys.specs.link_program.name_entries.Fits.{Fits}
+use Rattle.link_keys.specs.link_program.Told.{told_winner}
+use Rattle.link_keys.specs.link_program.Program.{IsProgram}
+use Rattle.link_keys.specs.link_program.Stand.{PartsStand}
+use Rattle.link_keys.specs.link_program.Live.{AreLive, AllMeant}
 use Rattle.link_numbers.specs.Numbered.{Numbered}
 use Rattle.link_numbers.proofs.Begun.{a_row_each, told_numbers, told_overflow, overflow_is}
 use Rattle.link_numbers.proofs.giving.number.Goals as goal

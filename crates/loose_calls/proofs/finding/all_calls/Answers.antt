@@ -1,7 +1,7 @@
 use Rattle.std.proofs.Common.{◌≤◌, arith, [], true, take, sym, subst, length}
 use Rattle.std.proofs.lemmas.List.{take_all}
 use Rattle.std.specs.Prelude.{flat_map}
-use Rattle.link_program.specs.name_rules.Entries.{symbols_of}
+use Rattle.program_tables.specs.link_program.name_rules.Entries.{symbols_of}
 use Rattle.program_tables.specs.Loose.{loosens}
 use Rattle.program_tables.proofs.Steps.{item_at}
 use Rattle.loose_calls.specs.declared.finding.Calls.{Calls}

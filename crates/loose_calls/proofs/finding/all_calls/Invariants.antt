@@ -1,6 +1,6 @@
 use Rattle.std.proofs.Common.{take, [], true}
 use Rattle.std.specs.Prelude.{flat_map}
-use Rattle.link_program.specs.name_rules.Entries.{symbols_of}
+use Rattle.program_tables.specs.link_program.name_rules.Entries.{symbols_of}
 use Rattle.program_tables.specs.Loose.{loosens}
 use Rattle.loose_calls.specs.Found.{Grows}
 use Rattle.loose_calls.proofs.finding.all_calls.Given as goal

@@ -1,7 +1,7 @@
 use Rattle.std.proofs.Common.{◌≤◌, arith, ap, ◌∙◌, length, length-append, take}
 use Rattle.std.specs.Prelude.{flat_map}
 use Rattle.std.proofs.lemmas.List.{take_all}
-use Rattle.link_program.specs.name_rules.Entries.{symbols_of}
+use Rattle.program_tables.specs.link_program.name_rules.Entries.{symbols_of}
 use Rattle.program_tables.proofs.Steps.{item_at}
 use Rattle.loose_calls.proofs.Growing.{flat_one, row_at_place}
 use Rattle.loose_calls.proofs.finding.count_symbols.Goals as goal

@@ -1,6 +1,6 @@
 use Rattle.std.proofs.Common.{◌≡◌, take, length}
 use Rattle.std.specs.Prelude.{flat_map}
-use Rattle.link_program.specs.name_rules.Entries.{symbols_of}
+use Rattle.program_tables.specs.link_program.name_rules.Entries.{symbols_of}
 use Rattle.loose_calls.proofs.finding.count_symbols.Given as goal
 
 abbrev pub invariant-loop-object : goal.invariant-loop-object

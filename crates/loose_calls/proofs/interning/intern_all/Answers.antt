@@ -1,7 +1,7 @@
 use Rattle.std.proofs.Common.{◌≡◌, ◌<◌, ◌≤◌, ℕ, List, [], ◌∷◌, Some, arith, refl, sym, subst, length, take}
 use Rattle.std.specs.Prelude.{slice_get}
 use Rattle.std.proofs.lemmas.List.{take_all}
-use Rattle.link_program.specs.wl_base.Names.{number_of}
+use Rattle.program_tables.specs.link_program.wl_base.Names.{number_of}
 use Rattle.link_names.specs.Interning.{more}
 use Rattle.program_tables.proofs.Lists.{at_take}
 use Rattle.program_tables.proofs.Steps.{read_at}

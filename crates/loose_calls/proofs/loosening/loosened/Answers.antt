@@ -3,11 +3,11 @@ use Rattle.std.specs.Prelude.{bytes_eq}
 use Rattle.std.specs.List.{list_any}
 use Rattle.std.proofs.lemmas.List.{append-nil}
 use Rattle.std.proofs.lemmas.List.Elements.{All-nil}
-use Rattle.link_program.specs.made_symbols.declared.mode.Mode.TheVariants.{Plain}
-use Rattle.link_program.specs.name_rules.Entries.{InputSymbol, entries as all_entries, name_of}
-use Rattle.link_program.specs.name_rules.Meanings.{resolve}
-use Rattle.link_program.specs.name_meanings.Means.{IsResolution}
-use Rattle.link_program.specs.Program.{variant_names}
+use Rattle.program_tables.specs.link_program.made_symbols.declared.mode.Mode.TheVariants.{Plain}
+use Rattle.program_tables.specs.link_program.name_rules.Entries.{InputSymbol, entries as all_entries, name_of}
+use Rattle.program_tables.specs.link_program.name_rules.Meanings.{resolve}
+use Rattle.program_tables.specs.link_program.name_meanings.Means.{IsResolution}
+use Rattle.program_tables.specs.link_program.Program.{variant_names}
 use Rattle.program_tables.specs.Loose.{IsLoose, variants_in}
 use Rattle.loose_calls.specs.declared.variant.Variant.{Variant}
 use Rattle.loose_calls.specs.Found.{AreCalls}

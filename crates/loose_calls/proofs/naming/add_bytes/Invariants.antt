@@ -1,5 +1,5 @@
 use Rattle.std.proofs.Common.{◌≡◌, ◌++◌, drop, map}
-use Rattle.link_program.specs.wasm_types.Types.{val_byte}
+use Rattle.program_tables.specs.link_program.wasm_types.Types.{val_byte}
 use Rattle.loose_calls.proofs.naming.add_bytes.Given as goal
 
 abbrev pub invariant-loop-t : goal.invariant-loop-t

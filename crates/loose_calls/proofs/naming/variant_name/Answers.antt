@@ -1,5 +1,5 @@
 use Rattle.std.proofs.Common.{map}
-use Rattle.link_program.specs.wasm_types.Types.{val_byte}
+use Rattle.program_tables.specs.link_program.wasm_types.Types.{val_byte}
 use Rattle.loose_calls.proofs.Marked.{all_marked}
 use Rattle.loose_calls.proofs.naming.variant_name.Goals as goal
 

@@ -1,5 +1,5 @@
 use Rattle.std.proofs.Common.{sym, subst, ◌∙◌}
-use Rattle.link_program.specs.wasm_types.declared.function.FuncType.{FuncType}
+use Rattle.program_tables.specs.link_program.wasm_types.declared.function.FuncType.{FuncType}
 use Rattle.loose_calls.specs.Told.{LeadsTo}
 use Rattle.loose_calls.proofs.telling.definer_of.Goals as goal
 

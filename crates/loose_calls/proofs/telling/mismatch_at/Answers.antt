@@ -1,9 +1,9 @@
 use Rattle.std.proofs.Common.{◌≡◌, [], sym, ap, ◌∙◌}
 use Rattle.std.specs.Prelude.{is_some, unwrap_or}
 use Rattle.std.proofs.lemmas.Option.{same_Some}
-use Rattle.link_program.specs.linking_section.declared.symbol.Symbol.{Symbol}
-use Rattle.link_program.specs.name_entries.View.{entry_at}
-use Rattle.link_program.specs.link_rules.Keys.{function_type_of}
+use Rattle.program_tables.specs.link_program.linking_section.declared.symbol.Symbol.{Symbol}
+use Rattle.program_tables.specs.link_program.name_entries.View.{entry_at}
+use Rattle.program_tables.specs.link_program.link_rules.Keys.{function_type_of}
 use Rattle.program_tables.proofs.Defining.{shown_entry, shown_as}
 use Rattle.loose_calls.proofs.Asked.{asked, answer_there}
 use Rattle.loose_calls.proofs.Leading.{answer_leads}

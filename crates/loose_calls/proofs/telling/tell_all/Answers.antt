@@ -1,8 +1,8 @@
 use Rattle.std.proofs.Common.{◌≡◌, ◌≤◌, arith, [], take, sym, subst, length}
 use Rattle.std.proofs.lemmas.List.{take_all}
 use Rattle.std.specs.Prelude.{flat_map}
-use Rattle.link_program.specs.wl_base.Choice.{distinct, distinct_onto}
-use Rattle.link_program.specs.name_rules.Entries.{symbols_of}
+use Rattle.program_tables.specs.link_program.wl_base.Choice.{distinct, distinct_onto}
+use Rattle.program_tables.specs.link_program.name_rules.Entries.{symbols_of}
 use Rattle.program_tables.proofs.Steps.{item_at}
 use Rattle.mismatch_rules.specs.Mismatches.{same_call}
 use Rattle.loose_calls.specs.Told.{told_of}

@@ -1,7 +1,7 @@
 use Rattle.std.proofs.Common.{◌≡◌, take}
 use Rattle.std.specs.Prelude.{flat_map}
-use Rattle.link_program.specs.wl_base.Choice.{distinct}
-use Rattle.link_program.specs.name_rules.Entries.{symbols_of}
+use Rattle.program_tables.specs.link_program.wl_base.Choice.{distinct}
+use Rattle.program_tables.specs.link_program.name_rules.Entries.{symbols_of}
 use Rattle.mismatch_rules.specs.Mismatches.{same_call}
 use Rattle.loose_calls.specs.Told.{told_of}
 use Rattle.loose_calls.proofs.telling.tell_all.Given as goal

@@ -1,7 +1,7 @@
 use Rattle.std.proofs.Common.{◌≡◌, arith, get_or, [], ◌∷◌, sym, subst, take}
 use Rattle.std.proofs.lemmas.List.{take_all}
-use Rattle.link_program.specs.wl_base.Choice.{distinct_onto}
-use Rattle.link_program.specs.name_entries.View.{rows_of}
+use Rattle.program_tables.specs.link_program.wl_base.Choice.{distinct_onto}
+use Rattle.program_tables.specs.link_program.name_entries.View.{rows_of}
 use Rattle.program_tables.proofs.Lists.{at_take}
 use Rattle.program_tables.proofs.Steps.{item_at, some_at}
 use Rattle.mismatch_rules.specs.Mismatches.{same_call}

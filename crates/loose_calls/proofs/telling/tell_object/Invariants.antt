@@ -1,6 +1,6 @@
 use Rattle.std.proofs.Common.{◌≡◌, take, get_or, []}
-use Rattle.link_program.specs.wl_base.Choice.{distinct_onto}
-use Rattle.link_program.specs.name_entries.View.{rows_of}
+use Rattle.program_tables.specs.link_program.wl_base.Choice.{distinct_onto}
+use Rattle.program_tables.specs.link_program.name_entries.View.{rows_of}
 use Rattle.mismatch_rules.specs.Mismatches.{same_call}
 use Rattle.loose_calls.specs.Told.{told_of}
 use Rattle.loose_calls.proofs.telling.tell_object.Given as goal

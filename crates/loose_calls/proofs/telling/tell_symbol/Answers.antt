@@ -1,7 +1,7 @@
 use Rattle.std.proofs.Common.{◌≡◌, ◌∷◌, [], true, false, sym, ap, ◌∙◌, Some, None}
-use Rattle.link_program.specs.wl_base.Choice.{distinct_onto}
-use Rattle.link_program.specs.made_symbols.declared.mode.Mode.TheVariants.{Plain}
-use Rattle.link_program.specs.name_rules.Entries.{entries}
+use Rattle.program_tables.specs.link_program.wl_base.Choice.{distinct_onto}
+use Rattle.program_tables.specs.link_program.made_symbols.declared.mode.Mode.TheVariants.{Plain}
+use Rattle.program_tables.specs.link_program.name_rules.Entries.{entries}
 use Rattle.program_tables.specs.Loose.{loosens}
 use Rattle.mismatch_rules.specs.Mismatches.{beside, same_call}
 use Rattle.loose_calls.specs.Told.{meant}

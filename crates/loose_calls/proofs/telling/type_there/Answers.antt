@@ -1,7 +1,7 @@
 use Rattle.std.proofs.Common.{ap, sym, ◌∙◌}
 use Rattle.std.specs.Option.{option_map}
-use Rattle.link_program.specs.name_entries.Shown.{type_seen}
-use Rattle.link_program.specs.link_rules.Keys.{function_type_of}
+use Rattle.program_tables.specs.link_program.name_entries.Shown.{type_seen}
+use Rattle.program_tables.specs.link_program.link_rules.Keys.{function_type_of}
 use Rattle.loose_calls.proofs.Leading.{type_is}
 use Rattle.loose_calls.proofs.telling.type_there.Goals as goal
 

@@ -1,9 +1,9 @@
 use Rattle.std.proofs.Common.{sym, ap, ◌∙◌}
 use Rattle.std.specs.Option.{option_map}
 use Rattle.std.proofs.lemmas.Option.{same_Some}
-use Rattle.link_program.specs.name_entries.Shown.{type_seen}
-use Rattle.link_program.specs.name_entries.View.{entry_at}
-use Rattle.link_program.specs.name_rules.Entries.{InputSymbol}
+use Rattle.program_tables.specs.link_program.name_entries.Shown.{type_seen}
+use Rattle.program_tables.specs.link_program.name_entries.View.{entry_at}
+use Rattle.program_tables.specs.link_program.name_rules.Entries.{InputSymbol}
 use Rattle.loose_calls.proofs.Asked.{no_type}
 use Rattle.loose_calls.proofs.variant.type_at.Goals as goal
 

@@ -1,6 +1,6 @@
 use Rattle.std.proofs.Common.{ap, ◌∙◌}
-use Rattle.link_program.specs.name_entries.Shown.{type_seen}
-use Rattle.link_program.specs.link_rules.Program.{renamed}
+use Rattle.program_tables.specs.link_program.name_entries.Shown.{type_seen}
+use Rattle.program_tables.specs.link_program.link_rules.Program.{renamed}
 use Rattle.loose_calls.proofs.variant.variant_by.Goals as goal
 
 pub returns : goal.returns

@@ -1,5 +1,5 @@
 use Rattle.std.proofs.Common.{◌∙◌}
-use Rattle.link_program.specs.name_entries.View.{entry_at}
+use Rattle.program_tables.specs.link_program.name_entries.View.{entry_at}
 use Rattle.program_tables.proofs.Defining.{shown_as}
 use Rattle.loose_calls.specs.Found.{variant_from}
 use Rattle.loose_calls.proofs.variant.variant_of.Goals as goal

@@ -1,5 +1,5 @@
 use Rattle.std.proofs.Common.{◌+◌, arith, sym, ap}
-use Rattle.link_program.specs.name_entries.View.{entry_at}
+use Rattle.link_marks.specs.link_program.name_entries.View.{entry_at}
 use Rattle.lost_ctors.specs.Inits.{lost_by}
 use Rattle.lost_ctors.proofs.LostInits.{shown_none, number_within}
 use Rattle.lost_ctors.proofs.inits.is_lost.Goals as goal

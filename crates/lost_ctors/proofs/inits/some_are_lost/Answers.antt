@@ -1,7 +1,7 @@
 use Rattle.std.proofs.Common.{◌<◌, ◌≤◌, ◌+◌, ◌||◌, arith, [], drop, length, get_or, sym, ap, ◌∙◌}
 use Rattle.std.proofs.lemmas.List.{length-map, drop_all}
-use Rattle.link_program.specs.name_rules.Entries.{symbols_of}
-use Rattle.link_program.specs.name_entries.View.{rows_of}
+use Rattle.link_marks.specs.link_program.name_rules.Entries.{symbols_of}
+use Rattle.link_marks.specs.link_program.name_entries.View.{rows_of}
 use Rattle.lost_ctors.specs.Inits.{lost_from}
 use Rattle.lost_ctors.proofs.LostInits.{one_more, rows_step, rows_within}
 use Rattle.lost_ctors.proofs.inits.some_are_lost.Goals as goal

@@ -1,6 +1,6 @@
 use Rattle.std.proofs.Common.{◌≡◌, drop, take, length}
 use Rattle.std.specs.Prelude.{flat_map}
-use Rattle.link_program.specs.name_entries.View.{rows_of}
+use Rattle.link_marks.specs.link_program.name_entries.View.{rows_of}
 use Rattle.lost_ctors.specs.Inits.{lost_from, objects_lost}
 use Rattle.lost_ctors.proofs.inits.some_are_lost.Given as goal
 

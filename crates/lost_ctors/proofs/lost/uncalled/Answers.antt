@@ -1,12 +1,12 @@
 use Rattle.std.proofs.Common.{◌≡◌, ◌<◌, ◌^◌, true, false, ◌||◌, List, ℕ, rules, sym, subst, ap, ◌∙◌, length}
 use Rattle.std.specs.Prelude.{flat_map}
 use Rattle.std.specs.List.{list_any}
-use Rattle.link_program.specs.object_file.declared.object.Object.{Object}
-use Rattle.link_program.specs.made_symbols.declared.mode.Mode.TheVariants.{Plain}
-use Rattle.link_program.specs.name_entries.Fits.{Fits}
-use Rattle.link_program.specs.name_entries.View.{rows_of}
-use Rattle.link_program.specs.link_rules.Marks.{uncalled, names_ctors, loses_inits, loses_exits}
-use Rattle.link_program.specs.Program.{IsProgram}
+use Rattle.link_marks.specs.link_program.object_file.declared.object.Object.{Object}
+use Rattle.link_marks.specs.link_program.made_symbols.declared.mode.Mode.TheVariants.{Plain}
+use Rattle.link_marks.specs.link_program.name_entries.Fits.{Fits}
+use Rattle.link_marks.specs.link_program.name_entries.View.{rows_of}
+use Rattle.link_marks.specs.link_program.link_rules.Marks.{uncalled, names_ctors, loses_inits, loses_exits}
+use Rattle.link_marks.specs.link_program.Program.{IsProgram}
 use Rattle.link_marks.specs.Alive.{IsLive}
 use Rattle.lost_ctors.specs.declared.alive.Alive.{Alive}
 use Rattle.lost_ctors.specs.Alive.{AreAlive}

@@ -1,6 +1,6 @@
 use Rattle.std.proofs.Common.{arith, rules, sym, ◌∙◌}
-use Rattle.link_program.specs.made_symbols.declared.mode.Mode.TheVariants.{Plain}
-use Rattle.link_program.specs.Program.{IsProgram}
+use Rattle.link_marks.specs.link_program.made_symbols.declared.mode.Mode.TheVariants.{Plain}
+use Rattle.link_marks.specs.link_program.Program.{IsProgram}
 use Rattle.lost_ctors.proofs.Whole.{by_words, by_objects, never_missing, few_objects, rows_counted}
 use Rattle.lost_ctors.proofs.words.names_ctors.Goals as goal
 

@@ -1,7 +1,7 @@
 use Rattle.std.proofs.Common.{◌≡◌, drop, []}
 use Rattle.std.specs.Prelude.{slice_index_or}
 use Rattle.std.specs.List.{list_any}
-use Rattle.link_program.specs.name_entries.View.{is_number}
+use Rattle.link_marks.specs.link_program.name_entries.View.{is_number}
 use Rattle.lost_ctors.proofs.words.object_names.Given as goal
 
 abbrev pub invariant-loop-place : goal.invariant-loop-place

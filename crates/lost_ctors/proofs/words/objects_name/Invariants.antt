@@ -1,6 +1,6 @@
 use Rattle.std.proofs.Common.{◌≡◌, drop}
 use Rattle.std.specs.List.{list_any}
-use Rattle.link_program.specs.name_entries.View.{is_number}
+use Rattle.link_marks.specs.link_program.name_entries.View.{is_number}
 use Rattle.lost_ctors.proofs.words.objects_name.Given as goal
 
 abbrev pub invariant-loop-object : goal.invariant-loop-object

@@ -1,7 +1,7 @@
 use Rattle.std.proofs.Common.{sym, ap, ◌∙◌, arith}
 use Rattle.std.specs.List.{list_any}
 use Rattle.std.specs.Option.{option_copied}
-use Rattle.object_file.specs.linking_section.declared.member_kinds.TheConstants as kinds
+use Rattle.name_rules.specs.object_file.linking_section.declared.member_kinds.TheConstants as kinds
 use Rattle.name_rules.specs.Entries.{is_input}
 use Rattle.name_entries.proofs.Held.{none_there}
 use Rattle.name_entries.proofs.Grouped.{is_lost, winner_is, one_group, as_many_groups, all_groups}

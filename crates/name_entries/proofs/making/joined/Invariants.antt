@@ -1,6 +1,6 @@
 use Rattle.std.proofs.Common.{◌≡◌, ◌+◌, ℕ, List, Option, length}
 use Rattle.std.specs.Vec.Iter.{into_iter_items}
-use Rattle.object_file.specs.declared.object.Object.{Object}
+use Rattle.name_rules.specs.object_file.declared.object.Object.{Object}
 use Rattle.name_entries.specs.Pieces.{AreMade}
 use Rattle.name_entries.proofs.Along.{Joining}
 use Rattle.name_entries.proofs.making.joined.Given as goal

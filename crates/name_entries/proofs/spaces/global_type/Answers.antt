@@ -1,6 +1,6 @@
 use Rattle.std.proofs.Common.{false, None, sym, ◌∙◌}
-use Rattle.object_file.specs.wasm_types.declared.value.ValType.TheVariants.{I32}
-use Rattle.object_file.specs.Spaces.{global_types}
+use Rattle.name_rules.specs.object_file.wasm_types.declared.value.ValType.TheVariants.{I32}
+use Rattle.name_rules.specs.object_file.Spaces.{global_types}
 use Rattle.name_entries.proofs.Found.{or_else}
 use Rattle.name_entries.proofs.spaces.global_type.Goals as goal
 

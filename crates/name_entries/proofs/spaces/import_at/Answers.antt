@@ -1,5 +1,5 @@
 use Rattle.std.proofs.Common.{slice_get, sym, ap, ◌∙◌}
-use Rattle.object_file.specs.object_rules.Spaces.{imports_of, places_in}
+use Rattle.name_rules.specs.object_file.object_rules.Spaces.{imports_of, places_in}
 use Rattle.name_entries.proofs.Found.{found}
 use Rattle.name_entries.proofs.spaces.import_at.Goals as goal
 

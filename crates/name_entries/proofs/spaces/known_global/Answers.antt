@@ -1,7 +1,7 @@
 use Rattle.std.proofs.Common.{Some, None, sym, ap, ◌∙◌}
 use Rattle.std.specs.Option.{option_map, option_copied}
-use Rattle.object_file.specs.linking_section.declared.symbol.SymbolKind.TheVariants.{GlobalVar}
-use Rattle.object_file.specs.object_columns.Seen.{import_seen}
+use Rattle.name_rules.specs.object_file.linking_section.declared.symbol.SymbolKind.TheVariants.{GlobalVar}
+use Rattle.name_rules.specs.object_file.object_columns.Seen.{import_seen}
 use Rattle.name_entries.proofs.Indexed.{imported_one, defined_one}
 use Rattle.name_entries.proofs.spaces.known_global.Goals as goal
 

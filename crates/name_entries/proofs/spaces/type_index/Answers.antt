@@ -1,8 +1,8 @@
 use Rattle.std.proofs.Common.{Some, None, sym, ap, ◌∙◌}
 use Rattle.std.specs.Option.{option_map}
-use Rattle.object_file.specs.linking_section.declared.symbol.SymbolKind.TheVariants.{Function}
-use Rattle.object_file.specs.object_columns.Seen.{import_seen, function_seen}
-use Rattle.object_file.specs.Spaces.{written_type}
+use Rattle.name_rules.specs.object_file.linking_section.declared.symbol.SymbolKind.TheVariants.{Function}
+use Rattle.name_rules.specs.object_file.object_columns.Seen.{import_seen, function_seen}
+use Rattle.name_rules.specs.object_file.Spaces.{written_type}
 use Rattle.name_entries.proofs.Indexed.{imported_function, defined_function}
 use Rattle.name_entries.proofs.spaces.type_index.Goals as goal
 

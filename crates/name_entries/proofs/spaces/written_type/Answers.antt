@@ -1,7 +1,7 @@
 use Rattle.std.proofs.Common.{None, sym, ap, ◌∙◌}
 use Rattle.std.specs.Option.{option_map}
-use Rattle.object_file.specs.object_columns.Seen.{func_type_seen}
-use Rattle.object_file.specs.Spaces.{no_type}
+use Rattle.name_rules.specs.object_file.object_columns.Seen.{func_type_seen}
+use Rattle.name_rules.specs.object_file.Spaces.{no_type}
 use Rattle.name_entries.proofs.Found.{or_else}
 use Rattle.name_entries.proofs.spaces.written_type.Goals as goal
 

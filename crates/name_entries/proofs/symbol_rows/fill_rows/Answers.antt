@@ -1,7 +1,7 @@
 use Rattle.std.proofs.Common.{[], None, length, get_or, sym, ap, subst, ◌∙◌, arith, length-append}
 use Rattle.std.specs.Option.{option_map}
-use Rattle.object_file.specs.linking_section.declared.symbol.Symbol.{Symbol}
-use Rattle.object_file.specs.object_columns.Seen.{symbol_seen}
+use Rattle.name_rules.specs.object_file.linking_section.declared.symbol.Symbol.{Symbol}
+use Rattle.name_rules.specs.object_file.object_columns.Seen.{symbol_seen}
 use Rattle.name_entries.specs.Rows.{Tells}
 use Rattle.name_entries.specs.declared.symbol_rows.EntryRow.{EntryRow}
 use Rattle.name_entries.proofs.Added.{one_more}

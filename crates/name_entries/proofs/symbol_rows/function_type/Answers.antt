@@ -1,7 +1,7 @@
 use Rattle.std.proofs.Common.{None, sym, ap, ◌∙◌, arith}
 use Rattle.std.specs.Option.{option_map}
 use Rattle.std.proofs.lemmas.List.{get_or_past}
-use Rattle.object_file.specs.Spaces.{no_type, written_type, function_types}
+use Rattle.name_rules.specs.object_file.Spaces.{no_type, written_type, function_types}
 use Rattle.name_entries.proofs.Found.{or_else}
 use Rattle.name_entries.proofs.symbol_rows.function_type.Goals as goal
 

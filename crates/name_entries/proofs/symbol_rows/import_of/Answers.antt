@@ -1,5 +1,5 @@
 use Rattle.std.proofs.Common.{slice_get, sym, ap, ◌∙◌}
-use Rattle.object_file.specs.object_columns.Seen.{symbol_seen}
+use Rattle.name_rules.specs.object_file.object_columns.Seen.{symbol_seen}
 use Rattle.name_entries.proofs.Told.{import_found, no_import}
 use Rattle.name_entries.proofs.symbol_rows.import_of.Goals as goal
 

@@ -1,9 +1,9 @@
 use Rattle.std.proofs.Common.{Some, map, sym, ap, ◌∙◌, arith}
 use Rattle.std.specs.Option.{option_map}
-use Rattle.object_file.specs.wasm_types.declared.import.Import.{Import}
-use Rattle.object_file.specs.linking_section.declared.symbol.SymbolKind.TheVariants.{Function, GlobalVar, Table}
-use Rattle.object_file.specs.object_columns.Seen.{import_seen}
-use Rattle.object_file.specs.object_rules.Spaces.{is_of, imports_of}
+use Rattle.name_rules.specs.object_file.wasm_types.declared.import.Import.{Import}
+use Rattle.name_rules.specs.object_file.linking_section.declared.symbol.SymbolKind.TheVariants.{Function, GlobalVar, Table}
+use Rattle.name_rules.specs.object_file.object_columns.Seen.{import_seen}
+use Rattle.name_rules.specs.object_file.object_rules.Spaces.{is_of, imports_of}
 use Rattle.name_entries.proofs.Each.{for_each}
 use Rattle.name_entries.proofs.Held.{noted, none_there}
 use Rattle.name_entries.proofs.table.places_of.Goals as goal

@@ -1,6 +1,6 @@
 use Rattle.std.proofs.Common.{◌≡◌, map, slice_get, Some, take}
-use Rattle.object_file.specs.linking_section.declared.symbol.SymbolKind.TheVariants.{Function, GlobalVar, Table}
-use Rattle.object_file.specs.object_rules.Spaces.{imports_of}
+use Rattle.name_rules.specs.object_file.linking_section.declared.symbol.SymbolKind.TheVariants.{Function, GlobalVar, Table}
+use Rattle.name_rules.specs.object_file.object_rules.Spaces.{imports_of}
 use Rattle.name_entries.proofs.table.places_of.Given as goal
 
 abbrev pub invariant-loop-at : goal.invariant-loop-at

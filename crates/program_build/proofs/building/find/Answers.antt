@@ -1,6 +1,6 @@
 use Rattle.std.proofs.Common.{rules, refl, ap, Ok}
-use Rattle.link_program.specs.made_symbols.declared.mode.Mode.TheVariants as modes
-use Rattle.link_program.specs.Loaded.{Origin}
+use Rattle.loose_calls.specs.link_program.made_symbols.declared.mode.Mode.TheVariants as modes
+use Rattle.loose_calls.specs.link_program.Loaded.{Origin}
 use Rattle.program_build.specs.Steps.{AreMeant}
 use Rattle.program_build.proofs.Finding.{names_refused, meanings_refused, all_found, seen_meanings}
 use Rattle.program_build.proofs.building.find.Goals as goal

@@ -1,19 +1,19 @@
 use Rattle.std.proofs.Common.{◌≡◌, ◌<◌, ◌^◌, ◌++◌, List, false, All, rules, sym, ap, subst, length}
 use Rattle.std.specs.Prelude.{bytes_eq}
 use Rattle.std.specs.List.{list_any}
-use Rattle.link_program.specs.made_symbols.declared.mode.Mode.TheVariants.{Plain}
-use Rattle.link_program.specs.object_file.declared.object.Object.{Object}
-use Rattle.link_program.specs.link_plan.declared.plan.Plan.{Plan}
-use Rattle.link_program.specs.link_names.Numbered.{Numbered, AreNumbers}
-use Rattle.link_program.specs.name_rules.Entries.{InputSymbol, entries, name_of}
-use Rattle.link_program.specs.name_rules.Meanings.{resolve}
-use Rattle.link_program.specs.name_entries.View.{WinnersAre}
-use Rattle.link_program.specs.name_entries.Fits.{Fits, IsTable}
-use Rattle.link_program.specs.name_meanings.Means.{IsResolution}
-use Rattle.link_program.specs.link_rules.Program.{program_of}
-use Rattle.link_program.specs.Loaded.{IsLoaded}
-use Rattle.link_program.specs.Program.{AreTables, variant_names}
-use Rattle.program_tables.specs.Loose.{IsLoose, variants_in}
+use Rattle.loose_calls.specs.link_program.made_symbols.declared.mode.Mode.TheVariants.{Plain}
+use Rattle.loose_calls.specs.link_program.object_file.declared.object.Object.{Object}
+use Rattle.loose_calls.specs.link_program.link_plan.declared.plan.Plan.{Plan}
+use Rattle.loose_calls.specs.link_program.link_names.Numbered.{Numbered, AreNumbers}
+use Rattle.loose_calls.specs.link_program.name_rules.Entries.{InputSymbol, entries, name_of}
+use Rattle.loose_calls.specs.link_program.name_rules.Meanings.{resolve}
+use Rattle.loose_calls.specs.link_program.name_entries.View.{WinnersAre}
+use Rattle.loose_calls.specs.link_program.name_entries.Fits.{Fits, IsTable}
+use Rattle.loose_calls.specs.link_program.name_meanings.Means.{IsResolution}
+use Rattle.loose_calls.specs.link_program.link_rules.Program.{program_of}
+use Rattle.loose_calls.specs.link_program.Loaded.{IsLoaded}
+use Rattle.loose_calls.specs.link_program.Program.{AreTables, variant_names}
+use Rattle.loose_calls.specs.program_tables.Loose.{IsLoose, variants_in}
 use Rattle.loose_calls.specs.Interned.{Stays}
 use Rattle.program_build.specs.Steps.{AreMeant}
 use Rattle.program_build.specs.Found.{IsFound}

@@ -2,7 +2,7 @@ use Rattle.std.proofs.Common.{◌≡◌, ◌∙◌, List, map, length, replicate
 use Rattle.link_program.specs.name_entries.Fits.{FitsObjects}
 use Rattle.link_keys.specs.declared.firsts.At.{At}
 use Rattle.link_keys.specs.Firsts.{firsts_rows}
-use Rattle.link_layout.specs.Layout.{IsLayout}
+use Rattle.link_image.specs.link_layout.Layout.{IsLayout}
 use Rattle.sym_parts.specs.Sought.{known}
 use Rattle.sym_parts.specs.Code.{function_seen}
 use Rattle.sym_functions.proofs.Composed.{rows_counted, functions_are}

@@ -1,5 +1,5 @@
 use Rattle.std.proofs.Common.{rules}
-use Rattle.link_layout.specs.Layout.{IsLayout}
+use Rattle.link_image.specs.link_layout.Layout.{IsLayout}
 use Rattle.sym_functions.proofs.Composed.{table_is}
 use Rattle.sym_functions.proofs.runs.table.Goals as goal
 

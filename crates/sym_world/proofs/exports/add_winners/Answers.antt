@@ -1,7 +1,7 @@
 use Rattle.std.proofs.Common.{◌∙◌, ◌++◌, ap, map, drop, ◌+◌}
 use Rattle.link_program.specs.made_symbols.declared.mode.Mode.TheVariants.{Plain}
 use Rattle.link_program.specs.link_rules.Output.{layout}
-use Rattle.link_image.proofs.Winners.{winner_got, winner_kept}
+use Rattle.sym_functions.proofs.link_image_lemmas.Winners.{winner_got, winner_kept}
 use Rattle.sym_world.specs.Exports.{export_seen}
 use Rattle.sym_world.proofs.exports.add_winners.Goals as goal
 

@@ -3,8 +3,8 @@ use Rattle.link_program.specs.made_symbols.declared.mode.Mode.TheVariants.{Plain
 use Rattle.link_program.specs.link_rules.Values.{address_of}
 use Rattle.link_program.specs.link_rules.Output.{layout}
 use Rattle.link_program.specs.declared.symbol.Winner.{Winner}
-use Rattle.link_image.specs.Sections.{entry_of}
-use Rattle.sym_parts.specs.Data.{target_seen}
+use Rattle.sym_functions.specs.link_image.Sections.{entry_of}
+use Rattle.sym_functions.specs.sym_parts.Data.{target_seen}
 use Rattle.sym_world.proofs.exports.export.Goals as goal
 
 pub returns : goal.returns

@@ -1,6 +1,6 @@
 use Rattle.std.proofs.Common.{◌∙◌, map, refl, sym, ap, rules}
 use Rattle.link_layout.specs.Layout.{IsLayout}
-use Rattle.sym_parts.specs.Data.{cell_seen}
+use Rattle.sym_functions.specs.sym_parts.Data.{cell_seen}
 use Rattle.sym_world.specs.Choosing.{IsStage}
 use Rattle.sym_world.proofs.CellsTold.{cells_told}
 use Rattle.sym_world.proofs.Composed.{objects_is}

@@ -1,8 +1,8 @@
 use Rattle.std.proofs.Common.{◌≡◌, ◌∙◌, ◌++◌, true, false, map, filter, sym, ap, rules}
 use Rattle.link_program.specs.Live.{AreLive}
 use Rattle.link_layout.specs.Layout.{IsLayout}
-use Rattle.sym_parts.specs.Sought.{known}
-use Rattle.sym_parts.specs.Data.{segment_seen, segment_numbers, is_so}
+use Rattle.sym_functions.specs.sym_parts.Sought.{known}
+use Rattle.sym_functions.specs.sym_parts.Data.{segment_seen, segment_numbers, is_so}
 use Rattle.sym_world.proofs.Composed.{segments_are}
 use Rattle.sym_world.proofs.objects.segments.Goals as goal
 

@@ -1,6 +1,6 @@
 use Rattle.std.proofs.Common.{◌≡◌, ◌+◌, ◌<◌, ◌^◌, ℕ, map, length, unwrap_or, arith, ◌∙◌, sym}
-use Rattle.link_program.specs.index_layout.Numbers.{number_by}
-use Rattle.link_program.specs.Keys.{same_function_key}
+use Rattle.link_keys.specs.link_program.index_layout.Numbers.{number_by}
+use Rattle.link_keys.specs.link_program.Keys.{same_function_key}
 use Rattle.link_keys.specs.Codes.{function_code}
 use Rattle.link_numbers.specs.Places.{place_of}
 use Rattle.link_numbers.proofs.Coded.{function_coded, slot_below}

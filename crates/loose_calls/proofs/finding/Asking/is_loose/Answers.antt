@@ -1,12 +1,12 @@
 use Rattle.std.proofs.Common.{◌≡◌, ◌==◌, true, false, not, ◌&&◌, sym, ap, ◌∙◌}
 use Rattle.std.specs.Prelude.{is_some}
 use Rattle.std.proofs.lemmas.Option.{same_Some}
-use Rattle.link_program.specs.linking_section.declared.symbol.SymbolKind.TheVariants.{Function}
-use Rattle.link_program.specs.linking_section.Flags.{kind_code}
-use Rattle.link_program.specs.made_symbols.declared.mode.Mode.TheVariants.{Plain}
-use Rattle.link_program.specs.name_rules.Entries.{entries as all_entries, is_kind}
-use Rattle.link_program.specs.name_rules.Cases.{has_other_type}
-use Rattle.link_program.specs.name_entries.View.{entry_at}
+use Rattle.program_tables.specs.link_program.linking_section.declared.symbol.SymbolKind.TheVariants.{Function}
+use Rattle.program_tables.specs.link_program.linking_section.Flags.{kind_code}
+use Rattle.program_tables.specs.link_program.made_symbols.declared.mode.Mode.TheVariants.{Plain}
+use Rattle.program_tables.specs.link_program.name_rules.Entries.{entries as all_entries, is_kind}
+use Rattle.program_tables.specs.link_program.name_rules.Cases.{has_other_type}
+use Rattle.program_tables.specs.link_program.name_entries.View.{entry_at}
 use Rattle.program_tables.proofs.Defining.{shown_entry, shown_as}
 use Rattle.loose_calls.specs.Found.{is_here}
 use Rattle.loose_calls.proofs.Asked.{asked, answer_there, loosened_is, never_loose}

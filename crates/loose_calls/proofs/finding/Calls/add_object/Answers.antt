@@ -1,6 +1,6 @@
 use Rattle.std.proofs.Common.{arith, get_or, [], ◌∷◌, true, sym, subst, take}
 use Rattle.std.proofs.lemmas.List.{take_all}
-use Rattle.link_program.specs.name_entries.View.{rows_of}
+use Rattle.program_tables.specs.link_program.name_entries.View.{rows_of}
 use Rattle.program_tables.specs.Loose.{loosens}
 use Rattle.program_tables.proofs.Lists.{at_take}
 use Rattle.program_tables.proofs.Steps.{item_at, some_at}

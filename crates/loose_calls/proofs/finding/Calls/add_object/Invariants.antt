@@ -1,5 +1,5 @@
 use Rattle.std.proofs.Common.{take, get_or, []}
-use Rattle.link_program.specs.name_entries.View.{rows_of}
+use Rattle.program_tables.specs.link_program.name_entries.View.{rows_of}
 use Rattle.program_tables.specs.Loose.{loosens}
 use Rattle.std.proofs.Common.{true}
 use Rattle.loose_calls.specs.Found.{Grows}

@@ -1,5 +1,5 @@
 use Rattle.std.proofs.Common.{ap, ◌∙◌, ◌++◌, ◌∷◌, [], Some}
-use Rattle.link_program.specs.declared.symbol.Lead.TheVariants.{Null}
+use Rattle.program_tables.specs.link_program.declared.symbol.Lead.TheVariants.{Null}
 use Rattle.loose_calls.proofs.interning.Interned.add.Goals as goal
 
 pub returns : goal.returns

@@ -1,6 +1,6 @@
 use Rattle.std.proofs.Common.{◌≡◌, ◌==◌, ◌||◌, ◌&&◌, ℕ, take}
 use Rattle.std.specs.List.{list_any}
-use Rattle.object_file.specs.linking_section.declared.member_kinds.TheConstants as kinds
+use Rattle.name_rules.specs.object_file.linking_section.declared.member_kinds.TheConstants as kinds
 use Rattle.name_entries.specs.Parts.{has_flag}
 use Rattle.name_entries.proofs.dropping.Dropped.drop_members.Given as goal
 

@@ -1,5 +1,5 @@
 use Rattle.std.specs.Option.{option_map}
-use Rattle.object_file.specs.object_columns.Seen.{symbol_seen}
+use Rattle.name_rules.specs.object_file.object_columns.Seen.{symbol_seen}
 use Rattle.name_entries.proofs.Told.{plain_is, entry_shown}
 use Rattle.name_entries.proofs.lookups.Entries.entry.Goals as goal
 

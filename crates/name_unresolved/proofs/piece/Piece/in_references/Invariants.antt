@@ -1,5 +1,5 @@
 use Rattle.std.proofs.Common.{◌≡◌, drop}
-use Rattle.name_entries.specs.body_windows.Operands.{operand_of}
+use Rattle.name_meanings.specs.name_entries.body_windows.Operands.{operand_of}
 use Rattle.name_unresolved.specs.Least.{lesser, least_by}
 use Rattle.name_unresolved.specs.Search.{opened_by}
 use Rattle.name_unresolved.proofs.piece.Piece.in_references.Given as goal

@@ -1,6 +1,6 @@
 use Rattle.std.proofs.Common.{map, sym, ap, ◌∙◌}
 use Rattle.std.specs.Option.{option_map}
-use Rattle.name_entries.specs.object_columns.Seen.{segment_seen}
+use Rattle.name_meanings.specs.name_entries.object_columns.Seen.{segment_seen}
 use Rattle.name_unresolved.specs.Refers.{at, segment_names}
 use Rattle.name_unresolved.specs.Search.{rows_in, least_open}
 use Rattle.name_unresolved.proofs.Pieces.{windows_are}

@@ -2,7 +2,7 @@ use Rattle.std.proofs.Common.{slice_get, sym, ap, ◌∙◌, subst}
 use Rattle.std.specs.Option.{option_and_then}
 use Rattle.std.specs.Ordering.{nat_cmp}
 use Rattle.std.specs.List.Sorted.{IsStrictlyIncreasing, IsBinarySearchResult}
-use Rattle.name_entries.specs.object_file.declared.object.Object.{Object}
+use Rattle.name_meanings.specs.name_entries.object_file.declared.object.Object.{Object}
 use Rattle.name_unresolved.proofs.Places.{found}
 use Rattle.name_unresolved.proofs.search.Search.place_of.Goals as goal
 

@@ -2,7 +2,7 @@ use Rattle.std.proofs.Common.{ℕ, List, Option, ◌∙◌, ◌++◌, ◌∷◌,
 use Rattle.body_windows.specs.Operands.{operands_seen}
 use Rattle.object_columns.specs.declared.functions.FunctionDef.{FunctionDef}
 use Rattle.std.specs.Prelude.{option_copied}
-use Rattle.wasm_instr.specs.wl_base.declared.span.Span.{Span}
+use Rattle.body_windows.specs.wasm_instr.wl_base.declared.span.Span.{Span}
 use Rattle.object_columns.specs.declared.functions.FunctionRow.{FunctionRow}
 use Rattle.object_columns.specs.Columns.{joined_three, function_of, span_of}
 use Rattle.object_columns.specs.Seen.{function_seen}

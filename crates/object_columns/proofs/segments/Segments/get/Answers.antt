@@ -1,6 +1,6 @@
 use Rattle.std.proofs.Common.{Some, ◌∙◌, sym, ap}
 use Rattle.std.specs.Prelude.{slice_get, option_copied}
-use Rattle.wasm_instr.specs.wl_base.declared.span.Span.{Span}
+use Rattle.body_windows.specs.wasm_instr.wl_base.declared.span.Span.{Span}
 use Rattle.object_columns.specs.declared.segments.SegmentDef.{SegmentDef}
 use Rattle.object_columns.specs.Columns.{segment_of}
 use Rattle.object_columns.proofs.Joined.{three_at, three_none_first, three_none_second, three_none_third}

@@ -1,5 +1,5 @@
 use Rattle.std.proofs.Common.{◌∙◌, ◌++◌, ◌∷◌, [], ap}
-use Rattle.wasm_instr.specs.wl_base.declared.span.Span.{Span}
+use Rattle.body_windows.specs.wasm_instr.wl_base.declared.span.Span.{Span}
 use Rattle.object_columns.specs.declared.segments.SegmentDef.{SegmentDef}
 use Rattle.object_columns.specs.declared.segments.SegmentRow.{SegmentRow}
 use Rattle.object_columns.specs.Columns.{joined_three, segment_of}
