@@ -64,6 +64,34 @@ def keep(place, fill):
             os.rename(f"{room}/entry", place)
 
 
+@functools.cache
+def lines_of(crate):
+    """How many lines the crate's proof reads."""
+    found = 0
+    for path in build.files_of(crate):
+        with open(path, "rb") as file:
+            found += file.read().count(b"\n")
+    return found
+
+
+@functools.cache
+def chain_below(crate):
+    """The lines of the longest chain of crates that ends with this one."""
+    return lines_of(crate) + max((chain_below(it) for it in build.listed()[crate] if it in build.listed()), default=0)
+
+
+@functools.cache
+def chain_above(crate):
+    """The lines of the longest chain of crates that stands on this one."""
+    return max((lines_of(it) + chain_above(it) for it, names in build.listed().items() if crate in names), default=0)
+
+
+def is_waited_for(crate):
+    """Whether the crate stands in one of the longest chains, for which the whole run waits: its proof then gets three jobs."""
+    longest = max(chain_below(it) for it in build.listed())
+    return 10 * (chain_below(crate) + chain_above(crate)) >= 9 * longest
+
+
 def with_store(rt):
     """Has the command ask the store first."""
     passed = rt.Crate.ci
@@ -75,7 +103,8 @@ def with_store(rt):
             copied(crate.name, tests, place, f"{crate.folder}/out")
             print("kept from an earlier climb", file=crate.out)
             return 0
-        status = passed(crate, flags, tests)
+        jobs = ["--jobs", "3"] if not tests and is_waited_for(crate.name) else flags
+        status = passed(crate, jobs, tests)
         if not status:
             keep(place, lambda entry: copied(crate.name, tests, f"{crate.folder}/out", entry))
         return status
@@ -103,14 +132,16 @@ def with_sums_once(rt):
 
 
 def only(rt, names):
-    """Has the command see these crates alone, with all below them."""
-    whole = rt.crates_of
+    """Has the command work on these crates alone, with all below them."""
+    wanted = {*names, *(it for name in names for it in build.below(name))}
+    whole = rt.in_lanes
 
-    def crates_of(root, aside):
-        wanted = {*names, *(it for name in names for it in build.below(name))}
-        return [it for it in whole(root, aside) if it.name in wanted]
+    def in_lanes(tasks):
+        left_out = lambda given, jobs: True
+        no_edits = lambda given, jobs: ([], [], [])
+        return whole({key: it if key[0] in wanted else (*it[:3], no_edits if key[1] == "edits" else left_out) for key, it in tasks.items()})
 
-    rt.crates_of = crates_of
+    rt.in_lanes = in_lanes
 
 
 with_edits = "--no-edits" not in sys.argv

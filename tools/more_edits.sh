@@ -10,11 +10,13 @@ put_back() {
   local edit
   for edit in tools/more_edits/*/*.edit; do
     rm -f "crates/$(basename "$(dirname "$edit")")/must-fail/$(basename "$edit")"
+    rmdir "crates/$(basename "$(dirname "$edit")")/must-fail" 2>/dev/null
   done
 }
 trap put_back EXIT
 
 for crate in "${crates[@]}"; do
+  mkdir -p "crates/$crate/must-fail"
   cp "tools/more_edits/$crate"/*.edit "crates/$crate/must-fail/" || exit 2
 done
 rt must-fail "${crates[@]}"
