@@ -1,11 +1,16 @@
 mod Begins
+mod Bounds
+mod ByPlace
 mod Grouped
+mod Judged
 mod Lent
 mod Live
 mod Long
 mod Members
 mod Names
 mod Onto
+mod Parts
+mod Placed
 mod Spelled
 mod Stands
 mod Tail

@@ -58,7 +58,7 @@ from_stand object input symbols debug all (c ∷ cs) ds e =
     let first : Stands a.0 = subst Stands o.2 (stand_in debug symbols (length c.content) (payloads_for c.at all) o.0 o.1) in
     subst (AllByRecursion Stands) (ok_is b.2) (first, from_stand object input symbols debug all cs b.0 b.1)
 
-both : {A : Type 0} (P : A → Type 0) (xs ys : List A) → AllByRecursion P xs → AllByRecursion P ys → AllByRecursion P (xs ++ ys)
+pub both : {A : Type 0} (P : A → Type 0) (xs ys : List A) → AllByRecursion P xs → AllByRecursion P ys → AllByRecursion P (xs ++ ys)
 both P [] ys h k = k
 both P (x ∷ xs) ys h k = (h.0, both P xs ys h.1 k)
 

@@ -7,7 +7,12 @@ use Rattle.wl_base.specs.declared.fault.Fault.{Fault}
 use Rattle.wl_base.specs.declared.fault.Fault.TheVariants.{DebugTooLong}
 use Rattle.debug_rules.specs.Faults.{Debug}
 use Rattle.debug_rules.specs.Joined.{Places, names_of, section_of, tail_of, length_fault}
-use Rattle.debug_out.specs.Grouped.{sections_len}
+use Rattle.debug_out.specs.Grouped.{sections_len, IsGrouped}
+use Rattle.std.specs.Prelude.{IfOk}
+use Rattle.debug_out.specs.declared.error.DebugError.{DebugError}
+use Rattle.debug_out.specs.declared.groups.Groups.{Groups}
+use Rattle.debug_out.specs.declared.joining.DebugTail.{DebugTail}
+use Rattle.debug_out.specs.Tails.{IsWhole}
 use Rattle.debug_out.specs.Windows.{Stands}
 use Rattle.debug_out.proofs.Long.{tail_long}
 
@@ -35,3 +40,8 @@ pub it_fits : (ds : List Debug) (p : Places) (names : List (List ℕ)) (len befo
 it_fits ds p names len before needed tail is stand measured sum short put =
     ap (λ n. unless (length_fault n) (tail_of ds p)) (needed_is ds p names len before needed is stand measured sum)
     ∙ (no_fault needed (tail_of ds p) (grind (arith, nat_tests)) ∙ ap Ok (tail_is ds p names tail is put))
+
+pub whole_of : (names : List (List ℕ)) (g : Groups) (ds : List Debug) (r : Result DebugTail DebugError) → IfOk r (λ t. (ds : List Debug) → IsGrouped names g ds → AllByRecursion Stands ds → IsWhole t)
+    → IsGrouped names g ds → AllByRecursion Stands ds → IfOk r IsWhole
+whole_of names g ds (Ok t) told has stand = told ds has stand
+whole_of names g ds (Err e) told has stand = tt

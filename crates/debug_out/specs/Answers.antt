@@ -1,5 +1,5 @@
 -- What is answered.
-use Rattle.std.specs.Prelude.{◌≡◌, ℕ, Bool, List, [], ◌∷◌, ◌++◌, map, filter, Option, Some, None, Result, Ok, Err}
+use Rattle.std.specs.Prelude.{◌≡◌, List, ◌++◌, map, Result, Ok, Err}
 use Rattle.wl_base.specs.Choice.{◌>>=◌}
 use Rattle.wl_base.specs.declared.fault.Fault.{Fault}
 use Rattle.debug_out.specs.declared.error.DebugError.{DebugError}
@@ -26,8 +26,3 @@ Puts (Err OutOfMemory) now said = Unit {0}
 -- a list, and behind it what is given
 abbrev pub onto : {A : Type 0} → List A → Result (List A) Fault → Result (List A) Fault
 onto front said = said >>= λ xs. Ok (front ++ xs)
-
--- what is kept of a list is what begins here: nothing, or the first and what is kept behind it
-abbrev pub BeginsHere : {A : Type 0} → (A → Bool) → List A → List A → Type 0
-BeginsHere keep [] kept = kept ≡ []
-BeginsHere keep (x ∷ xs) kept = kept ≡ x ∷ filter keep xs

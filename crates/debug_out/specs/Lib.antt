@@ -1,5 +1,10 @@
 pub mod Answers
 pub mod Grouped
 pub mod Inputs
+pub mod Judged
+pub mod PieceLaws
+pub mod Pieces
 pub mod Refs
+pub mod Tails
+pub mod Targets
 pub mod Windows

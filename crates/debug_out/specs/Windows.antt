@@ -1,5 +1,6 @@
 -- What the windows of the joined sections hold.
-use Rattle.std.specs.Prelude.{◌≡◌, ℕ, ◌+◌, pos, ◌+ℤ◌, true, List, [], ◌∷◌, ◌++◌, flat_map, length, slice_range, Contains, Option, Some, None, Ok}
+use Rattle.std.specs.Prelude.{◌≡◌, ℕ, ◌+◌, ◌≤◌, pos, ◌+ℤ◌, true, List, [], ◌∷◌, ◌++◌, flat_map, length, slice_range, Contains, Option, Some, None, Ok}
+use Rattle.std.specs.List.{AllByRecursion}
 use Rattle.leb_codec.specs.Shortest.{u32}
 use Rattle.reloc_section.specs.declared.entry.Reloc.{Reloc}
 use Rattle.reloc_apply.specs.Windows.{bits32, little}
@@ -11,6 +12,10 @@ use Rattle.debug_out.specs.Grouped.{payload_len}
 -- the windows of the section rise, don't overlap and lie in it
 abbrev pub Stands : Debug → Type 0
 Stands d = lie_apart (length d.section.content) 0 d.relocs ≡ true
+
+-- each window lies in so many bytes
+abbrev pub InBounds : ℕ → List Reloc → Type 0
+InBounds len rs = AllByRecursion (λ r. r.offset + 4 ≤ len) rs
 
 -- what stands before the contributions of a name, which have so many bytes
 abbrev pub head_of : List ℕ → ℕ → List ℕ

@@ -1,116 +1,21 @@
 //! The debug sections of the objects, or the first that is at fault.
-ghost use Rattle.std.specs.Prelude.{◌≡◌, ◌+◌, ◌==◌, [], length, map, option_map, filter, slice_get, IfOk};
-ghost use Rattle.std.specs.List.{list_all, list_any};
+ghost use Rattle.std.specs.Prelude.{◌≡◌, ℕ, List, [], length, map, option_map, filter, IfOk};
 ghost use Rattle.image_emit.specs.Bytes.{file_part};
-ghost use Rattle.reloc_section.specs.Relocs.{relocs_at};
-ghost use Rattle.debug_rules.specs.Sections.{is_debug, is_relocs_for, payloads_for};
-ghost use Rattle.debug_rules.specs.Faults.{may_stand, entry_stands, lie_apart, entries_stand, if_stand, relocs_in, debug_places, debugs_from, debugs_of, debugs};
-ghost use Rattle.debug_out.specs.Answers.{Tells, Puts, onto, BeginsHere};
+ghost use Rattle.debug_rules.specs.Sections.{is_debug};
+ghost use Rattle.debug_rules.specs.Faults.{relocs_in, debug_places, debugs_from, debugs_of, debugs};
+ghost use Rattle.debug_out.specs.Answers.{Tells, Puts, onto};
 ghost use Rattle.debug_out.specs.Refs.{custom_seen, debug_seen, entries_of};
+ghost use Rattle.debug_out.specs.Targets.{payloads_seen, HasPlaces, HasPayloads};
 ghost use Rattle.debug_out.specs.Inputs.{input_of, inputs_of};
 
+use crate::entries::payload_stands;
 use crate::error::DebugError;
-use crate::refs::{CustomRef, DebugRef};
-use crate::sections::{customs, is_debug, is_relocs_for, payload_of};
-use linking_section::SymbolKind;
+use crate::refs::{CustomRef, DebugRef, Payloads};
+use crate::sections::{customs, is_debug, payload_of};
+use crate::targets::{debug_table, payloads_at, relocs_table};
 use object_file::{Object, Symbols};
-use reloc_section::{Reloc, relocs_at};
 use std::alloc::Global;
-use wasm_grammar::ReadFault;
-use wl_base::{Fault, FileSpan, OutOfMemory, Seq};
-
-/// Whether a relocation of this type may name a symbol of this kind in a debug section.
-fn may_stand(kind: u8, symbol: SymbolKind) -> bool
-    ensures { result ≡ may_stand kind symbol }
-{
-    match symbol {
-        SymbolKind::Function => kind == 2 || kind == 8,
-        SymbolKind::Datum => kind == 5,
-        SymbolKind::GlobalVar => kind == 13,
-        SymbolKind::Section => kind == 9,
-        SymbolKind::Table => false,
-    }
-}
-
-fn among(debug: &[u32], at: u32) -> bool
-    ensures { result ≡ list_any (λ a. a == at) debug.now }
-{
-    debug.iter().any(|a| *a == at)
-}
-
-/// Whether an entry names a symbol of its kind, and a debug section where it names a section.
-fn entry_stands(debug: &[u32], symbols: &Symbols, r: &Reloc) -> bool
-    ensures { result ≡ entry_stands debug.now r.now (slice_get symbols.now r.now.index) }
-{
-    match symbols.get(r.index as usize) {
-        None => false,
-        Some(s) => { may_stand(r.kind, s.kind) && (r.kind != 9 || among(debug, s.index)) }
-    }
-}
-
-fn all_stand(debug: &[u32], symbols: &Symbols, relocs: &[Reloc]) -> bool
-    ensures { result ≡ list_all (λ r. entry_stands debug.now r (slice_get symbols.now r.index)) relocs.now }
-{
-    relocs.iter().all(|r| entry_stands(debug, symbols, r))
-}
-
-/// Whether the windows rise, don't overlap and lie in the length.
-fn lie_apart(len: u64, relocs: &[Reloc]) -> bool
-    ensures { result ≡ lie_apart len 0 relocs.now }
-{
-    let mut from = 0;
-    for r in relocs {
-        let at = u64::from(r.offset);
-        if at < from || len < at + 4 {
-            return false;
-        }
-        from = at + 4;
-    }
-    true
-}
-
-fn entries_stand(debug: &[u32], symbols: &Symbols, len: u64, relocs: &[Reloc]) -> bool
-    ensures { result ≡ entries_stand debug.now symbols.now len relocs.now }
-{
-    all_stand(debug, symbols, relocs) && lie_apart(len, relocs)
-}
-
-/// The payload, if its entries are spelled and stand.
-fn if_stand<'a>(
-    alloc: Global,
-    debug: &[u32],
-    symbols: &Symbols,
-    len: u64,
-    payload: &'a [u8],
-) -> Result<Option<&'a [u8]>, OutOfMemory>
-    ensures { IfOk result (λ found. option_map (λ p. entries_of p.now) found ≡ if_stand debug.now symbols.now len (relocs_at (length payload.now) payload.now)) }
-{
-    match relocs_at(alloc, payload.len(), payload) {
-        Ok(s) => {
-            if entries_stand(debug, symbols, len, s.entries.as_slice()) {
-                Ok(Some(payload))
-            } else {
-                Ok(None)
-            }
-        }
-        Err(ReadFault::OutOfMemory) => Err(OutOfMemory),
-        Err(ReadFault::Stopped(_)) => Ok(None),
-    }
-}
-
-/// The sections from the first on that holds relocations for the one at a place.
-fn from_first<'a, 'b>(at: u32, all: &'b [CustomRef<'a>]) -> &'b [CustomRef<'a>]
-    ensures { BeginsHere (is_relocs_for at) (map custom_seen result.now) (filter (is_relocs_for at) (map custom_seen all.now)) }
-{
-    let mut left = all;
-    while let [c, rest @ ..] = left {
-        if is_relocs_for(at, c) {
-            return left;
-        }
-        left = rest;
-    }
-    left
-}
+use wl_base::{Fault, FileSpan, Seq};
 
 /// A payload that holds none.
 #[tactic(auto, using(crate::proofs::Spelled::none_in_nothing))]
@@ -120,54 +25,48 @@ fn no_relocs<'a>() -> &'a [u8]
     &[]
 }
 
-/// What holds the relocations of a section, where they stand; no bytes where there are none.
+/// What holds the relocations of a section of this length, where they stand; no bytes where there
+/// are none. `debug` tells of each place whether a debug section stands there.
 fn relocs_in<'a>(
-    alloc: Global,
-    debug: &[u32],
+    debug: &[bool],
     symbols: &Symbols,
-    at: u32,
     len: u64,
-    all: &[CustomRef<'a>],
-) -> Result<Option<&'a [u8]>, OutOfMemory>
-    ensures { IfOk result (λ found. option_map (λ p. entries_of p.now) found ≡ relocs_in debug.now symbols.now len (payloads_for at (map custom_seen all.now))) }
+    found: Payloads<'a>,
+) -> Option<&'a [u8]>
+    ensures { (places : List ℕ) → HasPlaces debug.now places → option_map (λ p. entries_of p.now) result ≡ relocs_in places symbols.now len (payloads_seen found.entry) }
 {
-    let [r, behind @ ..] = from_first(at, all) else {
-        return Ok(Some(no_relocs()));
-    };
-    let [] = from_first(at, behind) else {
-        return Ok(None);
-    };
-    if_stand(alloc, debug, symbols, len, r.content)
-}
-
-fn places_of(alloc: Global, all: &[CustomRef<'_>]) -> Result<Seq<u32>, OutOfMemory>
-    ensures { IfOk result (λ ats. ats ≡ debug_places (map custom_seen all.now)) }
-{
-    let mut ats = Seq::new(alloc);
-    for c in all {
-        if is_debug(c) {
-            ats.push(c.at)?;
+    match found {
+        Payloads::Nothing => Some(no_relocs()),
+        Payloads::One(payload) => {
+            if payload_stands(debug, symbols, len, payload) {
+                Some(payload)
+            } else {
+                None
+            }
         }
+        Payloads::More => None,
     }
-    Ok(ats)
 }
 
 /// Puts the debug sections of an object, the one at this place among the loaded ones, behind
-/// others; or finds the first that is at fault.
+/// others; or finds the first that is at fault. The tables tell of the sections by their places.
 fn debugs_from<'a>(
-    alloc: Global,
     object: u32,
     o: &'a Object,
-    debug: &[u32],
+    debug: &[bool],
+    relocs: &[Payloads<'a>],
     all: &[CustomRef<'a>],
     out: &mut Seq<DebugRef<'a>>,
 ) -> Result<(), DebugError>
-    ensures { Puts result (map debug_seen out.new) (onto (map debug_seen out.old) (debugs_from object o.now.input o.now.symbols debug.now (map custom_seen all.now) (filter is_debug (map custom_seen all.now)))) }
+    requires debug { HasPlaces debug.now (debug_places (map custom_seen all.now)) }
+    requires relocs { HasPayloads relocs.now (map custom_seen all.now) }
+    ensures { Puts result (map debug_seen out.new) (onto (map debug_seen out.old) (debugs_from object o.now.input o.now.symbols (debug_places (map custom_seen all.now)) (map custom_seen all.now) (filter is_debug (map custom_seen all.now)))) }
 {
     for c in all {
         if is_debug(c) {
+            let found = payloads_at(relocs, c.at)?;
             let len = c.content.len() as u64;
-            let Some(relocs) = relocs_in(alloc, debug, &o.symbols, c.at, len, all)? else {
+            let Some(relocs) = relocs_in(debug, &o.symbols, len, found) else {
                 return Err(DebugError::Refused(Fault::BadDebug {
                     input: o.input,
                     section: c.at,
@@ -198,8 +97,16 @@ fn debugs_of<'a>(
     ensures { Puts result (map debug_seen out.new) (onto (map debug_seen out.old) (debugs_of object (input_of bytes.now o.now))) }
 {
     let all = customs(alloc, bytes)?;
-    let debug = places_of(alloc, all.as_slice())?;
-    debugs_from(alloc, object, o, debug.as_slice(), all.as_slice(), out)
+    let debug = debug_table(alloc, all.as_slice())?;
+    let relocs = relocs_table(alloc, all.as_slice())?;
+    debugs_from(
+        object,
+        o,
+        debug.as_slice(),
+        relocs.as_slice(),
+        all.as_slice(),
+        out,
+    )
 }
 
 /// The bytes of a part of a file, fewer where the file ends before.

@@ -182,3 +182,36 @@ pub fn grouped<'a>(
     }
     Ok(groups)
 }
+
+/// A row in 32 bits. No place is past them in sections that fit.
+fn short_row(alloc: Global, row: &[Option<u64>]) -> Result<Seq<Option<u32>>, OutOfMemory>
+    ensures { IfOk result (λ short. short ≡ row.now) }
+{
+    let mut short = Seq::with_room(alloc, row.len())?;
+    for begin in row {
+        match begin {
+            None => short.push(None)?,
+            Some(begin) => {
+                let Ok(begin) = u32::try_from(*begin) else {
+                    return Err(OutOfMemory);
+                };
+                short.push(Some(begin))?;
+            }
+        }
+    }
+    Ok(short)
+}
+
+/// Where sections begin, in 32 bits.
+pub fn short_rows(
+    alloc: Global,
+    rows: &[Seq<Option<u64>>],
+) -> Result<Seq<Seq<Option<u32>>>, OutOfMemory>
+    ensures { IfOk result (λ short. short ≡ rows.now) }
+{
+    let mut short = Seq::with_room(alloc, rows.len())?;
+    for row in rows {
+        short.push(short_row(alloc, row.as_slice())?)?;
+    }
+    Ok(short)
+}

@@ -9,7 +9,7 @@ use wl_base::NameTable;
 
 /// The length of the shortest spelling.
 #[tactic(auto, using(image_emit::proofs::Room::u32_is))]
-fn u32_size(n: u64) -> u64
+pub fn u32_size(n: u64) -> u64
     ensures size { result ≡ length (shortest_u32 n) }
     ensures few { result ≤ 5 }
 {

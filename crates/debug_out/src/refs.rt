@@ -12,6 +12,14 @@ pub struct CustomRef<'a> {
     pub content: &'a [u8],
 }
 
+/// What holds relocations for one section, lent.
+#[derive(Clone, Copy)]
+pub enum Payloads<'a> {
+    Nothing,
+    One(&'a [u8]),
+    More,
+}
+
 /// A debug section, lent.
 #[derive(Clone, Copy)]
 pub struct DebugRef<'a> {

@@ -1,9 +1,9 @@
 //! The custom sections of an object.
-ghost use Rattle.std.specs.Prelude.{◌≡◌, map, option_map, ◌==◌, length, IfOk};
+ghost use Rattle.std.specs.Prelude.{◌≡◌, ℕ, map, option_map, length, IfOk};
 ghost use Rattle.debug_out.specs.Refs.{custom_seen};
-ghost use Rattle.debug_rules.specs.Sections.{payload_of, custom_at, customs_from, customs, is_debug, is_target, is_relocs_for};
+ghost use Rattle.debug_out.specs.Targets.{targets};
+ghost use Rattle.debug_rules.specs.Sections.{payload_of, custom_at, customs_from, customs, is_debug, is_relocs_for};
 ghost use Rattle.wasm_sections.specs.Reading.{frame_at};
-ghost use Rattle.wasm_grammar.specs.Reading.{u32_at};
 
 use crate::refs::CustomRef;
 use std::alloc::Global;
@@ -73,19 +73,16 @@ pub fn is_debug(c: &CustomRef<'_>) -> bool
     &name[..name.len().min(7)] == b".debug_".as_slice()
 }
 
-fn is_target(at: u32, content: &[u8]) -> bool
-    ensures { result ≡ is_target at (u32_at 0 content.now) }
-{
-    match u32_at(0, content) {
-        Ok((target, _)) => target == at,
-        Err(_) => false,
-    }
-}
-
-/// Whether a section holds relocations for the section at a place.
-pub fn is_relocs_for(at: u32, c: &CustomRef<'_>) -> bool
-    ensures { result ≡ is_relocs_for at (custom_seen c.now) }
+/// The place of the section for which a section holds relocations.
+pub fn target_of(c: &CustomRef<'_>) -> Option<u32>
+    ensures { (at : ℕ) → targets at result ≡ is_relocs_for at (custom_seen c.now) }
 {
     let name = c.name;
-    &name[..name.len().min(6)] == b"reloc.".as_slice() && is_target(at, c.content)
+    if &name[..name.len().min(6)] != b"reloc.".as_slice() {
+        return None;
+    }
+    match u32_at(0, c.content) {
+        Ok((target, _)) => Some(target),
+        Err(_) => None,
+    }
 }

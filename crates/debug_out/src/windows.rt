@@ -1,17 +1,18 @@
-//! What is written into the windows of debug sections.
-ghost use Rattle.std.specs.Prelude.{◌≡◌, ◌+◌, ◌++◌, ◌∷◌, ◌≤◌, [], length, map, slice_get, slice_index_or, IfOk, OnOk};
+//! What is written into the windows of debug sections. It takes no memory and can't fail, so that
+//! workers may write them.
+ghost use Rattle.std.specs.Prelude.{◌≡◌, ◌+◌, ◌≤◌, [], length, map, slice_get, slice_index_or};
 ghost use Rattle.reloc_apply.specs.Windows.{over, little, filled};
 ghost use Rattle.debug_rules.specs.Joined.{dead_word, place_at, word_of, section_index, value_of, patch_for, written};
 ghost use Rattle.debug_out.specs.Inputs.{places_of};
-ghost use Rattle.debug_out.specs.Refs.{debug_seen, entries_of};
+ghost use Rattle.debug_out.specs.Refs.{debug_seen, entries_from, entries_of};
+ghost use Rattle.debug_out.specs.Windows.{Stands, InBounds};
 
+use crate::entries::front_of;
 use crate::places::DebugPlaces;
 use crate::refs::DebugRef;
 use object_file::Symbols;
-use reloc_section::{Reloc, relocs_at};
-use std::alloc::Global;
-use wasm_grammar::ReadFault;
-use wl_base::{OutOfMemory, Seq};
+use reloc_section::{Reloc, reloc_at};
+use wl_base::Seq;
 
 /// What stands for what isn't there. In lists of ranges and of locations the greatest number begins
 /// another base (DWARF 4, 2.6.2 and 2.17.3).
@@ -72,121 +73,90 @@ fn section_index(symbols: &Symbols, k: u32) -> u32
     }
 }
 
-/// The row of an object, none where there is none.
-fn row_of(rows: &[Seq<Option<u64>>], object: u32) -> &[Option<u64>]
-    ensures { result.now ≡ slice_index_or rows.now object [] }
-{
-    match rows.get(object as usize) {
-        Some(row) => row.as_slice(),
-        None => &[],
-    }
-}
-
-/// Where a section begins in its joined one, where the rows tell.
-fn begin_at(rows: &[Seq<Option<u64>>], object: u32, at: u32) -> Option<u64>
-    ensures { result ≡ place_at rows.now object at }
-{
-    match row_of(rows, object).get(at as usize) {
-        Some(begin) => *begin,
-        None => None,
-    }
-}
-
-/// The same in 32 bits. The joined sections have fewer than 2^31 bytes.
-fn short_begin_at(
-    rows: &[Seq<Option<u64>>],
-    object: u32,
-    at: u32,
-) -> Result<Option<u32>, OutOfMemory>
-    ensures { IfOk result (λ n. n ≡ place_at rows.now object at) }
-{
-    match begin_at(rows, object, at) {
-        None => Ok(None),
-        Some(begin) => match u32::try_from(begin) {
-            Ok(begin) => Ok(Some(begin)),
-            Err(_) => Err(OutOfMemory),
-        },
-    }
-}
-
 /// What a relocation of a section writes. `rows` tells where sections begin.
-fn value_of(
-    places: &DebugPlaces,
-    rows: &[Seq<Option<u64>>],
-    d: &DebugRef<'_>,
-    r: &Reloc,
-) -> Result<u32, OutOfMemory>
-    ensures { IfOk result (λ v. v ≡ value_of (place_at rows.now d.now.object) (places_of places.now) (debug_seen d.now) r.now) }
+fn value_of(places: &DebugPlaces, rows: &[Seq<Option<u32>>], d: &DebugRef<'_>, r: &Reloc) -> u32
+    ensures { result ≡ value_of (place_at rows.now d.now.object) (places_of places.now) (debug_seen d.now) r.now }
 {
-    let place = match r.kind {
-        8 => place_at(places.bodies.as_slice(), d.object, r.index),
-        9 => short_begin_at(rows, d.object, section_index(d.symbols, r.index))?,
-        5 => place_at(places.addresses.as_slice(), d.object, r.index),
-        2 => return Ok(word_of(
+    match r.kind {
+        8 => {
+            let body = place_at(places.bodies.as_slice(), d.object, r.index);
+            word_of(d.name, r.addend, body)
+        }
+        9 => {
+            let begin = place_at(rows, d.object, section_index(d.symbols, r.index));
+            word_of(d.name, r.addend, begin)
+        }
+        5 => {
+            let address = place_at(places.addresses.as_slice(), d.object, r.index);
+            word_of(d.name, r.addend, address)
+        }
+        2 => word_of(
             d.name,
             0,
             place_at(places.slots.as_slice(), d.object, r.index),
-        )),
-        _ => return Ok(word_of(
+        ),
+        _ => word_of(
             d.name,
             0,
             place_at(places.globals.as_slice(), d.object, r.index),
-        )),
-    };
-    Ok(word_of(d.name, r.addend, place))
+        ),
+    }
 }
 
 /// Writes a word at a place.
-fn put_word(at: usize, value: u32, out: &mut [u8]) -> Result<(), OutOfMemory>
-    ensures { OnOk result (out.new ≡ over at (little value) out.old) }
+fn put_word(at: usize, value: u32, out: &mut [u8])
+    requires { at + 4 ≤ length out.old }
+    ensures is { out.new ≡ over at (little value) out.old }
+    ensures len { length out.new ≡ length out.old }
 {
-    if out.len() < 4 || out.len() - 4 < at {
-        return Err(OutOfMemory);
-    }
     out[at..at + 4].copy_from_slice(value.to_le_bytes().as_slice());
-    Ok(())
+}
+
+/// Writes the windows of so many entries, read where they stand, into a contribution.
+fn fill_entries(
+    places: &DebugPlaces,
+    rows: &[Seq<Option<u32>>],
+    d: &DebugRef<'_>,
+    count: u32,
+    end: usize,
+    entries: &[u8],
+    out: &mut [u8],
+)
+    requires { InBounds (length out.old) (entries_from count end entries.now) }
+    ensures { out.new ≡ filled (map (patch_for (place_at rows.now d.now.object) (places_of places.now) (debug_seen d.now)) (entries_from count end entries.now)) out.old }
+{
+    let mut left = entries;
+    for _ in 0..count {
+        let (r, after) = match reloc_at(end, left) {
+            Ok(x) => x,
+            Err(_) => return,
+        };
+        let value = value_of(places, rows, d, &r);
+        put_word(r.offset as usize, value, out);
+        left = after;
+    }
 }
 
 /// Writes the windows of a section into its contribution.
-fn fill(
-    places: &DebugPlaces,
-    rows: &[Seq<Option<u64>>],
-    d: &DebugRef<'_>,
-    relocs: &[Reloc],
-    out: &mut [u8],
-) -> Result<(), OutOfMemory>
-    ensures { OnOk result (out.new ≡ filled (map (patch_for (place_at rows.now d.now.object) (places_of places.now) (debug_seen d.now)) relocs.now) out.old) }
+fn fill(places: &DebugPlaces, rows: &[Seq<Option<u32>>], d: &DebugRef<'_>, out: &mut [u8])
+    requires { InBounds (length out.old) (entries_of d.now.relocs.now) }
+    ensures { out.new ≡ filled (map (patch_for (place_at rows.now d.now.object) (places_of places.now) (debug_seen d.now)) (entries_of d.now.relocs.now)) out.old }
 {
-    for r in relocs {
-        let value = value_of(places, rows, d, r)?;
-        put_word(r.offset as usize, value, out)?;
-    }
-    Ok(())
+    let front = front_of(d.relocs);
+    fill_entries(places, rows, d, front.0, d.relocs.len(), front.1, out);
 }
 
-/// The relocations that a payload holds, none where it isn't spelled.
-fn entries_of(alloc: Global, payload: &[u8]) -> Result<Seq<Reloc>, OutOfMemory>
-    ensures { IfOk result (λ rs. rs ≡ entries_of payload.now) }
-{
-    match relocs_at(alloc, payload.len(), payload) {
-        Ok(s) => Ok(s.entries),
-        Err(ReadFault::OutOfMemory) => Err(OutOfMemory),
-        Err(ReadFault::Stopped(_)) => Ok(Seq::new(alloc)),
-    }
-}
-
-/// Puts a contribution behind what is there, its windows written.
+/// Writes a contribution, its windows among it, over as many bytes.
 pub fn put_content(
-    alloc: Global,
     places: &DebugPlaces,
-    rows: &[Seq<Option<u64>>],
+    rows: &[Seq<Option<u32>>],
     d: &DebugRef<'_>,
-    out: &mut Vec<u8>,
-) -> Result<(), OutOfMemory>
-    ensures { OnOk result (out.new.items ≡ out.old.items ++ written (place_at rows.now d.now.object) (places_of places.now) (debug_seen d.now)) }
+    out: &mut [u8],
+)
+    requires stands { Stands (debug_seen d.now) }
+    requires room { length out.old ≡ length d.now.content.now }
+    ensures { out.new ≡ written (place_at rows.now d.now.object) (places_of places.now) (debug_seen d.now) }
 {
-    let relocs = entries_of(alloc, d.relocs)?;
-    let start = out.len();
-    out.extend_from_slice(d.content)?;
-    fill(places, rows, d, relocs.as_slice(), &mut out[start..])
+    out.copy_from_slice(d.content);
+    fill(places, rows, d, out);
 }

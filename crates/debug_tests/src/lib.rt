@@ -7,3 +7,5 @@ mod faults;
 mod joined;
 #[cfg(test)]
 mod links;
+#[cfg(test)]
+mod workers;

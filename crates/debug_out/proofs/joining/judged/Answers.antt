@@ -1,15 +1,18 @@
 use Rattle.std.proofs.Common.{rules, subst, sym}
 use Rattle.debug_out.specs.Grouped.{HasLengths}
-use Rattle.debug_out.specs.Inputs.{places_of}
+use Rattle.debug_out.specs.Tails.{tail_bytes}
 use Rattle.debug_out.proofs.Tail.{too_long, it_fits}
 use Rattle.debug_out.proofs.joining.judged.Goals as goal
 
-pub returns-then-needed-gt-MOST : goal.returns-then-needed-gt-MOST
-returns-then-needed-gt-MOST c = λ ds is has stand.
+pub returns-then-needed-gt-MOST-clause-told : goal.returns-then-needed-gt-MOST-clause-told
+returns-then-needed-gt-MOST-clause-told c = λ ds p is has stand.
     let measured = c.in-Some.ensures ds (subst (λ xs. HasLengths c.args.names.now.names xs ds) (sym c.as_slice.ensures.value) has.1) in
-    too_long ds (places_of c.args.places.now) c.args.names.now.names c.in-Some.len c.args.places.now.length c.in-Some-checked_add.needed is stand measured (search rules) (search rules)
+    too_long ds p c.args.names.now.names c.in-Some.len c.args.length c.in-Some-checked_add.needed is stand measured (search rules) (search rules)
 
-pub returns : goal.returns
-returns c = λ ds is has stand.
+pub returns-clause-told : goal.returns-clause-told
+returns-clause-told c = λ ds p is has stand.
     let measured = c.in-Some.ensures ds (subst (λ xs. HasLengths c.args.names.now.names xs ds) (sym c.as_slice.ensures.value) has.1) in
-    it_fits ds (places_of c.args.places.now) c.args.names.now.names c.in-Some.len c.args.places.now.length c.in-Some-checked_add.needed c.in_ok-tail.tail is stand measured (search rules) (search rules) (c.in_ok-tail.ensures ds has stand)
+    it_fits ds p c.args.names.now.names c.in-Some.len c.args.length c.in-Some-checked_add.needed (tail_bytes p c.in_ok-tail.tail) is stand measured (search rules) (search rules) (c.in_ok-tail.ensures.bytes ds p has stand)
+
+pub returns-clause-whole : goal.returns-clause-whole
+returns-clause-whole c = λ ds has stand. c.in_ok-tail.ensures.whole ds has stand
