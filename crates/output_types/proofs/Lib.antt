@@ -1,0 +1,9 @@
+mod Shapes
+mod Spaces
+pub mod Numbers
+mod Meanings
+mod Bodies
+mod Limits
+mod Names
+mod Rules
+mod Places

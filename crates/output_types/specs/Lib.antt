@@ -1,0 +1,5 @@
+pub mod Types
+pub mod Spaces
+pub mod Functions
+pub mod Checked
+pub mod Statements

@@ -1,0 +1,11 @@
+mod OneNames
+mod MeantTypes
+mod ObjectTypes
+mod Operands
+mod Bytes
+mod Parts
+mod KeyTypes
+mod OneTypes
+mod Variants
+mod Candidates
+mod Links
