@@ -132,14 +132,16 @@ def with_sums_once(rt):
 
 
 def only(rt, names):
-    """Has the command work on these crates alone, with all below them."""
+    """Has the command work on these crates alone, with the proofs of all below them."""
     wanted = {*names, *(it for name in names for it in build.below(name))}
     whole = rt.in_lanes
 
+    def left_out(crate, part):
+        return crate not in (wanted if part == "proof" else names)
+
     def in_lanes(tasks):
-        left_out = lambda given, jobs: True
-        no_edits = lambda given, jobs: ([], [], [])
-        return whole({key: it if key[0] in wanted else (*it[:3], no_edits if key[1] == "edits" else left_out) for key, it in tasks.items()})
+        passed = {"proof": True, "tests": True, "edits": ([], [], [])}
+        return whole({key: (*it[:3], lambda given, jobs, part=key[1]: passed[part]) if left_out(*key) else it for key, it in tasks.items()})
 
     rt.in_lanes = in_lanes
 
