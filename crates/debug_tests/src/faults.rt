@@ -1,6 +1,6 @@
 //! Links that are refused: sections whose relocations are broken, and outputs that are too long.
 
-use crate::links::{Link, debug_x, front, gives, is_refused, link_of, symbols};
+use crate::links::{Link, debug_x, fixed, front, gives, is_refused, link_of, symbols};
 use std::alloc::Global;
 use std::thread::Threads;
 use wl_base::Fault;
@@ -73,8 +73,8 @@ fn first_of_two<R: Threads + Sync>(rt: &R, alloc: Global) -> bool {
 
 /// A place in a section that is no debug section.
 fn other_section<R: Threads + Sync>(rt: &R, alloc: Global) -> bool {
-    let other = b"\0\x06\x05other".as_slice();
-    let relocs = b"\0\x15\x0ereloc..debug_x\x04\x01\x09\0\x02\0".as_slice();
+    let other = fixed(b"\0\x06\x05other".as_slice());
+    let relocs = fixed(b"\0\x15\x0ereloc..debug_x\x04\x01\x09\0\x02\0".as_slice());
     let object = [front(), other, debug_x(), symbols(), relocs];
     let objects = [object.as_slice()];
     is_refused(rt, alloc, link_of(&objects, &[]), &bad(1, 4))
@@ -83,7 +83,7 @@ fn other_section<R: Threads + Sync>(rt: &R, alloc: Global) -> bool {
 /// Two sections that hold relocations for one, of which the second isn't there when the object is
 /// read: no object has two.
 fn second_relocs<R: Threads + Sync>(rt: &R, alloc: Global) -> bool {
-    let relocs = b"\0\x11\x0ereloc..debug_x\x03\0".as_slice();
+    let relocs = fixed(b"\0\x11\x0ereloc..debug_x\x03\0".as_slice());
     let object = [front(), debug_x(), symbols(), relocs, relocs];
     let objects = [object.as_slice()];
     let second = Link {

@@ -1,6 +1,6 @@
 //! What stands in the joined sections, byte for byte.
 
-use crate::links::{Link, debug_x, front, gives, link_of, symbols};
+use crate::links::{Link, debug_x, fixed, front, gives, link_of, symbols};
 use std::alloc::Global;
 use std::thread::Threads;
 use test_kit::calling_object;
@@ -55,9 +55,9 @@ fn missing_places<R: Threads + Sync>(rt: &R, alloc: Global) -> bool {
 fn dead_range<R: Threads + Sync>(rt: &R, alloc: Global) -> bool {
     let object = [
         front(),
-        b"\0\x12\x0d.debug_ranges\0\0\0\0".as_slice(),
+        fixed(b"\0\x12\x0d.debug_ranges\0\0\0\0".as_slice()),
         symbols(),
-        b"\0\x1a\x13reloc..debug_ranges\x03\x01\x08\0\x01\x05".as_slice(),
+        fixed(b"\0\x1a\x13reloc..debug_ranges\x03\x01\x08\0\x01\x05".as_slice()),
     ];
     let objects = [object.as_slice()];
     let bodies = [Some(2), None];
@@ -81,7 +81,7 @@ fn offsets_are_written(rt: HostRuntime) {
 /// Two objects with sections of one name, and objects that begin in the middle of their files: the
 /// place of the section itself with an addend of 2, and the place of `f` less 3.
 fn two_objects<R: Threads + Sync>(rt: &R, alloc: Global, before: usize) -> bool {
-    let relocs = b"\0\x19\x0ereloc..debug_x\x03\x02\x09\0\x02\x02\x08\x04\0\x7d".as_slice();
+    let relocs = fixed(b"\0\x19\x0ereloc..debug_x\x03\x02\x09\0\x02\x02\x08\x04\0\x7d".as_slice());
     let object = [front(), debug_x(), symbols(), relocs];
     let objects = [object.as_slice(), object.as_slice()];
     let bodies = [Some(2)];
@@ -101,8 +101,8 @@ fn two_objects<R: Threads + Sync>(rt: &R, alloc: Global, before: usize) -> bool 
 fn names_in_turn<R: Threads + Sync>(rt: &R, alloc: Global) -> bool {
     let object = [
         front(),
-        b"\0\x0a\x08.debug_x\x01\0\x06\x05other\0\x0a\x08.debug_a\x02".as_slice(),
-        b"\0\x0a\x08.debug_x\x03\0\x0b\x09.debugger\x04".as_slice(),
+        fixed(b"\0\x0a\x08.debug_x\x01\0\x06\x05other\0\x0a\x08.debug_a\x02".as_slice()),
+        fixed(b"\0\x0a\x08.debug_x\x03\0\x0b\x09.debugger\x04".as_slice()),
         symbols(),
     ];
     let objects = [object.as_slice()];
@@ -115,7 +115,7 @@ fn names_in_turn<R: Threads + Sync>(rt: &R, alloc: Global) -> bool {
 }
 
 fn empty_section<R: Threads + Sync>(rt: &R, alloc: Global) -> bool {
-    let object = [front(), b"\0\x09\x08.debug_x".as_slice(), symbols()];
+    let object = [front(), fixed(b"\0\x09\x08.debug_x".as_slice()), symbols()];
     let objects = [object.as_slice()];
     gives(
         rt,
@@ -127,7 +127,7 @@ fn empty_section<R: Threads + Sync>(rt: &R, alloc: Global) -> bool {
 
 /// Slots take no addend, and one of them isn't there.
 fn slots<R: Threads + Sync>(rt: &R, alloc: Global) -> bool {
-    let relocs = b"\0\x17\x0ereloc..debug_x\x03\x02\x02\0\0\x02\x04\x01".as_slice();
+    let relocs = fixed(b"\0\x17\x0ereloc..debug_x\x03\x02\x02\0\0\x02\x04\x01".as_slice());
     let object = [front(), debug_x(), symbols(), relocs];
     let objects = [object.as_slice()];
     let others = [Some(1), None];
@@ -144,7 +144,7 @@ fn slots<R: Threads + Sync>(rt: &R, alloc: Global) -> bool {
 }
 
 fn nothing<R: Threads + Sync>(rt: &R, alloc: Global) -> bool {
-    let object = [front(), symbols()];
+    let object = [front(), fixed(b"".as_slice()), symbols()];
     let objects = [object.as_slice()];
     gives(rt, alloc, link_of(&objects, &[]), &[]) && gives(rt, alloc, link_of(&[], &[]), &[])
 }

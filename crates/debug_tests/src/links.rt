@@ -35,6 +35,11 @@ pub fn link_of<'a>(objects: &'a [&'a [&'a [u8]]], bodies: &'a [Option<u32>]) -> 
     }
 }
 
+/// Bytes of the program, which give a list of parts its lifetime.
+pub fn fixed(bytes: &'static [u8]) -> &'static [u8] {
+    bytes
+}
+
 /// What every object here begins with: a type, two functions and their bodies, which are three
 /// sections.
 pub fn front<'a>() -> &'a [u8] {
