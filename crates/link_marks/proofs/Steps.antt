@@ -2,7 +2,7 @@
 use Rattle.std.proofs.Common.{◌≡◌, ℕ, zero, suc, ◌+◌, ◌<◌, ◌==◌, not, inl, inr, Bool, true, false, cond, List, [], ◌∷◌, ◌++◌, length, get_or, map, filter, filter_map, take, drop, slice_get, Option, Some, None, Ok, Err, Result, option_map, option_and_then, find, option_to_list, MatchBool, All, refl, sym, ap, ◌∙◌, subst, arith, append_assoc, append-nil, add-one, drop-cons, nat_lt, lt-ltb, le-ltb}
 use Rattle.std.specs.List.{cons_option, list_all, range_with_len, position_or_len}
 use Rattle.std.specs.Str.{bytes_eq}
-use Rattle.std.proofs.lemmas.List.{take_more, map_more}
+use Rattle.std.proofs.lemmas.List.{take_more}
 use Rattle.std.proofs.lemmas.List.Elements.{filter_map-append, filter-append, filter_more}
 use Rattle.std.proofs.lemmas.List.Folds.{find_at}
 use Rattle.std.proofs.lemmas.Option.{same_Some, none-some, slice_get_past}
@@ -45,9 +45,6 @@ module _ {A : Type 0} (xs : List A) (i : ℕ) (d : A) (below : i < length xs) wh
       → new ≡ before ++ filter_map f (take (i + 1) xs)
   gained f before old new None was is now = now ∙ append-nil old ∙ added_none f before old was (sym is)
   gained f before old new (Some y) was is now = added_some f before old new y was (sym is) now
-
-  pub mapped_more : {B : Type 0} (f : A → B) (old new : List B) (y : B) → old ≡ map f (take i xs) → y ≡ f (get_or xs i d) → new ≡ old ++ y ∷ [] → new ≡ map f (take (i + 1) xs)
-  mapped_more f old new y was is now = now ∙ (λ j. was j ++ is j ∷ []) ∙ sym (map_more f xs i d below)
 
   pub kept_some : {B : Type 0} (f : A → Option B) (q : A → Bool) (before old new : List B) → old ≡ before ++ filter_map f (filter q (take i xs)) → q (get_or xs i d) ≡ true
       → new ≡ old ++ filter_map f (get_or xs i d ∷ []) → new ≡ before ++ filter_map f (filter q (take (i + 1) xs))

@@ -193,8 +193,11 @@ four : {A : Type 0} (a b c d a' b' c' d' : List A) → a ≡ a' → b ≡ b' →
 four a b c d a' b' c' d' p q r s = λ i. p i ++ q i ++ r i ++ s i
 
 module _ (ns : List (List ℕ)) (imports : List ImportKey) (t : Tables) (p : rules.Program) (is : AreTables ns imports t p) where
-  pub targets_are : targets_seen (led_numbers t.chunks t.symbols) t.named ≡ targets p
+  targets_are : targets_seen (led_numbers t.chunks t.symbols) t.named ≡ targets p
   targets_are = rows_are t.chunks ns imports t.symbols t.types t.named p.parts is.named ∙ ap (λ (table : List Chunk). map (λ (part : rules.Part). places_in table (refers part)) p.parts) is.chunks
+
+  pub led_are : (led : List (Option ℕ)) → led ≡ led_numbers t.chunks t.symbols → targets_seen led t.named ≡ targets p
+  led_are led same = ap (λ l. targets_seen l t.named) same ∙ targets_are
 
   pub roots_are : (gc : Bool) (exports : List Winner) (es : List InputSymbol) → gc ≡ p.plan.gc → exports ≡ map (told_winner ns) es → roots_seen t.chunks gc exports t.winners t.parts ≡ root_places p es
   roots_are gc exports es gc_is told =

@@ -7,7 +7,8 @@ ghost use Rattle.link_program.specs.Program.{IsProgram};
 ghost use Rattle.link_marks.specs.Alive.{numbers_set, IsLive};
 ghost use Rattle.link_marks.specs.About.{Exporting};
 
-use crate::edges::edges_of;
+use crate::chunks::numbers_led;
+use crate::edges::PartEdges;
 use crate::numbers::push_if;
 use crate::roots::roots_of;
 use link_program::{Program, Winner};
@@ -55,11 +56,17 @@ pub fn live_parts<R: Threads + Sync, G: Gate>(
     requires exports { exports.now ≡ map (told_winner program.names.now.names) w.exports }
     ensures { IfOk result (λ l. IsLive w.program l (marks.live w.program w.exports)) }
 {
-    let edges = edges_of(rt, alloc, program.tables, workers)?;
+    let symbols = program.tables.symbols.as_slice();
+    let leads = numbers_led(rt, alloc, &program.tables.chunks, symbols, workers)?;
     let roots = roots_of(alloc, program.tables, program.plan.gc, exports)?;
     if roots.len() > u32::MAX as usize {
         return Err(OutOfMemory);
     }
+    let led = leads.as_slice();
+    let edges = PartEdges {
+        rows: &program.tables.named,
+        led,
+    };
     let set = live(rt, alloc, &edges, roots.as_slice(), workers, gate)?;
     let numbers = numbers_of(alloc, &set)?;
     reached_exactly();

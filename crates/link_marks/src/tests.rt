@@ -4,13 +4,15 @@ ghost use Rattle.std.specs.List.{list_all};
 
 use crate::asked::asked_names;
 use crate::chunks::number_led;
-use crate::edges::all_targets;
+use crate::edges::PartEdges;
 use crate::exported::chosen;
+use crate::numbers::push_some;
 use crate::repeated::first_repeat;
 use crate::roots::roots_of;
 use link_plan::Plan;
 use link_program::{Content, Definition, Lead, Named, Names, Object, Part, Symbol, Tables, Winner};
 use linking_section::{EXPORTED, HIDDEN, NO_STRIP, RETAIN, SymbolKind};
+use live_mark::Edges;
 use made_symbols::Mode;
 use mark_bits::{Chunk, ChunkTable};
 use std::alloc::Global;
@@ -249,19 +251,34 @@ fn numbers(alloc: Global, tables: &Tables) -> Result<Vec<Option<u32>>, OutOfMemo
     Ok(numbers)
 }
 
+/// Whether a part refers to just these chunks, in this order.
+fn refers_to(alloc: Global, edges: &PartEdges<'_>, chunk: u32, expected: &[u32]) -> bool {
+    let mut targets = Seq::new(alloc);
+    for item in edges.row(chunk) {
+        if push_some(&mut targets, edges.target(item)).is_err() {
+            return false;
+        }
+    }
+    targets.as_slice() == expected
+}
+
 #[test]
 fn parts_refer_to_chunks(rt: HostRuntime) -> Result<(), Fail> {
     let tables = tables(rt.alloc()).ok_or("tables")?;
     let led = numbers(rt.alloc(), &tables)?;
-    let targets = all_targets(rt.alloc(), &led, &tables.named)?;
-    assert_eq!(rt; targets.len(), 4);
-    for (row, expected) in [
-        (0usize, [].as_slice()),
+    let edges = PartEdges {
+        rows: &tables.named,
+        led: &led,
+    };
+    assert_eq!(rt; edges.count(), 4);
+    for (chunk, expected) in [
+        (0u32, [].as_slice()),
         (1, &[3, 2]),
         (2, &[2, 2]),
         (3, &[]),
+        (4, &[]),
     ] {
-        assert_eq!(rt; targets.get(row), Some(expected));
+        assert!(rt; refers_to(rt.alloc(), &edges, chunk, expected));
     }
     Ok(())
 }

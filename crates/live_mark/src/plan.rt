@@ -1,9 +1,7 @@
 //! What is to be done in a round.
-ghost use Rattle.std.specs.Prelude.{◌≡◌, ◌≤◌, ◌<◌, ◌^◌, false, length, slice_index};
-ghost use Rattle.live_mark.specs.Asks.{asked_by};
+ghost use Rattle.std.specs.Prelude.{◌≡◌, ◌≤◌, ◌<◌, ◌^◌};
 ghost use Rattle.live_mark.specs.Shares.{cut};
 
-use crate::edges::Edges;
 use mark_bits::MarkBits;
 use std::alloc::Global;
 
@@ -13,7 +11,6 @@ use std::alloc::Global;
 pub struct Plan<'a> {
     pub alloc: Global,
     pub bits: &'a MarkBits,
-    pub edges: &'a Edges,
     /// Whether it is the first round.
     pub rooting: bool,
     pub places: &'a [u32],
@@ -48,17 +45,4 @@ pub fn begin(places: usize, parts: u32, part: u32) -> usize
     ensures within { result ≤ places }
 {
     places * part as usize / parts as usize
-}
-
-/// What a place of a round asks to be marked.
-pub fn asked<'a>(edges: &'a Edges, rooting: bool, places: &'a [u32], place: usize) -> &'a [u32]
-    requires place { place < length places.now }
-    requires rows { rooting ≡ false → slice_index places.now place < length edges.now.targets }
-    ensures { result.now ≡ asked_by rooting edges.now.targets (slice_index places.now place) }
-{
-    if rooting {
-        &places[place..place + 1]
-    } else {
-        edges.targets.row(places[place] as usize)
-    }
 }

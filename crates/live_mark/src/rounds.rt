@@ -24,50 +24,50 @@ use wl_outside::Gate;
 /// marked first in the round before, is divided among the workers, who mark what it refers to. Each worker
 /// passes the gate before each place of its part. A round with few places has one part, on the caller's
 /// thread; but two roots are marked by two workers, where there are so many.
-pub fn live<G: Gate, R: Threads + Sync>(
+pub fn live<E: Edges, G: Gate, R: Threads + Sync>(
     rt: &R,
     alloc: Global,
-    edges: &Edges,
+    edges: &E,
     roots: &[u32],
     workers: Workers,
     gate: &G,
 ) -> Result<MarkSet, OutOfMemory>
-    requires count { (length edges.now.targets < 2 ^ 32) × (length roots.now < 2 ^ 32) }
-    requires roots { Below (length edges.now.targets) roots.now }
-    requires targets { AllBelow edges.now.targets }
-    ensures chunks { IfOk result (λ m. m.chunks ≡ length edges.now.targets) }
-    ensures sound { IfOk result (λ m. (c : ℕ) → bit_of m.words c ≡ 1 → Reached edges.now.targets roots.now c) }
-    ensures whole { IfOk result (λ m. (c : ℕ) → Reached edges.now.targets roots.now c → bit_of m.words c ≡ 1) }
+    requires count { (length (E.targets edges.now) < 2 ^ 32) × (length roots.now < 2 ^ 32) }
+    requires roots { Below (length (E.targets edges.now)) roots.now }
+    requires targets { AllBelow (E.targets edges.now) }
+    ensures chunks { IfOk result (λ m. m.chunks ≡ length (E.targets edges.now)) }
+    ensures sound { IfOk result (λ m. (c : ℕ) → bit_of m.words c ≡ 1 → Reached (E.targets edges.now) roots.now c) }
+    ensures whole { IfOk result (λ m. (c : ℕ) → Reached (E.targets edges.now) roots.now c → bit_of m.words c ≡ 1) }
 {
-    let chunks = edges.targets.len() as u32;
+    let chunks = edges.count() as u32;
     let count = workers.count();
     let (bits, seat) = MarkBits::new(alloc, chunks, count)?;
     let opening = Plan {
         alloc,
         bits: &bits,
-        edges,
         rooting: true,
         places: roots,
         workers: count,
     };
-    let (seat, found) = round(rt, opening, gate, seat);
-    let seat = spread(rt, opening, gate, seat, found.into_chunks()?)?;
+    let (seat, found) = round(rt, opening, edges, gate, seat);
+    let seat = spread(rt, opening, edges, gate, seat, found.into_chunks()?)?;
     Ok(bits.finish(seat))
 }
 
 // The later rounds, until one marks nothing first.
-fn spread<G: Gate, R: Threads + Sync>(
+fn spread<E: Edges, G: Gate, R: Threads + Sync>(
     rt: &R,
     opening: Plan,
+    edges: &E,
     gate: &G,
     mut seat: MarkSeat,
     mut frontier: Vec<u32>,
 ) -> Result<MarkSeat, OutOfMemory>
-    requires going { Going opening.bits.now opening.edges.now.targets opening.places.now opening.workers seat frontier.items }
+    requires going { Going opening.bits.now (E.targets edges.now) opening.places.now opening.workers seat frontier.items }
     requires workers { (1 ≤ opening.workers) × (opening.workers ≤ 64) }
-    requires count { (opening.bits.now.chunks ≡ length opening.edges.now.targets) × (length opening.edges.now.targets < 2 ^ 32) }
-    requires targets { AllBelow opening.edges.now.targets }
-    ensures { IfOk result (λ s. Going opening.entry.bits.now opening.entry.edges.now.targets opening.entry.places.now opening.entry.workers s []) }
+    requires count { (opening.bits.now.chunks ≡ length (E.targets edges.now)) × (length (E.targets edges.now) < 2 ^ 32) }
+    requires targets { AllBelow (E.targets edges.now) }
+    ensures { IfOk result (λ s. Going opening.entry.bits.now (E.targets edges.now) opening.entry.places.now opening.entry.workers s []) }
 {
     while frontier.len() > 0 {
         let plan = Plan {
@@ -75,7 +75,7 @@ fn spread<G: Gate, R: Threads + Sync>(
             places: frontier.as_slice(),
             ..opening
         };
-        let (next, found) = round(rt, plan, gate, seat);
+        let (next, found) = round(rt, plan, edges, gate, seat);
         seat = next;
         frontier = found.into_chunks()?;
     }
@@ -83,44 +83,46 @@ fn spread<G: Gate, R: Threads + Sync>(
 }
 
 // A round: what each place asks for is marked.
-fn round<G: Gate, R: Threads + Sync>(
+fn round<E: Edges, G: Gate, R: Threads + Sync>(
     rt: &R,
     plan: Plan,
+    edges: &E,
     gate: &G,
     seat: MarkSeat,
 ) -> (MarkSeat, Found)
     requires workers { (1 ≤ plan.workers) × (plan.workers ≤ 64) × (seat.party.width ≡ plan.workers) }
-    requires plan { IsPlan plan.bits.now plan.rooting plan.edges.now.targets plan.places.now }
+    requires plan { IsPlan plan.bits.now plan.rooting (E.targets edges.now) plan.places.now }
     requires own { IsSeatOf plan.bits.now seat }
-    ensures { RoundDone plan.entry.bits.now seat.party (asks plan.entry.rooting plan.entry.edges.now.targets plan.entry.places.now) result.0 result.1.chunks.items result.1.refused }
+    ensures { RoundDone plan.entry.bits.now seat.party (asks plan.entry.rooting (E.targets edges.now) plan.entry.places.now) result.0 result.1.chunks.items result.1.refused }
 {
-    round_from::<Brand, G, R>(rt, plan, gate, seat)
+    round_from::<Brand, E, G, R>(rt, plan, edges, gate, seat)
 }
 
 // B is the seat's party, for the proof.
-fn round_from<B: Before, G: Gate, R: Threads + Sync>(
+fn round_from<B: Before, E: Edges, G: Gate, R: Threads + Sync>(
     rt: &R,
     plan: Plan,
+    edges: &E,
     gate: &G,
     seat: MarkSeat,
 ) -> (MarkSeat, Found)
     requires picked { B.party ≡ seat.party }
     requires workers { (1 ≤ plan.workers) × (plan.workers ≤ 64) × (seat.party.width ≡ plan.workers) }
-    requires plan { IsPlan plan.bits.now plan.rooting plan.edges.now.targets plan.places.now }
+    requires plan { IsPlan plan.bits.now plan.rooting (E.targets edges.now) plan.places.now }
     requires own { IsSeatOf plan.bits.now seat }
-    ensures { RoundDone plan.entry.bits.now seat.party (asks plan.entry.rooting plan.entry.edges.now.targets plan.entry.places.now) result.0 result.1.chunks.items result.1.refused }
+    ensures { RoundDone plan.entry.bits.now seat.party (asks plan.entry.rooting (E.targets edges.now) plan.entry.places.now) result.0 result.1.chunks.items result.1.refused }
 {
     let parts = parts_of(plan.places.len(), plan.rooting, plan.workers);
-    let share = MarkShare::<G, B>::new(plan, parts, gate, seat);
+    let share = MarkShare::<E, G, B>::new(plan, parts, edges, gate, seat);
     halved(rt, share, parts).into_seat()
 }
 
 // Works the share of a whole round.
-fn halved<'a, G: Gate, B: Before, R: Threads + Sync>(
+fn halved<'a, E: Edges, G: Gate, B: Before, R: Threads + Sync>(
     rt: &R,
-    mut share: MarkShare<'a, G, B>,
+    mut share: MarkShare<'a, E, G, B>,
     parts: u32,
-) -> MarkShare<'a, G, B>
+) -> MarkShare<'a, E, G, B>
     requires share { (share.first ≡ 0) × (share.width ≡ parts) × (share.done ≡ false) }
     requires parts { (1 ≤ parts) × (parts ≤ 64) }
     ensures { (result.round ≡ share.entry.round) × (result.first ≡ 0) × (result.width ≡ parts) × (result.done ≡ true) }

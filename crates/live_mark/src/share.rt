@@ -1,9 +1,10 @@
 //! A share of a round.
 ghost use Rattle.std.specs.Prelude.{◌≡◌, ◌≤◌, true, false};
 
+use crate::edges::Edges;
 use crate::found::Found;
-use crate::plan::{Plan, asked, begin};
-use crate::work::{cut_seat, mark_all};
+use crate::plan::{Plan, begin};
+use crate::work::{cut_seat, mark_some};
 use mark_bits::MarkSeat;
 use std::marker::{Brand, Model, PhantomData};
 use wl_fan::Share;
@@ -23,9 +24,10 @@ impl Before for Brand {
 }
 
 /// Some parts of a round, with the seat that marks for them, and what it marked first.
-pub struct MarkShare<'a, G: Gate, B: Before> {
+pub struct MarkShare<'a, E: Edges, G: Gate, B: Before> {
     plan: Plan<'a>,
     parts: u32,
+    edges: &'a E,
     gate: &'a G,
     before: PhantomData<B>,
     seat: MarkSeat,
@@ -35,32 +37,39 @@ pub struct MarkShare<'a, G: Gate, B: Before> {
     done: bool,
 }
 
-impl<'a, G: Gate, B: Before> Model for MarkShare<'a, G, B> {
+impl<'a, E: Edges, G: Gate, B: Before> Model for MarkShare<'a, E, G, B> {
     ghost use Rattle.live_mark.specs.Shares.{ShareView, IsShare};
     ghost use Rattle.live_mark.specs.Plans.{round_of};
 
     ghost Value = { ShareView };
 
-    ghost view = { λ s. record { round = round_of B.party s.parts s.plan; first = s.first; width = s.width; done = s.done } };
+    ghost view = { λ s. record { round = round_of (E.targets s.edges.now) B.party s.parts s.plan; first = s.first; width = s.width; done = s.done } };
 
-    ghost invariant = { λ s. IsShare (round_of B.party s.parts s.plan) s.seat s.found.chunks.items s.found.refused s.first s.width s.done };
+    ghost invariant = { λ s. IsShare (round_of (E.targets s.edges.now) B.party s.parts s.plan) s.seat s.found.chunks.items s.found.refused s.first s.width s.done };
 }
 
-impl<'a, G: Gate, B: Before> MarkShare<'a, G, B> {
+impl<'a, E: Edges, G: Gate, B: Before> MarkShare<'a, E, G, B> {
     ghost use Rattle.mark_bits.specs.Seats.{IsSeatOf};
     ghost use Rattle.live_mark.specs.Asks.{RoundDone};
     ghost use Rattle.live_mark.specs.Shares.{IsRound, asked_of};
     ghost use Rattle.live_mark.specs.Plans.{round_of};
 
     /// All parts of the round.
-    pub fn new(plan: Plan<'a>, parts: u32, gate: &'a G, seat: MarkSeat) -> MarkShare<'a, G, B>
-        requires round { IsRound (round_of B.party parts plan) }
-        requires seat { IsSeatOf (round_of B.party parts plan).bits seat × (seat.party ≡ B.party) }
-        ensures { (result.round ≡ round_of B.party parts plan.entry) × (result.first ≡ 0) × (result.width ≡ parts) × (result.done ≡ false) }
+    pub fn new(
+        plan: Plan<'a>,
+        parts: u32,
+        edges: &'a E,
+        gate: &'a G,
+        seat: MarkSeat,
+    ) -> MarkShare<'a, E, G, B>
+        requires round { IsRound (round_of (E.targets edges.now) B.party parts plan) }
+        requires seat { IsSeatOf (round_of (E.targets edges.now) B.party parts plan).bits seat × (seat.party ≡ B.party) }
+        ensures { (result.round ≡ round_of (E.targets edges.now) B.party parts plan.entry) × (result.first ≡ 0) × (result.width ≡ parts) × (result.done ≡ false) }
     {
         MarkShare {
             plan,
             parts,
+            edges,
             gate,
             before: PhantomData,
             seat,
@@ -79,6 +88,7 @@ impl<'a, G: Gate, B: Before> MarkShare<'a, G, B> {
         let MarkShare {
             plan: _,
             parts: _,
+            edges: _,
             gate: _,
             before: _,
             seat,
@@ -91,7 +101,7 @@ impl<'a, G: Gate, B: Before> MarkShare<'a, G, B> {
     }
 }
 
-impl<'a, G: Gate, B: Before> Share for MarkShare<'a, G, B> {
+impl<'a, E: Edges, G: Gate, B: Before> Share for MarkShare<'a, E, G, B> {
     ghost use Rattle.std.specs.Prelude.{◌≡◌, refl};
     ghost use Rattle.std.proofs.Common.{sym, ◌∙◌};
 
@@ -109,6 +119,7 @@ impl<'a, G: Gate, B: Before> Share for MarkShare<'a, G, B> {
         MarkShare {
             plan: self.plan,
             parts: self.parts,
+            edges: self.edges,
             gate: self.gate,
             before: PhantomData,
             seat,
@@ -123,6 +134,7 @@ impl<'a, G: Gate, B: Before> Share for MarkShare<'a, G, B> {
         let MarkShare {
             plan: _,
             parts: _,
+            edges: _,
             gate: _,
             before: _,
             seat,
@@ -140,17 +152,25 @@ impl<'a, G: Gate, B: Before> Share for MarkShare<'a, G, B> {
     fn work(&mut self, worker: u32) {
         let Plan {
             bits,
-            edges,
             rooting,
             places,
             ..
         } = self.plan;
+        let edges = self.edges;
         let from = begin(places.len(), self.parts, self.first);
         let to = begin(places.len(), self.parts, self.first + self.width);
         for place in from..to {
             self.gate.turn(Phase::Mark, worker, place as u32);
-            let asked = asked(edges, rooting, places, place);
-            mark_all(bits, &mut self.seat, asked, &mut self.found);
+            let chunk = places[place];
+            if rooting {
+                mark_some(bits, &mut self.seat, Some(chunk), &mut self.found);
+                continue;
+            }
+            let row = edges.row(chunk);
+            for item in row {
+                let target = edges.target(item);
+                mark_some(bits, &mut self.seat, target, &mut self.found);
+            }
         }
         self.done = true;
     }

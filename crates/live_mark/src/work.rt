@@ -1,5 +1,5 @@
 //! What a share does with its seat.
-ghost use Rattle.std.specs.Prelude.{◌≡◌, ◌-◌, ◌<◌, ◌≤◌, [], ◌++◌};
+ghost use Rattle.std.specs.Prelude.{◌≡◌, ◌-◌, ◌<◌, ◌≤◌, [], option_to_list};
 ghost use Rattle.mark_bits.specs.Seats.{IsSeatOf};
 ghost use Rattle.live_mark.specs.Asks.{Below};
 ghost use Rattle.live_mark.specs.Shares.{Adds};
@@ -7,17 +7,18 @@ ghost use Rattle.live_mark.specs.Shares.{Adds};
 use crate::found::Found;
 use mark_bits::{MarkBits, MarkSeat};
 
-/// Marks these chunks, and notes those that it marks first.
-pub fn mark_all(bits: &MarkBits, seat: &mut MarkSeat, asked: &[u32], found: &mut Found)
+/// Marks a chunk, if there is one, and notes it where it is marked first.
+pub fn mark_some(bits: &MarkBits, seat: &mut MarkSeat, asked: Option<u32>, found: &mut Found)
     requires own { IsSeatOf bits.now seat.old }
-    requires below { Below bits.now.chunks asked.now }
+    requires below { Below bits.now.chunks (option_to_list asked) }
     ensures own { IsSeatOf bits.now seat.new }
-    ensures adds { Adds seat.old seat.new asked.now found.old.chunks.items found.new.chunks.items found.old.refused found.new.refused }
+    ensures adds { Adds seat.old seat.new (option_to_list asked) found.old.chunks.items found.new.chunks.items found.old.refused found.new.refused }
 {
-    for &chunk in asked {
-        if bits.mark(seat, chunk) {
-            found.note(chunk);
-        }
+    let Some(chunk) = asked else {
+        return;
+    };
+    if bits.mark(seat, chunk) {
+        found.note(chunk);
     }
 }
 

@@ -1,5 +1,5 @@
 -- What a test has looked at can be marked.
-use Rattle.std.proofs.Common.{◌≡◌, ℕ, zero, suc, ◌<◌, Bool, true, false, ◌&&◌, List, [], ◌∷◌, length, get_or, nat_lt, refl, arith}
+use Rattle.std.proofs.Common.{◌≡◌, ℕ, zero, suc, ◌<◌, Bool, true, false, ◌&&◌, List, [], ◌∷◌, length, get_or, nat_lt, filter_map, Some, refl, ap, arith}
 use Rattle.std.proofs.lemmas.Bool.Decides.{nat_tests}
 use mathlib.Core.Logic.{dite}
 use native.Mathlib.Decide.{ℕ_discrete}
@@ -26,3 +26,8 @@ row_below n (row ∷ rows) e (suc c) t m = let h = both (all_below n row) (rows_
 
 pub all_below_from : (rows : List (List ℕ)) → rows_below (length rows) rows ≡ true → AllBelow rows
 all_below_from rows e = row_below (length rows) rows e
+
+-- each item leads to a chunk
+pub all_lead : (xs : List ℕ) → filter_map (λ c. Some c) xs ≡ xs
+all_lead [] = refl
+all_lead (x ∷ xs) = ap (λ (l : List ℕ). x ∷ l) (all_lead xs)

@@ -14,6 +14,34 @@ use wl_fan::Workers;
 use wl_lists::Lists;
 use wl_outside::{Gate, Phase};
 
+/// A list of chunks for each chunk.
+#[derive(Drop)]
+struct Graph {
+    targets: Lists<u32>,
+}
+
+impl Edges for Graph {
+    ghost use Rattle.std.specs.Prelude.{Some};
+
+    type Item = u32;
+
+    ghost targets = { λ s. s.targets };
+
+    ghost target = { λ s item. Some item };
+
+    fn count(&self) -> usize {
+        self.targets.len()
+    }
+
+    fn row(&self, chunk: u32) -> &[u32] {
+        self.targets.row(chunk as usize)
+    }
+
+    fn target(&self, item: &u32) -> Option<u32> {
+        Some(*item)
+    }
+}
+
 fn in_range(count: usize, chunks: &[u32]) -> bool
     ensures { result ≡ all_below count chunks.now }
 {
@@ -36,27 +64,27 @@ fn rows_in_range(count: usize, rows: &Lists<u32>) -> bool
 fn marked<G: Gate, R: Threads + Sync>(
     rt: &R,
     alloc: Global,
-    edges: &Edges,
+    graph: &Graph,
     roots: &[u32],
     workers: u32,
     gate: &G,
 ) -> Option<MarkSet> {
     let workers = Workers::new(workers)?;
-    let count = edges.targets.len();
+    let count = graph.targets.len();
     if count >= 1 << 32 || roots.len() >= 1 << 32 {
         return None;
     }
     if !in_range(count, roots) {
         return None;
     }
-    if !rows_in_range(count, &edges.targets) {
+    if !rows_in_range(count, &graph.targets) {
         return None;
     }
-    live(rt, alloc, edges, roots, workers, gate).ok()
+    live(rt, alloc, graph, roots, workers, gate).ok()
 }
 
 // 0 refers to 1 and 2, these to 3, and 4 stands by itself.
-fn diamond(alloc: Global) -> Result<Edges, OutOfMemory> {
+fn diamond(alloc: Global) -> Result<Graph, OutOfMemory> {
     let mut targets = Lists::new(alloc);
     for row in [
         [1u32, 2].as_slice(),
@@ -67,12 +95,12 @@ fn diamond(alloc: Global) -> Result<Edges, OutOfMemory> {
     ] {
         targets.push(row)?;
     }
-    Ok(Edges { targets })
+    Ok(Graph { targets })
 }
 
 // 0 refers to 9,000 chunks, each of these to one more, and the first of those to a further one. The last
 // chunk stands by itself.
-fn wide(alloc: Global) -> Result<Edges, OutOfMemory> {
+fn wide(alloc: Global) -> Result<Graph, OutOfMemory> {
     let mut targets = Lists::new(alloc);
     let mut all = Seq::new(alloc);
     for chunk in 1..=9000u32 {
@@ -85,15 +113,15 @@ fn wide(alloc: Global) -> Result<Edges, OutOfMemory> {
     for _ in 0..9001 {
         targets.push([].as_slice())?;
     }
-    Ok(Edges { targets })
+    Ok(Graph { targets })
 }
 
 #[test]
 fn marks_what_the_roots_reach(rt: HostRuntime) -> Result<(), Fail> {
-    let edges = diamond(rt.alloc())?;
+    let graph = diamond(rt.alloc())?;
     for workers in [1u32, 2, 64] {
         let gate = Tally::new(Phase::Mark);
-        let set = marked(&rt, rt.alloc(), &edges, &[0], workers, &gate).ok_or("marks")?;
+        let set = marked(&rt, rt.alloc(), &graph, &[0], workers, &gate).ok_or("marks")?;
         assert_eq!(rt; set.chunks, 5);
         assert_eq!(rt; set.words.as_slice(), [15].as_slice());
         // the root, then 0, then 1 and 2, then 3 alone, which both refer to and one of them marked first
@@ -104,10 +132,10 @@ fn marks_what_the_roots_reach(rt: HostRuntime) -> Result<(), Fail> {
 
 #[test]
 fn no_roots_reach_nothing(rt: HostRuntime) -> Result<(), Fail> {
-    let edges = diamond(rt.alloc())?;
+    let graph = diamond(rt.alloc())?;
     for workers in [1u32, 2, 64] {
         let gate = Tally::new(Phase::Mark);
-        let set = marked(&rt, rt.alloc(), &edges, &[], workers, &gate).ok_or("marks")?;
+        let set = marked(&rt, rt.alloc(), &graph, &[], workers, &gate).ok_or("marks")?;
         assert_eq!(rt; set.words.as_slice(), [0].as_slice());
         // the first round comes to nothing, and there is no other
         assert_eq!(rt; gate.jobs(), Some(0));
@@ -117,10 +145,10 @@ fn no_roots_reach_nothing(rt: HostRuntime) -> Result<(), Fail> {
 
 #[test]
 fn a_wide_frontier_is_divided(rt: HostRuntime) -> Result<(), Fail> {
-    let edges = wide(rt.alloc())?;
+    let graph = wide(rt.alloc())?;
     for (workers, greatest) in [(1u32, 0u64), (2, 1), (64, 2)] {
         let gate = Tally::new(Phase::Mark);
-        let set = marked(&rt, rt.alloc(), &edges, &[0], workers, &gate).ok_or("marks")?;
+        let set = marked(&rt, rt.alloc(), &graph, &[0], workers, &gate).ok_or("marks")?;
         assert_eq!(rt; gate.greatest_worker(), greatest);
         assert_eq!(rt; set.chunks, 18003);
         assert!(rt; set.has(0) && set.has(9000) && set.has(18001) && !set.has(18002));
@@ -130,10 +158,10 @@ fn a_wide_frontier_is_divided(rt: HostRuntime) -> Result<(), Fail> {
 
 #[test]
 fn two_workers_mark_at_once(rt: HostRuntime) -> Result<(), Fail> {
-    let edges = diamond(rt.alloc())?;
+    let graph = diamond(rt.alloc())?;
     for workers in [2u32, 64] {
         let gate = Meeting::new(Phase::Mark);
-        let set = marked(&rt, rt.alloc(), &edges, &[0, 4], workers, &gate).ok_or("marks")?;
+        let set = marked(&rt, rt.alloc(), &graph, &[0, 4], workers, &gate).ok_or("marks")?;
         assert_eq!(rt; set.words.as_slice(), [31].as_slice());
         assert!(rt; gate.was_met());
     }

@@ -4,7 +4,8 @@ use Rattle.link_program.specs.Told.{told_winner}
 use Rattle.link_program.specs.Program.{IsProgram}
 use Rattle.link_program.specs.mark_bits.Reach.{Reached}
 use Rattle.live_mark.specs.Asks.{Below, AllBelow}
-use Rattle.link_marks.proofs.Targets.{targets_are, roots_are, targets_below, roots_below, targets_count}
+use Rattle.link_marks.specs.Seen.{led_numbers}
+use Rattle.link_marks.proofs.Targets.{led_are, roots_are, targets_below, roots_below, targets_count}
 use Rattle.link_marks.proofs.Marked.{marked_live}
 use Rattle.link_marks.proofs.live.live_parts.Goals as goal
 
@@ -15,7 +16,7 @@ live-requires-clause-roots g c κs within =
     let p = g.w.program in
     let is : IsProgram Plain c.args.program p = search rules in
     let told : c.args.exports.now ≡ map (told_winner ns) g.w.exports = search rules in
-    let t = c.in_ok-edges.ensures ∙ targets_are ns imports c.args.program.tables.now p is.tables in
+    let t = led_are ns imports c.args.program.tables.now p is.tables c.as_slice-led.result.now (c.as_slice-led.ensures.value ∙ c.in_ok-leads.ensures ∙ ap (led_numbers c.args.program.tables.now.chunks) c.as_slice-symbols.ensures) in
     let r = c.as_slice.ensures ∙ c.in_ok-roots.ensures ∙ roots_are ns imports c.args.program.tables.now p is.tables c.args.program.plan.now.gc c.args.exports.now g.w.exports (ap (λ plan. plan.gc) is.plan) told in
     subst (λ (x : List (List ℕ) × List ℕ). Below (length x.0) x.1) (sym (λ i. (t i, r i))) (roots_below p g.w.exports)
 
@@ -26,7 +27,7 @@ live-requires-clause-targets g c κs within =
     let p = g.w.program in
     let is : IsProgram Plain c.args.program p = search rules in
     let told : c.args.exports.now ≡ map (told_winner ns) g.w.exports = search rules in
-    let t = c.in_ok-edges.ensures ∙ targets_are ns imports c.args.program.tables.now p is.tables in
+    let t = led_are ns imports c.args.program.tables.now p is.tables c.as_slice-led.result.now (c.as_slice-led.ensures.value ∙ c.in_ok-leads.ensures ∙ ap (led_numbers c.args.program.tables.now.chunks) c.as_slice-symbols.ensures) in
     subst AllBelow (sym t) (targets_below p)
 
 pub returns : goal.returns
@@ -36,7 +37,7 @@ returns g c =
     let p = g.w.program in
     let is : IsProgram Plain c.args.program p = search rules in
     let told : c.args.exports.now ≡ map (told_winner ns) g.w.exports = search rules in
-    let t = c.in_ok-edges.ensures ∙ targets_are ns imports c.args.program.tables.now p is.tables in
+    let t = led_are ns imports c.args.program.tables.now p is.tables c.as_slice-led.result.now (c.as_slice-led.ensures.value ∙ c.in_ok-leads.ensures ∙ ap (led_numbers c.args.program.tables.now.chunks) c.as_slice-symbols.ensures) in
     let r = c.as_slice.ensures ∙ c.in_ok-roots.ensures ∙ roots_are ns imports c.args.program.tables.now p is.tables c.args.program.plan.now.gc c.args.exports.now g.w.exports (ap (λ plan. plan.gc) is.plan) told in
     let e : ◌≡◌ {A = List (List ℕ) × List ℕ} _ _ = λ i. (t i, r i) in
     marked_live p g.w.exports (record { set = c.in_ok-set.set; numbers = c.in_ok-numbers.numbers }) c.reached_exactly.ensures (c.in_ok-set.ensures.chunks ∙ ap length t)

@@ -6,8 +6,8 @@ use Rattle.live_mark.proofs.rounds.spread.Goals as goal
 pub round-next-requires-clause-plan : goal.round-next-requires-clause-plan
 round-next-requires-clause-plan g c κs within =
     let p = c.args.opening in
-    subst (λ (l : List ℕ). IsPlan p.bits.now false p.edges.now.targets l) (sym c.as_slice.ensures.value)
-    (frontier_plan p.bits.now p.edges.now.targets p.places.now p.workers c.loop-frontier.seat c.loop-frontier.frontier.items c.requires.count.0 c.requires.count.1 c.requires.targets c.loop-frontier.invariant)
+    subst (λ (l : List ℕ). IsPlan p.bits.now false (g.E.Edges.targets c.args.edges.now) l) (sym c.as_slice.ensures.value)
+    (frontier_plan p.bits.now (g.E.Edges.targets c.args.edges.now) p.places.now p.workers c.loop-frontier.seat c.loop-frontier.frontier.items c.requires.count.0 c.requires.count.1 c.requires.targets c.loop-frontier.invariant)
 
 pub loop-frontier-smaller : goal.loop-frontier-smaller
 loop-frontier-smaller g c =
@@ -26,6 +26,6 @@ loop-frontier-preserved g c =
     let p = c.args.opening in
     let noted = c.in_ok-frontier.ensures in
     let s = c.loop-frontier.seat in
-    let done : RoundDone p.bits.now s.party (asks false p.edges.now.targets c.loop-frontier.frontier.items) c.round-next.result.0 c.in_ok-frontier.frontier.items c.round-next.result.1.refused =
-    subst (λ (z : List ℕ × List ℕ). RoundDone p.bits.now s.party (asks false p.edges.now.targets z.0) c.round-next.result.0 z.1 c.round-next.result.1.refused) (λ i. (c.as_slice.ensures.value i, sym noted.1 i)) c.round-next.ensures in
-    going_next p.bits.now p.edges.now.targets p.places.now p.workers s c.round-next.result.0 c.loop-frontier.frontier.items c.in_ok-frontier.frontier.items c.round-next.result.1.refused c.loop-frontier.invariant done noted.0
+    let done : RoundDone p.bits.now s.party (asks false (g.E.Edges.targets c.args.edges.now) c.loop-frontier.frontier.items) c.round-next.result.0 c.in_ok-frontier.frontier.items c.round-next.result.1.refused =
+    subst (λ (z : List ℕ × List ℕ). RoundDone p.bits.now s.party (asks false (g.E.Edges.targets c.args.edges.now) z.0) c.round-next.result.0 z.1 c.round-next.result.1.refused) (λ i. (c.as_slice.ensures.value i, sym noted.1 i)) c.round-next.ensures in
+    going_next p.bits.now (g.E.Edges.targets c.args.edges.now) p.places.now p.workers s c.round-next.result.0 c.loop-frontier.frontier.items c.in_ok-frontier.frontier.items c.round-next.result.1.refused c.loop-frontier.invariant done noted.0

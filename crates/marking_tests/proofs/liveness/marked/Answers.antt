@@ -11,5 +11,5 @@ live-requires-clause-roots g c κs within =
 
 pub live-requires-clause-targets : goal.live-requires-clause-targets
 live-requires-clause-targets g c κs within =
-    let all : rows_below c.len-count.result c.args.edges.now.targets ≡ true = search rules in
-    all_below_from c.args.edges.now.targets (subst (λ (n : ℕ). rows_below n c.args.edges.now.targets ≡ true) c.len-count.ensures all)
+    let all : rows_below c.len-count.result c.args.graph.now.targets ≡ true = search rules in
+    all_below_from c.args.graph.now.targets (subst (λ (n : ℕ). rows_below n c.args.graph.now.targets ≡ true) c.len-count.ensures all)
