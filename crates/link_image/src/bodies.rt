@@ -5,10 +5,12 @@ ghost use Rattle.std.specs.List.{list_all};
 ghost use Rattle.link_program.specs.image_emit.declared.tree.Source.TheVariants.{Own};
 ghost use Rattle.link_program.specs.link_rules.Program.{chunk_at};
 ghost use Rattle.link_program.specs.Look.{chunk_number};
+ghost use Rattle.link_program.specs.Program.{ChunksDiffer};
 ghost use Rattle.link_layout.specs.Seen.{Looked};
 ghost use Rattle.link_layout.specs.Layout.{looked};
 ghost use Rattle.link_image.specs.Sections.{call_seen, calls_seen, file_seen, body_seen, is_plain};
 
+use crate::passing::Passing;
 use image_emit::Source;
 use link_layout::{Layout, Numbering};
 use link_program::{
@@ -81,11 +83,11 @@ fn linker_calls(alloc: Global, layout: Layout<'_>, index: u32) -> Result<Seq<u32
     }
 }
 
-// The bytes of the function of an object.
-fn file(alloc: Global, tables: &Tables, chunk: Chunk) -> Source
-    ensures { (k : Looked) → k.tables ≡ tables.now → result ≡ file_seen k (chunk_number tables.now.chunks chunk) }
+// The bytes of the part of a number.
+fn file(alloc: Global, tables: &Tables, number: Option<u32>) -> Source
+    ensures { (k : Looked) → k.tables ≡ tables.now → result ≡ file_seen k number }
 {
-    match chunk_number(&tables.chunks, chunk) {
+    match number {
         Some(number) => Source::File(part_at(tables, number).source),
         None => Source::Own(Seq::new(alloc)),
     }
@@ -99,8 +101,14 @@ fn stub(alloc: Global) -> Result<Source, OutOfMemory>
     Ok(Source::Own(bytes))
 }
 
-// The body of a defined function.
-fn body(alloc: Global, layout: Layout<'_>, key: FunctionKey) -> Result<Option<Source>, OutOfMemory>
+// The body of a defined function. Those of objects are asked for in the order of their parts.
+fn body(
+    alloc: Global,
+    layout: Layout<'_>,
+    passing: &mut Passing<'_>,
+    key: FunctionKey,
+) -> Result<Option<Source>, OutOfMemory>
+    requires { ChunksDiffer layout.program.tables.now.chunks }
     ensures { IfOk result (λ s. s ≡ body_seen (looked layout.entry) key) }
 {
     match key {
@@ -116,7 +124,8 @@ fn body(alloc: Global, layout: Layout<'_>, key: FunctionKey) -> Result<Option<So
                 kind: chunk_kinds::FUNCTION,
                 index,
             };
-            Ok(Some(file(alloc, layout.program.tables, chunk)))
+            let number = passing.number(layout.program.tables, chunk);
+            Ok(Some(file(alloc, layout.program.tables, number)))
         }
         FunctionKey::Stub(_) => {
             let stub = stub(alloc)?;
@@ -152,27 +161,34 @@ fn add(bodies: &mut Seq<Source>, body: Option<Source>) -> Result<(), OutOfMemory
 }
 
 // The bodies of all functions that have one.
-fn all_bodies(alloc: Global, layout: Layout<'_>) -> Result<Seq<Source>, OutOfMemory>
+fn all_bodies(alloc: Global, layout: Layout<'_>, live: &[u32]) -> Result<Seq<Source>, OutOfMemory>
+    requires { ChunksDiffer layout.program.tables.now.chunks }
     ensures { IfOk result (λ bodies. bodies ≡ filter_map (body_seen (looked layout.entry)) layout.entry.numbering.now.functions) }
 {
     let keys = layout.numbering.functions();
-    let mut bodies = Seq::new(alloc);
+    let mut bodies = Seq::with_room(alloc, keys.len())?;
+    let mut passing = Passing::new(live);
     for key in keys {
-        let body = body(alloc, layout, *key)?;
+        let body = body(alloc, layout, &mut passing, *key)?;
         add(&mut bodies, body)?;
     }
     Ok(bodies)
 }
 
-/// The bodies of the defined functions. Another function of the linker than the one that calls the constructors, which a static
-/// output never has, is answered as want of memory.
-pub(crate) fn bodies(alloc: Global, layout: Layout<'_>) -> Result<Seq<Source>, OutOfMemory>
+/// The bodies of the defined functions. `live` has the numbers of the live parts. Another function of the linker than the one that calls
+/// the constructors, which a static output never has, is answered as want of memory.
+pub(crate) fn bodies(
+    alloc: Global,
+    layout: Layout<'_>,
+    live: &[u32],
+) -> Result<Seq<Source>, OutOfMemory>
+    requires { ChunksDiffer layout.program.tables.now.chunks }
     ensures is { IfOk result (λ bodies. bodies ≡ filter_map (body_seen (looked layout.entry)) layout.entry.numbering.now.functions) }
     ensures plain { IfOk result (λ bodies. list_all is_plain layout.entry.numbering.now.functions ≡ true) }
 {
     if !are_plain(layout.numbering.functions()) {
         return Err(OutOfMemory);
     }
-    let bodies = all_bodies(alloc, layout)?;
+    let bodies = all_bodies(alloc, layout, live)?;
     Ok(bodies)
 }

@@ -9,6 +9,7 @@ mod imports;
 mod made_globals;
 mod making;
 mod memory;
+mod passing;
 mod placed;
 mod types;
 

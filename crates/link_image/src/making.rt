@@ -4,7 +4,7 @@ ghost use Rattle.std.specs.List.{list_all};
 ghost use Rattle.link_program.specs.made_symbols.declared.mode.Mode.TheVariants.{Plain};
 ghost use Rattle.link_program.specs.link_rules.Output as output;
 ghost use Rattle.link_program.specs.Told.{told_winner};
-ghost use Rattle.link_program.specs.Program.{IsProgram};
+ghost use Rattle.link_program.specs.Program.{IsProgram, ChunksDiffer};
 ghost use Rattle.link_program.specs.Live.{Stage, AreLive};
 ghost use Rattle.link_marks.specs.About.{Exporting};
 ghost use Rattle.link_program.specs.wasm_types.declared.const_expr.ConstExpr.TheVariants as constants;
@@ -144,6 +144,7 @@ fn make_defined(
 }
 
 fn make_held(alloc: Global, layout: Layout<'_>, live: &[u32]) -> Result<Held, OutOfMemory>
+    requires { ChunksDiffer layout.program.tables.now.chunks }
     ensures elements { IfOk result (λ h. h.elements ≡ elements_seen (takers_of layout.entry.numbering.now)) }
     ensures bodies { IfOk result (λ h. h.bodies ≡ filter_map (body_seen (looked layout.entry)) layout.entry.numbering.now.functions) }
     ensures plain { IfOk result (λ h. list_all is_plain layout.entry.numbering.now.functions ≡ true) }
@@ -151,7 +152,7 @@ fn make_held(alloc: Global, layout: Layout<'_>, live: &[u32]) -> Result<Held, Ou
     ensures blocks { IfOk result (λ h. h.blocks ≡ blocks_seen layout.entry live.now) }
 {
     let elements = elements(alloc, layout.numbering.takers())?;
-    let bodies = bodies(alloc, layout)?;
+    let bodies = bodies(alloc, layout, live)?;
     let blocks = blocks(alloc, layout, live)?;
     let data_offset = offset(blocks.as_slice())?;
     Ok(Held {

@@ -1,17 +1,14 @@
--- Numbers of keys by their codes.
+-- Numbers of keys by their codes, and slots.
 use Rattle.std.proofs.Common.{◌≡◌, ℕ, ◌+◌, ◌<◌, ◌^◌, List, map, length, position, Option, Some, None, unwrap_or, refl, sym, ap, ◌∙◌, arith}
 use Rattle.std.proofs.lemmas.List.Quantifiers.{position-Some}
 use Rattle.link_keys.specs.link_program.index_layout.Numbers.{number_by}
 use Rattle.link_keys.specs.link_program.declared.keys.FunctionKey.{FunctionKey}
 use Rattle.link_keys.specs.link_program.declared.keys.GlobalKey.{GlobalKey}
 use Rattle.link_keys.specs.link_program.Keys.{same_function_key, same_global_key}
-use Rattle.link_keys.specs.Codes.{same_code, function_code, global_code}
+use Rattle.link_keys.specs.Codes.{same_code, global_code}
 use Rattle.link_numbers.specs.Places.{place_of}
-use Rattle.link_numbers.proofs.Knows.{same_function_code, same_global_code}
+use Rattle.link_numbers.proofs.Knows.{same_global_code}
 use Rattle.link_keys.proofs.Positions.{number_of_map}
-
-pub function_coded : (keys : List FunctionKey) (key : FunctionKey) → unwrap_or (place_of (map function_code keys) (function_code key)) 0 ≡ number_by same_function_key keys key
-function_coded keys key = number_of_map function_code same_function_key same_code key keys (λ k d below. same_function_code key _)
 
 pub global_coded : (keys : List GlobalKey) (key : GlobalKey) → unwrap_or (place_of (map global_code keys) (global_code key)) 0 ≡ number_by same_global_key keys key
 global_coded keys key = number_of_map global_code same_global_key same_code key keys (λ k d below. same_global_code key _)

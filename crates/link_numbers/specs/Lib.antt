@@ -1,4 +1,5 @@
 pub mod Places
+pub mod Rows
 pub mod Knows
 pub mod Numbered
 pub mod Laws

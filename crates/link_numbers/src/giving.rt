@@ -10,18 +10,18 @@ ghost use Rattle.link_keys.specs.link_program.Keys.{same_function_key};
 ghost use Rattle.link_keys.specs.link_program.Program.{IsProgram};
 ghost use Rattle.link_keys.specs.link_program.Stand.{PartsStand};
 ghost use Rattle.link_keys.specs.link_program.Live.{AreLive, AllMeant};
-ghost use Rattle.link_keys.specs.Codes.{function_code, global_code};
+ghost use Rattle.link_keys.specs.Codes.{global_code};
 ghost use Rattle.link_numbers.specs.Places.{ArePlaces};
 ghost use Rattle.link_keys.specs.Lists.{slots_listed};
 ghost use Rattle.link_keys.specs.Types.{type_number_in};
 ghost use Rattle.link_numbers.specs.Numbered.{Linked, IsNumbering, TellsOverflow, numbered_by, numbered};
 
+use crate::functions::FunctionNumbers;
 use crate::numbering::Numbering;
 use crate::places::Places;
 use link_keys::{
-    Entries, FunctionKey, GlobalKey, Marks, Program, TypeNumbers, Winner, function_code,
-    function_codes, functions_listed, global_codes, globals_listed, marks_of, numbers_in,
-    slots_taken, types_told,
+    Entries, FunctionKey, GlobalKey, Marks, Program, TypeNumbers, Winner, functions_listed,
+    global_codes, globals_listed, marks_of, numbers_in, slots_taken, types_told,
 };
 use std::alloc::Global;
 use std::thread::Threads;
@@ -52,30 +52,19 @@ pub(crate) fn check_slots(count: usize) -> Result<(), LayoutError>
     Ok(())
 }
 
-/// The numbers of the functions that have slots, by the places of the functions.
-#[tactic(auto, using(crate::proofs::Coded::function_coded))]
+/// The numbers of the functions that have slots.
 fn takers_of(
     alloc: Global,
-    places: &Places,
-    functions: &[FunctionKey],
+    functions: &FunctionNumbers,
     slots: &[FunctionKey],
 ) -> Result<Vec<u32>, OutOfMemory>
-    requires { ArePlaces (map function_code functions.now) places.now }
     ensures { IfOk result (λ takers. takers.items ≡ map (number_by same_function_key functions.now) slots.now) }
 {
     let mut takers = Vec::with_capacity(alloc, slots.len())?;
     for key in slots {
-        takers.push(places.of_or_first(function_code(*key)))?;
+        takers.push(functions.of_or_first(*key))?;
     }
     Ok(takers)
-}
-
-/// The places of functions.
-fn places_of_functions(alloc: Global, keys: &[FunctionKey]) -> Result<Places, OutOfMemory>
-    ensures { IfOk result (λ places. ArePlaces (map function_code keys.now) places) }
-{
-    let codes = function_codes(alloc, keys)?;
-    Places::new(alloc, codes.as_slice())
 }
 
 /// The places of globals.
@@ -107,23 +96,16 @@ pub(crate) fn numbering_of(
       type_numbers = map (type_number_in types.table) known.now;
     }) }
 {
-    let function_places = places_of_functions(alloc, functions.as_slice())?;
-    let slot_places = places_of_functions(alloc, slots.as_slice())?;
+    let functions = FunctionNumbers::new(alloc, functions)?;
+    let takers = takers_of(alloc, &functions, slots.as_slice())?;
+    let slots = FunctionNumbers::new(alloc, slots)?;
     let global_places = places_of_globals(alloc, globals.as_slice())?;
-    let takers = takers_of(
-        alloc,
-        &function_places,
-        functions.as_slice(),
-        slots.as_slice(),
-    )?;
     let (mut table, numbers) = types.into_parts();
     let type_count = table.types().len();
     let type_numbers = numbers_in(alloc, &mut table, known)?;
     Ok(Numbering {
-        functions: Seq::from_vec(functions),
-        function_places,
-        slots: Seq::from_vec(slots),
-        slot_places,
+        functions,
+        slots,
         takers: Seq::from_vec(takers),
         first_slot: FIRST_SLOT,
         globals: Seq::from_vec(globals),

@@ -1,6 +1,7 @@
 //! The numbers of all things of the output: functions, slots of the table, globals and types.
 #![tactic(auto)]
 
+mod functions;
 mod giving;
 mod laws;
 mod numbering;

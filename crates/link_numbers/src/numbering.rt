@@ -4,8 +4,9 @@ ghost use Rattle.link_keys.specs.link_program.index_layout.Numbers.{number_by};
 ghost use Rattle.link_keys.specs.link_program.Keys.{same_function_key, same_global_key};
 ghost use Rattle.link_numbers.specs.Numbered.{is_import, is_import_global};
 
+use crate::functions::FunctionNumbers;
 use crate::places::Places;
-use link_keys::{FunctionKey, GlobalKey, function_code, global_code};
+use link_keys::{FunctionKey, GlobalKey, global_code};
 use std::marker::Model;
 use type_merge::TypeTable;
 use wasm_types::FuncType;
@@ -15,10 +16,8 @@ use wl_base::Seq;
 /// list; imports come first.
 #[derive(Drop)]
 pub struct Numbering {
-    pub(crate) functions: Seq<FunctionKey>,
-    pub(crate) function_places: Places,
-    pub(crate) slots: Seq<FunctionKey>,
-    pub(crate) slot_places: Places,
+    pub(crate) functions: FunctionNumbers,
+    pub(crate) slots: FunctionNumbers,
     /// The numbers of the functions that have slots.
     pub(crate) takers: Seq<u32>,
     pub(crate) first_slot: u32,
@@ -37,7 +36,7 @@ impl Model for Numbering {
     ghost use Rattle.std.specs.Prelude.{◌≡◌, ◌+◌, ◌<◌, ◌≤◌, ◌^◌, map, take, length};
     ghost use Rattle.link_keys.specs.link_program.index_layout.Numbers.{number_by};
     ghost use Rattle.link_keys.specs.link_program.Keys.{same_function_key};
-    ghost use Rattle.link_keys.specs.Codes.{function_code, global_code};
+    ghost use Rattle.link_keys.specs.Codes.{global_code};
     ghost use Rattle.link_numbers.specs.Numbered.{Numbered};
     ghost use Rattle.link_numbers.specs.Places.{ArePlaces};
 
@@ -45,9 +44,7 @@ impl Model for Numbering {
 
     ghost view = { λ n. record { functions = n.functions; slots = n.slots; first_slot = n.first_slot; globals = n.globals; types = take n.type_count n.types; function_types = n.function_types; type_numbers = n.type_numbers } };
 
-    ghost invariant = { λ n. ArePlaces (map function_code n.functions) n.function_places
-        × ArePlaces (map function_code n.slots) n.slot_places
-        × ArePlaces (map global_code n.globals) n.global_places
+    ghost invariant = { λ n. ArePlaces (map global_code n.globals) n.global_places
         × (n.takers ≡ map (number_by same_function_key n.functions) n.slots)
         × (n.first_slot + length n.slots < 2 ^ 32)
         × (n.type_count ≤ length n.types) };
@@ -92,14 +89,14 @@ impl Numbering {
     pub fn functions(&self) -> &[FunctionKey]
         ensures { result.now ≡ self.now.functions }
     {
-        self.functions.as_slice()
+        self.functions.keys()
     }
 
     /// How many of the functions are imports.
     pub fn imported(&self) -> usize
         ensures { result ≡ length (filter is_import self.now.functions) }
     {
-        count_imports(self.functions.as_slice())
+        count_imports(self.functions.keys())
     }
 
     /// The numbers of the functions that have slots, in the order of the slots.
@@ -138,19 +135,18 @@ impl Numbering {
     }
 
     /// The number of a function; 0 where it isn't there.
-    #[tactic(auto, using(crate::proofs::Coded::function_coded))]
     pub fn function_number(&self, key: FunctionKey) -> u32
         ensures { result ≡ number_by same_function_key self.now.functions key }
     {
-        self.function_places.of_or_first(function_code(key))
+        self.functions.of_or_first(key)
     }
 
     /// The slot of a function; the first one where it has none.
-    #[tactic(auto, using(crate::proofs::Coded::function_coded, crate::proofs::Coded::slot_below))]
+    #[tactic(auto, using(crate::proofs::Coded::slot_below))]
     pub fn slot(&self, key: FunctionKey) -> u32
         ensures { result ≡ self.now.first_slot + number_by same_function_key self.now.slots key }
     {
-        self.first_slot + self.slot_places.of_or_first(function_code(key))
+        self.first_slot + self.slots.of_or_first(key)
     }
 
     /// The number of a global; 0 where it isn't there.

@@ -1,9 +1,6 @@
-use Rattle.std.proofs.Common.{map, unwrap_or, ap, ◌∙◌}
+use Rattle.std.proofs.Common.{◌∙◌}
 use Rattle.link_keys.specs.link_program.index_layout.Numbers.{number_by}
 use Rattle.link_keys.specs.link_program.Keys.{same_function_key}
-use Rattle.link_keys.specs.Codes.{function_code}
-use Rattle.link_numbers.specs.Places.{place_of}
-use Rattle.link_numbers.proofs.Coded.{function_coded}
 use Rattle.link_keys.proofs.Steps.{maps_more}
 use Rattle.link_numbers.proofs.giving.takers_of.Goals as goal
 
@@ -11,6 +8,4 @@ pub loop-key-preserved : goal.loop-key-preserved
 loop-key-preserved c =
     c.in_ok-push.ensures.items
     ∙ maps_more (number_by same_function_key c.args.functions.now) c.args.slots.now c.loop-key.key-index _ c.loop-key-test.true _ _ c.loop-key.invariant
-    (c.of_or_first.ensures (map function_code c.args.functions.now) c.requires
-    ∙ ap (λ k. unwrap_or (place_of (map function_code c.args.functions.now) k) 0) c.function_code.ensures
-    ∙ function_coded c.args.functions.now _)
+    c.of_or_first.ensures

@@ -1,9 +1,6 @@
-use Rattle.std.proofs.Common.{◌≡◌, List, map, take}
+use Rattle.std.proofs.Common.{◌≡◌, map, take}
 use Rattle.link_keys.specs.link_program.index_layout.Numbers.{number_by}
-use Rattle.link_keys.specs.link_program.declared.keys.FunctionKey.{FunctionKey}
 use Rattle.link_keys.specs.link_program.Keys.{same_function_key}
-use Rattle.link_keys.specs.Codes.{function_code}
-use Rattle.link_numbers.specs.Places.{ArePlaces}
 use Rattle.link_numbers.proofs.giving.takers_of.Given as goal
 
 abbrev pub invariant-loop-key : goal.invariant-loop-key
