@@ -83,6 +83,12 @@ one_more names name input n before =
       | inr not_so ↦ rw not_so refl
     ]
 
+-- ---- no name
+
+pub none_in : (name : List ℕ) (es : List (List ℕ × ℕ)) → length es ≡ 0 → None ≡ lookup (bytes_eq name) es
+none_in name [] none = refl
+none_in name (e ∷ es) none = absurd (omega (arith, none))
+
 -- ---- one name put in
 
 same_name : (a b : List ℕ) → bytes_eq a b ≡ true → a ≡ b

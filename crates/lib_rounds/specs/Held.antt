@@ -1,5 +1,5 @@
 -- What is kept of each candidate while inputs are loaded.
-use Rattle.std.specs.Prelude.{Bool, true, false, List, filter_map, Option, Some, None, if◌then◌else◌, Result, Ok, Err, ℕ}
+use Rattle.std.specs.Prelude.{Bool, true, false, List, [], filter_map, Option, Some, None, if◌then◌else◌, Result, Ok, Err, ℕ}
 use Rattle.std.specs.Global.{Box}
 use Rattle.object_file.specs.wl_base.declared.fault.Fault.{Fault}
 use Rattle.object_file.specs.linking_section.declared.symbol.Symbol.{Symbol}
@@ -62,3 +62,8 @@ held_by is_loaded c = held_as (is_loaded c) c.is_member c.object
 -- the name of a symbol that passes a test
 abbrev pub name_if : (Symbol → Bool) → Symbol → Option (List ℕ)
 name_if test s = if test s then s.name else None
+
+-- the lists behind the first one, where there are any
+abbrev pub further : {X : Type 0} → Option (Box (List X)) → List X
+further None = []
+further (Some b) = b.value

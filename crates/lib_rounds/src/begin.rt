@@ -59,7 +59,7 @@ fn empty_slots<'a>(alloc: Global, count: usize) -> Result<Vec<Slot<'a>>, OutOfMe
 }
 
 /// Keeps the members that are read early.
-fn put_early<'a>(slots: &mut Vec<Slot<'a>>, early: Vec<Early<'a>>)
+pub fn put_early<'a>(slots: &mut Vec<Slot<'a>>, early: Vec<Early<'a>>)
     ensures { slots.new.items ≡ slots.old.items }
 {
     let mut left = early.into_iter();

@@ -1,19 +1,21 @@
 //! Which inputs are loaded.
-ghost use Rattle.std.specs.Prelude.{◌≡◌, None, All, List};
-ghost use Rattle.lib_index.specs.Table.{shown};
-ghost use Rattle.round_rules.specs.Rounds.{Candidate, at_once, always_read_fault, load};
+ghost use Rattle.std.specs.Prelude.{◌≡◌, All, List};
+ghost use Rattle.round_rules.specs.Rounds.{Candidate, load};
 ghost use Rattle.round_rules.specs.Inputs.{AreCandidates, IsRead};
-ghost use Rattle.lib_rounds.specs.State.{World, Knows, Shows, Defines, Answers};
+ghost use Rattle.lib_rounds.specs.State.{World, Answers};
+ghost use Rattle.lib_rounds.specs.Begun.{IsBegun, HasBegun};
 
-use crate::begin::{Start, begin};
+use crate::adds::Adds;
+use crate::begin::{Start, begin, put_early};
 use crate::early::Early;
 use crate::error::RoundError;
-use crate::foresight::read_early;
+use crate::foresight::{count_defined, read_wanted, read_whole};
 use crate::gather::{Sight, first_adds};
 use crate::given::GivenObject;
 use crate::loaded::Loaded;
 use crate::offer::Inputs;
 use crate::running::run;
+use crate::table::make_room;
 use made_symbols::Mode;
 use round_rules::LibraryFile;
 use std::alloc::Global;
@@ -21,48 +23,64 @@ use std::thread::Threads;
 use wl_base::{Name, Seq};
 use wl_fan::Workers;
 
-/// Loads what is needed from the start on.
-fn load_needed(inputs: Inputs<'_>, start: Start<'_>, wanted: &[Name]) -> Result<Loaded, RoundError>
-    ghost w: { World }
-    requires knows { Knows w.all inputs.libraries.now inputs.files.now (shown start.lazies) }
-    requires shows { Shows w.all start.slots.items (at_once w.all) }
-    requires defines { Defines w.mode start.slots.items (shown start.definers) }
-    requires fine { always_read_fault w.all ≡ None }
-    ensures { Answers (λ l. l) result (load w.mode wanted.now w.all) }
-{
-    let Start {
-        mut slots,
-        mut definers,
-        lazies,
-    } = start;
-    let sight = Sight {
-        inputs,
-        lazies: &lazies,
-        definers: &definers,
-        slots: slots.as_slice(),
-    };
-    let adds = first_adds(sight, wanted)?;
-    run(inputs, &mut slots, &mut definers, &lazies, adds)?;
-    let loaded = Loaded::of(inputs.alloc, slots)?;
-    Ok(loaded)
+/// What is loaded at once, and what the first round adds.
+#[derive(Drop)]
+struct Begun<'a> {
+    start: Start<'a>,
+    adds: Adds,
 }
 
-/// The same, with the mode in what is shared.
-fn load_all(
+/// Loads what is loaded at once, and looks for what the first round adds.
+fn begin_rounds<'a>(
     inputs: Inputs<'_>,
     given: Seq<GivenObject>,
-    early: Vec<Early<'_>>,
+    early: Vec<Early<'a>>,
     wanted: &[Name],
     mode: Mode,
-) -> Result<Loaded, RoundError>
+) -> Result<Begun<'a>, RoundError>
     ghost w: { World }
     requires same { w.mode ≡ mode }
     requires are { AreCandidates w.all given inputs.libraries.now inputs.files.now }
     requires read { All (IsRead inputs.files.now) inputs.libraries.now }
-    ensures { Answers (λ l. l) result (load mode wanted.now w.all) }
+    ensures { HasBegun result w wanted.now inputs.entry.libraries.now inputs.entry.files.now }
 {
     let start = begin(inputs, given, early, mode)?;
-    load_needed(inputs, start, wanted)
+    let sight = Sight {
+        inputs,
+        lazies: &start.lazies,
+        definers: &start.definers,
+        slots: start.slots.as_slice(),
+    };
+    let adds = first_adds(sight, wanted)?;
+    Ok(Begun { start, adds })
+}
+
+/// Does the rounds, with the members that are read early. The mode is only told of.
+fn go_on<'a>(
+    inputs: Inputs<'_>,
+    begun: Begun<'a>,
+    early: Vec<Early<'a>>,
+    wanted: &[Name],
+    mode: Mode,
+) -> Result<Loaded, RoundError>
+    ghost w: { World }
+    requires { IsBegun w wanted.now inputs.libraries.now inputs.files.now begun }
+    ensures { Answers (λ l. l) result (load w.mode wanted.now w.all) }
+{
+    let Begun {
+        start: Start {
+            mut slots,
+            mut definers,
+            lazies,
+        },
+        adds,
+    } = begun;
+    let names = count_defined(early.as_slice()).max(adds.len());
+    make_room(&mut definers, names)?;
+    put_early(&mut slots, early);
+    run(inputs, &mut slots, &mut definers, &lazies, adds)?;
+    let loaded = Loaded::of(inputs.alloc, slots)?;
+    Ok(loaded)
 }
 
 /// Loads the inputs that a link needs, and answers their objects by rising input.
@@ -76,8 +94,9 @@ fn load_all(
 /// is no object, or doesn't define a name for which it is added (`IndexLies`, with the least such
 /// name). `all` are the inputs as candidates, by which the call is defined.
 ///
-/// Where there are several workers they first read the members that will probably be needed, by what
-/// these import and by the data that they don't define.
+/// Where there are several workers they first read the members that will probably be needed: those that
+/// the first round adds, and those that are needed by what members import and by the data that they
+/// don't define.
 pub fn load_rounds<R: Threads + Sync>(
     rt: &R,
     alloc: Global,
@@ -98,6 +117,8 @@ pub fn load_rounds<R: Threads + Sync>(
         libraries,
         files,
     };
-    let early = read_early(rt, inputs, given.as_slice(), wanted, workers)?;
-    load_all(inputs, given, early, wanted, mode)
+    let early = read_whole(rt, inputs, workers)?;
+    let begun = begin_rounds(inputs, given, early, wanted, mode)?;
+    let early = read_wanted(rt, inputs, &begun.adds, workers)?;
+    go_on(inputs, begun, early, wanted, mode)
 }

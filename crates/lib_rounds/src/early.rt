@@ -4,6 +4,7 @@ ghost use Rattle.std.specs.Global.{Box};
 ghost use Rattle.object_file.specs.ObjectOf.{object_of};
 ghost use Rattle.object_file.specs.declared.object.Object.{Object as Read};
 
+use crate::table::count_defined;
 use object_file::{Object, read_object};
 use std::alloc::Global;
 use wl_base::InputId;
@@ -14,6 +15,8 @@ pub struct Early<'a> {
     input: InputId,
     bytes: &'a [u8],
     object: Option<Box<Object>>,
+    /// How many names the object defines.
+    defined: u32,
     ghost is: { (o : Box Read) → object ≡ Some o → object_of input bytes.now ≡ Ok o.value },
 }
 
@@ -24,6 +27,7 @@ impl<'a> Early<'a> {
             input,
             bytes,
             object: None,
+            defined: 0,
         }
     }
 
@@ -37,16 +41,23 @@ impl<'a> Early<'a> {
         self.bytes
     }
 
+    /// How many names the object defines, where it is read.
+    pub fn defined(&self) -> u32 {
+        self.defined
+    }
+
     /// Reads the member. Where that fails it is left, and read when a round asks for it.
     pub fn read(&mut self, alloc: Global) {
         let Ok(object) = read_object(alloc, self.input, self.bytes) else {
             return;
         };
+        let defined = count_defined(&object);
         if let Ok(object) = Box::new(alloc, object) {
             *self = Early {
                 input: self.input,
                 bytes: self.bytes,
                 object: Some(object),
+                defined,
             };
         }
     }
@@ -59,6 +70,7 @@ impl<'a> Early<'a> {
             input: own,
             bytes: read,
             object,
+            defined: _,
         } = self;
         match object {
             Some(object) if own == input && read == bytes => Some(object),

@@ -8,14 +8,13 @@ ghost use Rattle.lib_rounds.specs.Lean.{first_names};
 ghost use Rattle.lib_rounds.specs.Held.{object_held, loaded_objects};
 ghost use Rattle.lib_rounds.specs.State.{World, Knows, Hold, Defines, Shows, Looked, Looks, pushed, slot_at, names_at};
 
-use crate::adds::{Adds, Wanted};
+use crate::adds::{Adds, Wanted, WantedNames};
 use crate::offer::{Inputs, Offer, offer_of};
 use crate::slot::Slot;
 use crate::table::{Table, input_of, wanted_at};
 use object_file::Object;
 use std::alloc::Global;
 use wl_base::{InputId, Name, OutOfMemory};
-use wl_lists::Lists;
 
 /// What is looked at to find who is added.
 #[derive(Clone, Copy)]
@@ -26,20 +25,28 @@ pub struct Sight<'a> {
     pub slots: &'a [Slot<'a>],
 }
 
-/// Adds what offers the name for it.
+/// Adds what offers the name for it. Nearly all are added for one name, so it is put in first.
 fn push(alloc: Global, adds: &mut Adds, offer: Offer, name: &[u8]) -> Result<(), OutOfMemory>
     ensures ordered { OnOk result (IsOrdered nat_cmp adds.new) }
     ensures law { OnOk result ((q : ℕ) → get nat_cmp adds.new q ≡ cond (is_at (nat_cmp offer.input) q) (Some (pushed (get nat_cmp adds.old offer.input) offer name.now)) (get nat_cmp adds.old q)) }
 {
-    let mut wanted = match adds.remove(&offer.input) {
-        Some(wanted) => wanted,
-        None => Wanted {
-            offer,
-            names: Lists::new(alloc),
-        },
+    let one = Wanted {
+        offer,
+        names: WantedNames::of(alloc, name)?,
     };
-    wanted.names.push(name)?;
-    adds.insert(offer.input, wanted)?;
+    if let Some(
+        Wanted {
+            offer: first,
+            names,
+        },
+    ) = adds.insert(offer.input, one)?
+    {
+        let more = Wanted {
+            offer: first,
+            names: names.with(alloc, name)?,
+        };
+        adds.insert(offer.input, more)?;
+    }
     Ok(())
 }
 

@@ -8,6 +8,7 @@ mod call;
 mod early;
 mod error;
 mod foresight;
+mod frontier;
 mod gather;
 mod given;
 pub mod laws;

@@ -4,6 +4,7 @@ ghost use Rattle.lib_index.specs.Table.{shown};
 ghost use Rattle.round_rules.specs.Rounds.{comes_before, lesser_name, least_name};
 ghost use Rattle.lib_rounds.specs.State.{is_other};
 
+use crate::adds::WantedNames;
 use crate::table::{Table, input_of};
 use wl_base::InputId;
 use wl_lists::Lists;
@@ -36,7 +37,7 @@ fn is_other(definers: &Table, input: InputId, name: &[u8]) -> bool
 }
 
 /// The least of the names whose input isn't this one.
-pub fn least_lie<'a>(definers: &Table, input: InputId, names: &'a Lists<u8>) -> Option<&'a [u8]>
+fn least_in<'a>(definers: &Table, input: InputId, names: &'a Lists<u8>) -> Option<&'a [u8]>
     ensures { option_copied result ≡ least_name (filter (is_other (shown definers.now) input) names.now) }
 {
     let mut least: Option<&[u8]> = None;
@@ -48,4 +49,19 @@ pub fn least_lie<'a>(definers: &Table, input: InputId, names: &'a Lists<u8>) -> 
         }
     }
     least
+}
+
+/// The same, of the names for which an input is added.
+pub fn least_lie<'a>(definers: &Table, input: InputId, names: &'a WantedNames) -> Option<&'a [u8]>
+    ensures { option_copied result ≡ least_name (filter (is_other (shown definers.now) input) names.now) }
+{
+    let least = match names.more() {
+        Some(more) => least_in(definers, input, more),
+        None => None,
+    };
+    if is_other(definers, input, names.first()) {
+        lesser_name(names.first(), least)
+    } else {
+        least
+    }
 }

@@ -20,7 +20,18 @@ pub type Table = IndexMap<Key, InputId>;
 pub fn input_of(table: &Table, name: &[u8]) -> Option<InputId>
     ensures { result ≡ lookup (bytes_eq name.now) (shown table.now) }
 {
+    if table.is_empty() {
+        return None;
+    }
     table.get(KeyRef { bytes: name }).copied()
+}
+
+/// Makes room for so many more names.
+pub fn make_room(table: &mut Table, names: usize) -> Result<(), OutOfMemory>
+    ensures { shown table.new ≡ shown table.old }
+{
+    table.reserve(names)?;
+    Ok(())
 }
 
 /// Gives the name this input, in the place of the one that it may have.
@@ -49,6 +60,17 @@ pub fn wanted_at(object: &Object, at: usize) -> Option<&[u8]>
         Some(symbol) if symbol.is_strong_reference() => symbol.name,
         _ => None,
     }
+}
+
+/// How many names the object defines.
+pub fn count_defined(object: &Object) -> u32 {
+    let mut count: u32 = 0;
+    for at in 0..object.symbols.len() {
+        if defined_at(object, at).is_some() {
+            count = count.saturating_add(1);
+        }
+    }
+    count
 }
 
 /// Gives each name that the object defines this input.

@@ -46,7 +46,9 @@ fn symbol_numbers(
     if symbols.len() > u32::MAX as usize {
         return Err(NameFault::OutOfMemory);
     }
-    let mut numbers = Vec::new(alloc);
+    let Ok(mut numbers) = Vec::with_capacity(alloc, symbols.len()) else {
+        return Err(NameFault::OutOfMemory);
+    };
     for place in 0..symbols.len() {
         if let Some(symbol) = symbols.get(place) {
             numbers.push(symbol_number(table, symbol)?)?;

@@ -6,7 +6,7 @@ use Rattle.link_names.specs.Numbered.{number_seen, symbol_number, Short}
 use Rattle.link_names.specs.Interning.{Gains, Tells, TellsAll, entry_name}
 use Rattle.link_names.proofs.Steps.{gains_more, tells_more, at_get, not_none, tells_all, gains_all, short_numbers, taken, refused}
 use Rattle.link_names.proofs.build.symbol_numbers.Goals as goal
-use Rattle.link_names.proofs.build.symbol_numbers.Goals.{in-Some+in_ok-symbol_number+in_ok-push, in_default}
+use Rattle.link_names.proofs.build.symbol_numbers.Goals.{in-Some+in_ok-symbol_number+in_ok-push, in_default-get}
 
 pub returns-in_err-symbol_number : goal.returns-in_err-symbol_number
 returns-in_err-symbol_number c =
@@ -27,7 +27,7 @@ loop-place-preserved c = elim c.match-get.branch [
             (subst (TellsAll symbol_number number_seen (take (c.loop-place.place + 1) c.args.symbols.now) w.symbol_number.new.table.names) (sym w.in_ok-push.ensures.items ∙ ap (λ ns. ns.items) (sym w.numbers-is))
             (tells_more symbol_number number_seen c.args.symbols.now entry_name c.loop-place.place s w.in_ok-symbol_number.field-0 c.loop-place.table w.symbol_number.new.table c.loop-place.numbers.items at c.loop-place.invariant.1 step.0 step.1)),
       )
-  | in_default w ↦ absurd (not_none c.args.symbols.now c.loop-place.place (sym c.get.ensures ∙ ap (option_map symbol_seen) w.in_default.is) (omega (arith, c.loop-place-test.true, c.len-place-end.ensures)))
+  | in_default-get w ↦ absurd (not_none c.args.symbols.now c.loop-place.place (sym c.get.ensures ∙ ap (option_map symbol_seen) w.in_default-get.is) (omega (arith, c.loop-place-test.true, c.len-place-end.ensures)))
 ]
 
 pub returns : goal.returns
