@@ -3,7 +3,6 @@ use crate::apart::are_apart;
 use image_emit::Image;
 use reloc_apply::{Form, Patch, Patches, fill};
 use std::alloc::Global;
-use std::test::Fail;
 use std::thread::Threads;
 use test_images::{emitted, empty_image, file_part, own_block};
 use wasm_types::ConstExpr;
@@ -20,12 +19,12 @@ fn filled<R: Threads + Sync>(
     patches: &Patches,
     workers: u32,
 ) -> Option<Vec<u8>> {
+    let all = Workers::new(workers)?;
     let mut out = emitted(rt, alloc, image, files, workers, &OpenGate)?;
-    let workers = Workers::new(workers)?;
     if !are_apart(patches.patches.as_slice(), out.len()) {
         return None;
     }
-    fill(rt, patches, out.as_mut_slice(), workers, &OpenGate);
+    fill(rt, patches, out.as_mut_slice(), all, &OpenGate);
     Some(out)
 }
 
@@ -42,39 +41,66 @@ fn add_parts(alloc: Global, to: &mut Image) -> Result<(), OutOfMemory> {
     Ok(())
 }
 
-fn image_of(alloc: Global) -> Result<Image, OutOfMemory> {
-    let mut image = empty_image(alloc);
-    add_parts(alloc, &mut image)?;
-    Ok(image)
-}
-
 // The call in the body, the first block as a whole, and the end of the second.
-fn patches_of(alloc: Global) -> Result<Patches, OutOfMemory> {
+fn add_patches(to: &mut Seq<Patch>) -> Result<(), OutOfMemory> {
     let windows = [
         (14, Form::Unsigned5, 2),
         (29, Form::Word4, 258),
         (38, Form::Word4, 0xFFFF_FFFE),
     ];
-    let mut patches = Seq::new(alloc);
     for (place, form, value) in windows {
-        patches.push(Patch { place, form, value })?;
+        to.push(Patch { place, form, value })?;
     }
-    Ok(Patches { patches })
+    Ok(())
+}
+
+// The file that the body is of.
+fn add_file(alloc: Global, to: &mut Seq<Seq<u8>>) -> Result<(), OutOfMemory> {
+    let file = Seq::from_slice(alloc, b"\xFF\0\x10\x80\x80\x80\x80\0\x0B\xFF".as_slice())?;
+    to.push(file)
 }
 
 const FILLED: [u8; 42] =
     *b"\0asm\x01\0\0\0\x0A\x0A\x01\x08\0\x10\x82\x80\x80\x80\0\x0B\x0B\x14\x01\0\x41\x80\x08\x0B\x0D\x02\x01\0\0\0\0\x01\x02\x03\xFE\xFF\xFF\xFF";
 
-#[test]
-fn windows_are_filled_in_what_was_emitted(rt: HostRuntime) -> Result<(), Fail> {
-    let alloc = rt.alloc();
-    let mut files = Seq::new(alloc);
-    files.push(Seq::from_slice(alloc, b"\xFF\0\x10\x80\x80\x80\x80\0\x0B\xFF".as_slice())?)?;
-    let image = image_of(alloc)?;
-    let patches = patches_of(alloc)?;
-    for workers in [1u32, 2, 64] {
-        let out = filled(&rt, alloc, &image, files.as_slice(), &patches, workers).ok_or("lies")?;
-        assert_eq!(rt; out.as_slice(), FILLED.as_slice());
+// Whether so many workers give the bytes.
+fn give<R: Threads + Sync>(
+    rt: &R,
+    alloc: Global,
+    image: &Image,
+    files: &[Seq<u8>],
+    patches: &Patches,
+    workers: u32,
+) -> bool {
+    match filled(rt, alloc, image, files, patches, workers) {
+        Some(out) => out.as_slice() == FILLED.as_slice(),
+        None => false,
     }
-    Ok(())
+}
+
+// Whether the image gives the bytes, whoever works.
+fn gives<R: Threads + Sync>(rt: &R, alloc: Global, image: &Image, files: &[Seq<u8>]) -> bool {
+    let mut patches = Seq::new(alloc);
+    if add_patches(&mut patches).is_err() {
+        return false;
+    }
+    let patches = Patches { patches };
+    give(rt, alloc, image, files, &patches, 1)
+        && give(rt, alloc, image, files, &patches, 2)
+        && give(rt, alloc, image, files, &patches, 64)
+}
+
+fn gives_with_file<R: Threads + Sync>(rt: &R, alloc: Global, image: &Image) -> bool {
+    let mut files = Seq::new(alloc);
+    add_file(alloc, &mut files).is_ok() && gives(rt, alloc, image, files.as_slice())
+}
+
+fn is_filled<R: Threads + Sync>(rt: &R, alloc: Global) -> bool {
+    let mut image = empty_image(alloc);
+    add_parts(alloc, &mut image).is_ok() && gives_with_file(rt, alloc, &image)
+}
+
+#[test]
+fn windows_are_filled_in_what_was_emitted(rt: HostRuntime) {
+    assert!(rt; is_filled(&rt, rt.alloc()));
 }
