@@ -8,10 +8,11 @@ use Rattle.link_keys.specs.link_program.made_symbols.declared.mode.Mode.{Mode}
 use Rattle.link_keys.specs.link_program.round_rules.Rounds.{load}
 use Rattle.link_keys.specs.link_program.name_rules.Entries.{is_entry, is_named}
 use Rattle.link_keys.specs.link_program.link_plan.declared.plan.Plan.{Plan}
+use Rattle.link_keys.specs.link_program.link_rules.ModeOf.{mode_of}
 use Rattle.link_keys.specs.link_program.link_rules.Candidates.{Readers, candidates_of}
 use Rattle.link_keys.specs.link_program.link_rules.Program.{Program, Ref, program_of, variant_name}
 use Rattle.link_keys.specs.link_program.link_rules.Marks.{refs_of}
-use Rattle.link_keys.specs.link_program.link_rules.LinkOf.{asked_names, the_readers, mode_of}
+use Rattle.link_keys.specs.link_program.link_rules.LinkOf.{asked_names, the_readers}
 use Rattle.mismatch_rules.specs.declared.mismatch.Mismatch.{Mismatch}
 use Rattle.mismatch_rules.specs.Mismatches.{mismatches, standing}
 

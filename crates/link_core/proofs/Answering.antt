@@ -165,7 +165,7 @@ module _ (p : Program) (es : List InputSymbol) (parts : List Part) where
   unfolding layout
   goes_on_placed r fits none a = subst (Answers r) (sym (steps.placed p es parts fits none)) a
 
-pub layout_is : (p : Program) (parts : List Part) (es : List InputSymbol) (d : LayoutData) (ns : List ℕ) → IsProgram Plain d.program p → PartsStand p → AreLive p ns parts → AllMeant parts
+pub layout_is : (p : Program) (parts : List Part) (es : List InputSymbol) (d : LayoutData) (ns : List ℕ) → IsProgram d.program p → PartsStand p → AreLive p ns parts → AllMeant parts
     → IsNumbering d.program.names.now.names d.program.resolution.now.imports d.program.tables.now.types p parts d.numbering.now (numbers Plain p parts es) → IsPlaced p parts d.placed.now → IsLayout p parts es d
 layout_is p parts es d ns program stand live meant numbering placed =
     record { program = program; stand = stand; live = (ns, live); meant = meant; numbering = numbering; placed = placed }

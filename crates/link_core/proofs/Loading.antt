@@ -46,7 +46,7 @@ module _ (l : Loading) (plan : Plan) (loaded objects : List Object) (same : l.or
   all_found found = subst (λ p. found_of p ≡ Ok p) program_is found
 
   pub linking_is : (files : List (List ℕ)) (homes : List Home) (d : Data) (view : Entries) → IsPlan plan → l.origin.files ≡ files
-      → IsLoaded l.origin.files l.origin.all loaded homes → LoadedPartsStand → IsProgram Plain d found_program → Fits Plain view
+      → IsLoaded l.origin.files l.origin.all loaded homes → LoadedPartsStand → IsProgram d found_program → Fits Plain view
       → view.objects.now ≡ d.objects.now → view.names.now ≡ d.names.now → IsLinking (program_in l) d view files
   unfolding program_of
   linking_is files homes d view planned held given stand is fits seen named =
@@ -63,9 +63,9 @@ module _ (l : Loading) (plan : Plan) (loaded objects : List Object) (same : l.or
   -- What was found of the loaded objects is linked: what is known of each value that was made of it, with the values as variables.
   pub found_is_linked : (files : List (List ℕ)) (homes : List Home) (f : Found) (d : Data) (view : Entries) → IsPlan plan → l.origin.files ≡ files
       → IsLoaded l.origin.files l.origin.all loaded homes → LoadedPartsStand → IsFound Plain plan objects f found_program
-      → ((mode : Mode) (p : Program) → IsFound mode plan objects f p → IsProgram mode d p)
+      → ((p : Program) → IsFound Plain plan objects f p → IsProgram d p)
       → ((mode : Mode) → AreNumbers mode objects f.names → InputsRise 0 objects → IsTable objects f.names f.entries → Fits mode view)
       → view.objects.now ≡ objects → d.objects.now ≡ objects → view.names.now ≡ f.names → d.names.now ≡ f.names → IsLinking (program_in l) d view files
   unfolding program_of
   found_is_linked files homes f d view planned held given stand found is fits seen asked named called =
-      linking_is files homes d view planned held given stand (is Plain found_program found) (fits Plain found.numbers found.rise found.looked_up) (seen ∙ sym asked) (named ∙ sym called)
+      linking_is files homes d view planned held given stand (is found_program found) (fits Plain found.numbers found.rise found.looked_up) (seen ∙ sym asked) (named ∙ sym called)

@@ -1,8 +1,8 @@
 //! The whole link, as a list of steps in the order of its definition (`link_of` in link_rules/specs/LinkOf.antt): load, find, exports,
 //! mark, unresolved, place, number, image, measure, patches, write. Each gives what the next ones need, or a fault that ends the link.
 ghost use Rattle.std.specs.Prelude.{◌≡◌, [], length, unwrap_or, IfOk};
-ghost use Rattle.link_output.specs.link_program.made_symbols.declared.mode.Mode.TheVariants as modes;
 ghost use Rattle.link_output.specs.link_program.link_plan.Plan.{IsPlan};
+ghost use Rattle.link_output.specs.link_program.link_rules.ModeOf.{mode_of};
 ghost use Rattle.link_output.specs.link_program.link_rules.Program as rules;
 ghost use Rattle.link_output.specs.link_program.link_rules.LinkOf.{link_of, link_program, laid_out, written};
 ghost use Rattle.link_image.specs.link_layout.Layout.{IsLayout};
@@ -153,7 +153,7 @@ fn prepare<R: Threads + Sync, G: Gate>(
     requires files { l.origin.files ≡ files.now }
     requires objects { l.objects ≡ inputs.now.loaded }
     requires loaded { IsLoaded l.origin.files l.origin.all inputs.now.loaded inputs.now.homes }
-    ensures exact { Answers (outputs files.now result) (link_program modes.Plain (program_in l)) }
+    ensures exact { Answers (outputs files.now result) (link_program (mode_of l.origin.plan) (program_in l)) }
     ensures ready { IfOk result (IsReady files.now) }
     ensures told { told.old ≡ [] → Tells result told.new (told_of (standing (program_in l))) }
 {
@@ -190,8 +190,8 @@ fn choose<R: Threads + Sync, G: Gate>(
     gate: &G,
 ) -> Result<Chosen, LinkError>
     ghost p: { rules.Program }
-    requires program { IsProgram modes.Plain program p }
-    requires fits { Fits modes.Plain entries }
+    requires program { IsProgram program p }
+    requires fits { Fits (mode_of p.plan) entries }
     requires objects { entries.objects.now ≡ program.objects.now }
     requires stand { PartsStand p }
     ensures { Chooses result program.entry p }
@@ -219,7 +219,7 @@ fn lay_out<R: Threads + Sync>(
     ghost s: { Stage }
     requires is { IsLinking s.program program entries files.now }
     requires chosen { IsChosen s program exports.now live.now }
-    ensures exact { Answers (outputs files.now result) (laid_out modes.Plain s.program s.exports s.parts) }
+    ensures exact { Answers (outputs files.now result) (laid_out (mode_of s.program.plan) s.program s.exports s.parts) }
     ensures ready { IfOk result (IsReady files.now) }
 {
     let placed = place_segments(alloc, program, files, live)?;
@@ -247,7 +247,7 @@ fn make_ready<R: Threads + Sync>(
     requires layout { IsLayout s.program s.parts s.exports layout }
     requires chosen { IsChosen s layout.program exports.now live.now }
     requires files { files.now ≡ s.program.files }
-    ensures exact { Answers (outputs files.now result) (written modes.Plain s.program (the_image s) (the_windows s)) }
+    ensures exact { Answers (outputs files.now result) (written (mode_of s.program.plan) s.program (the_image s) (the_windows s)) }
     ensures ready { IfOk result (IsReady files.now) }
 {
     windows_stand_in_sources();

@@ -57,7 +57,7 @@ cell_known : (imports : List ImportKey) (ref : Ref) (r : Bool) → r ≡ false �
 cell_known imports ref true is known = absurd cc
 cell_known imports ref false is known = known
 
-module _ (d : Data) (p : rules.Program) (live : List ℕ) (parts : List rules.Part) (es : List InputSymbol) (is : IsProgram Plain d p) (stand : PartsStand p) (are : AreLive p live parts) (meant : AllMeant parts) where
+module _ (d : Data) (p : rules.Program) (live : List ℕ) (parts : List rules.Part) (es : List InputSymbol) (is : IsProgram d p) (stand : PartsStand p) (are : AreLive p live parts) (meant : AllMeant parts) where
   pub tells : TellsNumbers d.names.now.names d.resolution.now.imports (numbers Plain p parts es)
   tells = whole.tells_numbers (given_of d p live parts is stand are meant) es
 

@@ -1,8 +1,8 @@
 -- What the steps of the call tell one another.
 use Rattle.std.specs.Prelude.{◌≡◌, ◌<◌, ◌^◌, ℕ, List, [], length, map, Result, Ok, Err}
-use Rattle.link_program.specs.made_symbols.declared.mode.Mode.TheVariants.{Plain}
 use Rattle.link_program.specs.round_rules.Rounds.{Candidate, load}
 use Rattle.link_program.specs.link_plan.declared.plan.Plan.{Plan}
+use Rattle.link_program.specs.link_rules.ModeOf.{mode_of}
 use Rattle.link_program.specs.link_rules.LinkOf.{asked_names}
 use Rattle.link_program.specs.declared.error.LinkError.{LinkError}
 use Rattle.link_inputs.specs.declared.inputs.Inputs.{Inputs}
@@ -37,5 +37,5 @@ pub record Sourced (plan : Plan) (files : List (List ℕ)) (s : Sources) : Type 
 
 -- What is loaded of all inputs, and their homes; or the first fault.
 abbrev pub LoadsAll : Result Inputs LinkError → Plan → List (List ℕ) → Type 0
-LoadsAll (Ok i) plan files = (load Plain (asked_names plan) (all_inputs plan files) ≡ Ok i.loaded) × (i.homes ≡ map home_of (all_inputs plan files))
-LoadsAll (Err e) plan files = Fails e (load Plain (asked_names plan) (all_inputs plan files))
+LoadsAll (Ok i) plan files = (load (mode_of plan) (asked_names plan) (all_inputs plan files) ≡ Ok i.loaded) × (i.homes ≡ map home_of (all_inputs plan files))
+LoadsAll (Err e) plan files = Fails e (load (mode_of plan) (asked_names plan) (all_inputs plan files))

@@ -1,10 +1,10 @@
 //! From files to loaded objects.
 ghost use Rattle.std.specs.Prelude.{◌≡◌, ◌<◌, ◌≤◌, ◌^◌, ℕ, All, List, Ok, IfOk, length, unwrap_or};
-ghost use Rattle.link_program.specs.made_symbols.declared.mode.Mode.TheVariants.{Plain};
 ghost use Rattle.link_program.specs.round_rules.Rounds.{Candidate, load};
 ghost use Rattle.link_program.specs.round_rules.Inputs.{AreCandidates, IsRead};
 ghost use Rattle.link_program.specs.link_plan.Plan.{IsPlan};
-ghost use Rattle.link_program.specs.link_rules.LinkOf.{asked_names, mode_of};
+ghost use Rattle.link_program.specs.link_rules.ModeOf.{mode_of};
+ghost use Rattle.link_program.specs.link_rules.LinkOf.{asked_names};
 ghost use Rattle.link_program.specs.Answers.{Answers};
 ghost use Rattle.link_inputs.specs.Inputs.{loaded_of};
 ghost use Rattle.link_inputs.specs.Loaded.{AreInputs};
@@ -40,7 +40,7 @@ fn load_given<R: Threads + Sync>(
     requires workers { (1 ≤ workers) × (workers ≤ 64) }
     requires are { AreCandidates all given libraries.now files.now }
     requires read { All (IsRead files.now) libraries.now }
-    ensures { Answers (λ l. l) result (load Plain (asked_names plan.now) all) }
+    ensures { Answers (λ l. l) result (load (mode_of plan.now) (asked_names plan.now) all) }
 {
     let wanted = asked_names(alloc, plan)?;
     let Some(workers) = Workers::new(workers) else {

@@ -1,8 +1,8 @@
 //! Placing the live data segments.
 ghost use Rattle.std.specs.Prelude.{◌≡◌};
-ghost use Rattle.link_program.specs.made_symbols.declared.mode.Mode.TheVariants.{Plain};
 ghost use Rattle.link_program.specs.memory_layout.Steps.{AreRules, AreAligned};
 ghost use Rattle.link_program.specs.link_plan.Plan.{IsPlan};
+ghost use Rattle.link_program.specs.link_rules.ModeOf.{mode_of};
 ghost use Rattle.link_program.specs.link_rules.Values.{rules_of};
 ghost use Rattle.link_program.specs.Program.{IsProgram};
 ghost use Rattle.link_program.specs.Stand.{PartsStand};
@@ -30,7 +30,7 @@ pub struct Placed {
 
 /// What the words say of memory.
 fn rules_of(plan: &Plan) -> MemoryRules
-    ensures { result ≡ rules_of Plain plan.now }
+    ensures { result ≡ rules_of (mode_of plan.now) plan.now }
 {
     MemoryRules::Absolute {
         stack_first: plan.stack_first,
@@ -73,7 +73,7 @@ pub fn place_segments(
     live: &[u32],
 ) -> Result<Placed, LayoutError>
     ghost s: { Stage }
-    requires program { IsProgram Plain program s.program }
+    requires program { IsProgram program s.program }
     requires stand { PartsStand s.program }
     requires live { AreLive s.program live.now s.parts }
     requires files { files.now ≡ s.program.files }

@@ -94,7 +94,7 @@ rank_is names all ranks name are held = by (number_of names name) refl
             let n = numbered names (name_of w) (all_in (HeldOf names) w all (recursion_from_All (HeldOf names) all held) here.0) in
             absurd (none-some n.0 (sym is ∙ ap (number_of names) (sym same) ∙ n.1))
 
-pub missing_are : (d : Data) (p : Program) → IsProgram Plain d p → first_missing d.names.now.names d.ranks.now (demanded d.plan.now) ≡ first_some (map (missing p) (demanded p.plan))
+pub missing_are : (d : Data) (p : Program) → IsProgram d p → first_missing d.names.now.names d.ranks.now (demanded d.plan.now) ≡ first_some (map (missing p) (demanded p.plan))
 missing_are d p is =
     let names = d.names.now.names in
     let held : All (HeldOf names) p.entries = subst (All (HeldOf names)) (sym is.entries) (entries_held Plain p.objects d.names.now is.numbers) in
@@ -139,7 +139,7 @@ flat_resolved : (allow : Bool) (all : List InputSymbol) (objects os : List Objec
 flat_resolved allow all objects [] = refl
 flat_resolved allow all objects (o ∷ os) = ap (λ l. symbols_of objects o ++ l) (flat_resolved allow all objects os)
 
-resolved_are : (d : Data) (p : Program) → IsProgram Plain d p → p.resolved ≡ map (resolved_in Plain (uses_of Plain p.objects) p.plan.allow_undefined (entries Plain p.objects) p.objects) p.objects
+resolved_are : (d : Data) (p : Program) → IsProgram d p → p.resolved ≡ map (resolved_in Plain (uses_of Plain p.objects) p.plan.allow_undefined (entries Plain p.objects) p.objects) p.objects
 unfolding resolve
 resolved_are d p is = is.resolved ∙ ap (λ all. map (resolved_in Plain (uses_of Plain p.objects) p.plan.allow_undefined all p.objects) p.objects) is.entries
 
@@ -150,7 +150,7 @@ fine_from allow objects rows imports [] among are answered = tt
 fine_from allow objects rows imports (o ∷ os) among are answered =
     (record { is = are.0; answered = answered.0; among = among o (inl refl) }, fine_from allow objects rows imports os (λ x h. among x (inr h)) are.1 answered.1)
 
-pub open_are : (d : Data) (p : Program) (l : Live) (parts : List Part) → IsProgram Plain d p → IsLive p l parts
+pub open_are : (d : Data) (p : Program) (l : Live) (parts : List Part) → IsProgram d p → IsLive p l parts
     → open_fault d.objects.now (first_unresolved_of d.objects.now d.resolution.now.rows l.set.words d.tables.now.chunks)
     ≡ option_map (λ (e : InputSymbol). Unresolved (name_of e) e.input) (find (marks.is_open (refs_of parts)) (all_symbols p))
 unfolding first_unresolved_of
@@ -184,13 +184,13 @@ two None = refl
 two (Some f) = refl
 
 -- a name without a winner comes first
-pub missing_first : (d : Data) (p : Program) (parts : List Part) (fault : Fault) → IsProgram Plain d p → Some fault ≡ first_missing d.names.now.names d.ranks.now (demanded d.plan.now) → Some fault ≡ unresolved p parts
+pub missing_first : (d : Data) (p : Program) (parts : List Part) (fault : Fault) → IsProgram d p → Some fault ≡ first_missing d.names.now.names d.ranks.now (demanded d.plan.now) → Some fault ≡ unresolved p parts
 unfolding unresolved
 missing_first d p parts fault is told =
     ap (λ o. first_some (o ∷ option_map (λ (e : InputSymbol). Unresolved (name_of e) e.input) (find (marks.is_open (refs_of parts)) (all_symbols p)) ∷ [])) (told ∙ missing_are d p is)
 
 -- an error that stops at it
-pub missing_stops : (d : Data) (p : Program) (parts : List Part) (o : Option Fault) (e x : LinkError) → x ≡ e → IsProgram Plain d p → Stops e o
+pub missing_stops : (d : Data) (p : Program) (parts : List Part) (o : Option Fault) (e x : LinkError) → x ≡ e → IsProgram d p → Stops e o
     → o ≡ first_missing d.names.now.names d.ranks.now (demanded d.plan.now) → Stops x (unresolved p parts)
 missing_stops d p parts o e x same is stops told = subst (λ x. Stops x (unresolved p parts)) (sym same) (by e stops)
   where
@@ -199,7 +199,7 @@ missing_stops d p parts o e x same is stops told = subst (λ x. Stops x (unresol
     by OutOfMemory stops = tt
 
 -- and where there is none the open symbol
-pub open_next : (d : Data) (p : Program) (l : Live) (parts : List Part) (fault : Option Fault) → IsProgram Plain d p → IsLive p l parts
+pub open_next : (d : Data) (p : Program) (l : Live) (parts : List Part) (fault : Option Fault) → IsProgram d p → IsLive p l parts
     → None ≡ first_missing d.names.now.names d.ranks.now (demanded d.plan.now)
     → fault ≡ open_fault d.objects.now (first_unresolved_of d.objects.now d.resolution.now.rows l.set.words d.tables.now.chunks) → fault ≡ unresolved p parts
 unfolding unresolved

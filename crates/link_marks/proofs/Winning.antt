@@ -29,7 +29,7 @@ use Rattle.link_marks.proofs.Held.{HeldOf, numbered, entries_held, winners_held}
 number_is : (names : List (List ℕ)) (e : InputSymbol) (n : ℕ) → number_of names (name_of e) ≡ Some n → name_number names e ≡ n
 number_is names e n is = ap (λ o. unwrap_or o 0) is
 
-pub winner_names_held : (d : Data) (p : Program) → IsProgram Plain d p → All (HeldOf d.names.now.names) p.winners
+pub winner_names_held : (d : Data) (p : Program) → IsProgram d p → All (HeldOf d.names.now.names) p.winners
 winner_names_held d p is = subst (All (HeldOf d.names.now.names)) (sym (is.winners_are ∙ ap winners_of is.entries)) (winners_held d.names.now.names _ (entries_held Plain p.objects d.names.now is.numbers))
 
 -- the number of a winner's name is below the count
@@ -56,7 +56,7 @@ one_export names asked plan e is held =
     let here : get_or asked (name_number names e) false ≡ has_name (demanded plan ++ plan.exports_if) (name_of e) = ap (λ k. get_or asked k false) (number_is names e n.0 n.1) ∙ is (name_of e) n.0 n.1 in
     ap (λ b. b || (not (e.input == 0) && (has_bit 0x20 e.symbol.flags || (plan.export_dynamic && not (has_bit 0x04 e.symbol.flags))))) here
 
-pub exports_are : (d : Data) (p : Program) (asked : List Bool) → IsProgram Plain d p → IsAsked d.names.now.names (demanded d.plan.now ++ d.plan.now.exports_if) asked
+pub exports_are : (d : Data) (p : Program) (asked : List Bool) → IsProgram d p → IsAsked d.names.now.names (demanded d.plan.now ++ d.plan.now.exports_if) asked
     → filter (is_export asked d.plan.now.export_dynamic) d.tables.now.winners ≡ map (told_winner d.names.now.names) (exported Plain p)
 unfolding exported
 exports_are d p asked is are =
@@ -81,7 +81,7 @@ module _ (mode : Mode) (allow : Bool) (all : List InputSymbol) (objects : List O
   own_is e None = refl
   own_is e (Some o) = refl
 
-pub name_is : (d : Data) (p : Program) → IsProgram Plain d p → (e : InputSymbol) → HeldOf d.names.now.names e → name_seen d.objects.now d.names.now.names (told_winner d.names.now.names e) ≡ export_name p e
+pub name_is : (d : Data) (p : Program) → IsProgram d p → (e : InputSymbol) → HeldOf d.names.now.names e → name_seen d.objects.now d.names.now.names (told_winner d.names.now.names e) ≡ export_name p e
 name_is d p is e held =
     let names = d.names.now.names in
     let n = numbered names (name_of e) held in
@@ -100,7 +100,7 @@ name_is d p is e held =
 
 -- ---- a name that is given twice
 
-given_is : (d : Data) (p : Program) → IsProgram Plain d p → (es : List InputSymbol) → All (Contains p.winners) es
+given_is : (d : Data) (p : Program) → IsProgram d p → (es : List InputSymbol) → All (Contains p.winners) es
     → map (given_seen d.objects.now d.names.now.names) (map (told_winner d.names.now.names) es) ≡ map (λ e. record { name = export_name p e; input = e.input }) es
 given_is d p is es among =
     let names = d.names.now.names in
@@ -108,7 +108,7 @@ given_is d p is es among =
     ∙ map_same (λ e. given_seen d.objects.now names (told_winner names e)) (λ e. record { name = export_name p e; input = e.input }) es
     (λ k e below. let x = get_or es k e in let h = name_is d p is x (All-contains (HeldOf names) p.winners x (winner_names_held d p is) (among k e below)) in λ i. record { name = h i; input = x.input })
 
-pub repeats_are : (d : Data) (p : Program) (es : List InputSymbol) (ws : List Winner) → IsProgram Plain d p → All (Contains p.winners) es → ws ≡ map (told_winner d.names.now.names) es
+pub repeats_are : (d : Data) (p : Program) (es : List InputSymbol) (ws : List Winner) → IsProgram d p → All (Contains p.winners) es → ws ≡ map (told_winner d.names.now.names) es
     → first_repeat [] (memory_given d.plan.now.import_memory ++ map (given_seen d.objects.now d.names.now.names) ws) ≡ repeated_export Plain p es
 unfolding repeated_export
 repeats_are d p es ws is among told =

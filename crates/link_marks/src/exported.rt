@@ -1,6 +1,6 @@
 //! What is exported, and by which names.
 ghost use Rattle.std.specs.Prelude.{◌≡◌, ◌<◌, filter, map, length, option_copied, Contains, IfOk};
-ghost use Rattle.link_program.specs.made_symbols.declared.mode.Mode.TheVariants.{Plain};
+ghost use Rattle.link_program.specs.link_rules.ModeOf.{mode_of};
 ghost use Rattle.link_program.specs.link_rules.Program as rules;
 ghost use Rattle.link_program.specs.link_rules.Marks as marks;
 ghost use Rattle.link_program.specs.name_rules.Entries.{InputSymbol};
@@ -52,8 +52,8 @@ pub(crate) fn chosen(
 /// `--export-dynamic` those of objects' symbols that aren't HIDDEN (Linking.md, "Symbol Table Subsection").
 pub fn exports(alloc: Global, program: Program<'_>) -> Result<Seq<Winner>, OutOfMemory>
     ghost p: { rules.Program }
-    requires { IsProgram Plain program p }
-    ensures { IfOk result (λ es. es ≡ map (told_winner program.entry.names.now.names) (marks.exported Plain p)) }
+    requires { IsProgram program p }
+    ensures { IfOk result (λ es. es ≡ map (told_winner program.entry.names.now.names) (marks.exported (mode_of p.plan) p)) }
 {
     let asked = asked_names(alloc, program.names, program.plan)?;
     let winners = program.tables.winners.as_slice();
@@ -94,7 +94,7 @@ pub(crate) fn name_seen<'a>(objects: &'a [Object], names: &'a Names, winner: &Wi
 /// there.
 pub fn export_name<'a>(program: Program<'a>, winner: &Winner) -> &'a [u8]
     ghost p: { rules.Program }
-    requires program { IsProgram Plain program p }
+    requires program { IsProgram program p }
     requires winner { IsWinner program.names.now.names p.winners winner.now }
     ensures { (e : InputSymbol) → Contains p.winners e → winner.now ≡ told_winner program.entry.names.now.names e → result.now ≡ marks.export_name p e }
 {

@@ -1,6 +1,5 @@
 //! Which parts are live.
 ghost use Rattle.std.specs.Prelude.{◌≡◌, map, IfOk};
-ghost use Rattle.link_program.specs.made_symbols.declared.mode.Mode.TheVariants.{Plain};
 ghost use Rattle.link_program.specs.link_rules.Marks as marks;
 ghost use Rattle.link_program.specs.Told.{told_winner};
 ghost use Rattle.link_program.specs.Program.{IsProgram};
@@ -52,7 +51,7 @@ pub fn live_parts<R: Threads + Sync, G: Gate>(
     gate: &G,
 ) -> Result<Live, OutOfMemory>
     ghost w: { Exporting }
-    requires program { IsProgram Plain program w.program }
+    requires program { IsProgram program w.program }
     requires exports { exports.now ≡ map (told_winner program.names.now.names) w.exports }
     ensures { IfOk result (λ l. IsLive w.program l (marks.live w.program w.exports)) }
 {

@@ -1,11 +1,11 @@
 //! Which names stay unresolved.
 ghost use Rattle.std.specs.Prelude.{◌≡◌, option_to_list, length, IfOk};
-ghost use Rattle.link_program.specs.made_symbols.declared.mode.Mode.TheVariants.{Plain};
 ghost use Rattle.link_program.specs.name_rules.Entries.{entries};
 ghost use Rattle.link_program.specs.name_rules.Meanings.{resolve};
 ghost use Rattle.link_program.specs.name_meanings.Means.{IsResolution};
 ghost use Rattle.link_program.specs.name_entries.View.{InputsRise};
 ghost use Rattle.name_unresolved.specs.Unresolved.{first_unresolved_of};
+ghost use Rattle.link_program.specs.link_rules.ModeOf.{mode_of};
 ghost use Rattle.link_program.specs.link_rules.Marks as marks;
 ghost use Rattle.link_program.specs.Answers.{Passes};
 ghost use Rattle.link_program.specs.Program.{IsProgram};
@@ -135,7 +135,7 @@ fn first_open<R: Threads + Sync>(
     workers: Workers,
 ) -> Result<Option<Fault>, OutOfMemory>
     requires inputs { InputsRise 0 program.objects.now }
-    requires meant { IsResolution program.resolution.now (resolve Plain program.plan.now.allow_undefined (entries Plain program.objects.now) program.objects.now) }
+    requires meant { IsResolution program.resolution.now (resolve (mode_of program.plan.now) program.plan.now.allow_undefined (entries (mode_of program.plan.now) program.objects.now) program.objects.now) }
     requires live { live.now.set.chunks ≡ length program.tables.now.chunks }
     ensures { IfOk result (λ f. f ≡ open_fault program.entry.objects.now (first_unresolved_of program.entry.objects.now program.entry.resolution.now.rows live.now.set.words program.entry.tables.now.chunks)) }
 {
@@ -163,7 +163,7 @@ pub fn unresolved<R: Threads + Sync>(
     workers: Workers,
 ) -> Result<(), LinkError>
     ghost w: { Living }
-    requires program { IsProgram Plain program w.program }
+    requires program { IsProgram program w.program }
     requires live { IsLive w.program live.now w.parts }
     ensures { Passes result (marks.unresolved w.program w.parts) }
 {

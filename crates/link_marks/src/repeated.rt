@@ -1,8 +1,8 @@
 //! Whether a name is exported twice.
 ghost use Rattle.std.specs.Prelude.{◌≡◌, ◌<◌, ◌++◌, ◌∷◌, [], List, Some, None, All, Contains, map, find, length, option_map, slice_get, bytes_eq, IfOk};
 ghost use Rattle.link_program.specs.wl_base.declared.fault.Fault.TheVariants.{Duplicate};
-ghost use Rattle.link_program.specs.made_symbols.declared.mode.Mode.TheVariants.{Plain};
 ghost use Rattle.link_program.specs.name_entries.View.{InputsRise};
+ghost use Rattle.link_program.specs.link_rules.ModeOf.{mode_of};
 ghost use Rattle.link_program.specs.link_rules.Marks as marks;
 ghost use Rattle.link_program.specs.Answers.{Passes};
 ghost use Rattle.link_program.specs.Told.{told_winner};
@@ -110,10 +110,10 @@ pub fn repeated_export(
     exports: &[Winner],
 ) -> Result<(), LinkError>
     ghost w: { Exporting }
-    requires program { IsProgram Plain program w.program }
+    requires program { IsProgram program w.program }
     requires winners { All (Contains w.program.winners) w.exports }
     requires exports { exports.now ≡ map (told_winner program.names.now.names) w.exports }
-    ensures { Passes result (marks.repeated_export Plain w.program w.exports) }
+    ensures { Passes result (marks.repeated_export (mode_of w.program.plan) w.program w.exports) }
 {
     let imports_memory = program.plan.import_memory;
     let fault = first_repeat(

@@ -1,3 +1,4 @@
+pub mod ModeOf
 pub mod Candidates
 pub mod Program
 pub mod Marks

@@ -8,7 +8,6 @@ use Rattle.name_rules.specs.object_file.declared.object.Object.{Object}
 use Rattle.name_rules.specs.object_file.ObjectOf.{object_of}
 use Rattle.lib_index.specs.Reading.{library_of}
 use Rattle.made_symbols.specs.declared.mode.Mode.{Mode}
-use Rattle.made_symbols.specs.declared.mode.Mode.TheVariants.{Plain}
 use Rattle.round_rules.specs.Rounds.{load}
 use Rattle.name_rules.specs.Entries.{InputSymbol, name_of}
 use Rattle.name_rules.specs.Cases.{clash_by, duplicate}
@@ -20,6 +19,7 @@ use Rattle.dylink_out.specs.image_emit.declared.tree.Image.{Image}
 use Rattle.dylink_out.specs.image_emit.Bytes.{bytes_of, tree_of}
 use Rattle.dylink_out.specs.image_emit.Filled.{tree_filled}
 use Rattle.link_plan.specs.declared.plan.Plan.{Plan}
+use Rattle.link_rules.specs.ModeOf.{mode_of}
 use Rattle.link_rules.specs.Candidates.{Readers, candidates_of}
 use Rattle.link_rules.specs.Program.{Program, Part, program_of}
 use Rattle.link_rules.specs.Marks.{demanded, exported, repeated_export, live, pic_fault, unresolved, uncalled}
@@ -123,10 +123,6 @@ link_by mode readers plan files = do
 -- What bytes are as an object and as a library.
 abbrev pub the_readers : Readers
 the_readers = record { object = object_of; library = library_of }
-
--- No word asks for a shared output yet.
-abbrev pub mode_of : Plan → Mode
-mode_of plan = Plain
 
 -- The link of files by a plan.
 unfoldable pub link_of : Plan → List (List ℕ) → Result (List ℕ) Fault

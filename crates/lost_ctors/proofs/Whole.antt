@@ -48,7 +48,7 @@ is_judged true true inits exits is b lost = absurd cc
 is_judged false true inits exits is b lost = absurd cc
 is_judged false false inits exits is b lost = absurd cc
 
-module _ (d : Program) (p : rules.Program) (is : IsProgram Plain d p) where
+module _ (d : Program) (p : rules.Program) (is : IsProgram d p) where
   abbrev resolved_of : Object → Resolved
   resolved_of o = resolved_in Plain no_uses p.plan.allow_undefined (entries Plain p.objects) p.objects o
 

@@ -1,8 +1,8 @@
 //! The fault of a link that would lose constructors.
 ghost use Rattle.std.specs.Prelude.{◌≡◌, ◌||◌, ◌<◌, ◌^◌, not, length, flat_map};
-ghost use Rattle.link_marks.specs.link_program.made_symbols.declared.mode.Mode.TheVariants.{Plain};
 ghost use Rattle.link_marks.specs.link_program.name_entries.Fits.{Fits, FitsObjects};
 ghost use Rattle.link_marks.specs.link_program.name_entries.View.{rows_of};
+ghost use Rattle.link_marks.specs.link_program.link_rules.ModeOf.{mode_of};
 ghost use Rattle.link_marks.specs.link_program.link_rules.Program as rules;
 ghost use Rattle.link_marks.specs.link_program.link_rules.Marks as marks;
 ghost use Rattle.link_marks.specs.link_program.Answers.{Passes};
@@ -23,7 +23,7 @@ use wl_base::Fault;
 /// Whether the link isn't like lld's, or something names `__wasm_call_ctors`.
 fn is_exempt(program: Program<'_>) -> bool
     ghost p: { rules.Program }
-    requires { IsProgram Plain program p }
+    requires { IsProgram program p }
     ensures { result ≡ (not p.plan.like_lld || marks.names_ctors p) }
 {
     if !program.plan.like_lld {
@@ -61,11 +61,11 @@ pub fn uncalled(
     live: &Live,
 ) -> Result<(), LinkError>
     ghost w: { Living }
-    requires program { IsProgram Plain program w.program }
-    requires fits { Fits Plain entries }
+    requires program { IsProgram program w.program }
+    requires fits { Fits (mode_of w.program.plan) entries }
     requires objects { entries.objects.now ≡ program.objects.now }
     requires live { IsLive w.program live.now w.parts }
-    ensures { Passes result (marks.uncalled Plain w.program w.parts) }
+    ensures { Passes result (marks.uncalled (mode_of w.program.plan) w.program w.parts) }
 {
     if is_exempt(program) {
         return Ok(());

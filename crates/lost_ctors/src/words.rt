@@ -3,7 +3,6 @@ ghost use Rattle.std.specs.Prelude.{◌≡◌, [], length, slice_index_or, optio
 ghost use Rattle.std.specs.List.{list_any};
 ghost use Rattle.link_marks.specs.link_program.wl_base.Choice.{has_name};
 ghost use Rattle.link_marks.specs.link_program.wl_base.Names.{number_of};
-ghost use Rattle.link_marks.specs.link_program.made_symbols.declared.mode.Mode.TheVariants.{Plain};
 ghost use Rattle.link_marks.specs.link_program.name_entries.View.{is_number};
 ghost use Rattle.link_marks.specs.link_program.link_rules.Program as rules;
 ghost use Rattle.link_marks.specs.link_program.link_rules.Marks.{demanded, ctors_name, names_ctors};
@@ -79,7 +78,7 @@ fn objects_name(names: &Names, objects: u32, number: u32) -> bool
 /// Whether the words name the linker's function, or an object has an entry of its name.
 pub(crate) fn names_ctors(program: Program<'_>) -> bool
     ghost p: { rules.Program }
-    requires { IsProgram Plain program p }
+    requires { IsProgram program p }
     ensures { result ≡ names_ctors p }
 {
     if words_name(program.plan) {

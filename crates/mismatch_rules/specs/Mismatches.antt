@@ -12,7 +12,8 @@ use Rattle.link_plan.specs.declared.plan.Plan.{Plan}
 use Rattle.link_rules.specs.Candidates.{Readers, candidates_of}
 use Rattle.link_rules.specs.Program.{Program, program_of, option_onto}
 use Rattle.link_rules.specs.Keys.{function_type_of}
-use Rattle.link_rules.specs.LinkOf.{asked_names, too_many_names, the_readers, mode_of}
+use Rattle.link_rules.specs.LinkOf.{asked_names, too_many_names, the_readers}
+use Rattle.link_rules.specs.ModeOf.{mode_of}
 use Rattle.mismatch_rules.specs.declared.mismatch.Mismatch.{Mismatch}
 
 -- A reference beside the definition that it means.

@@ -5,7 +5,6 @@ use Rattle.loose_calls.specs.link_program.wl_base.declared.fault.Fault.{Fault}
 use Rattle.loose_calls.specs.link_program.wl_base.declared.fault.Fault.TheVariants.{TooManyNames}
 use Rattle.loose_calls.specs.link_program.object_file.declared.object.Object.{Object}
 use Rattle.loose_calls.specs.link_program.made_symbols.declared.mode.Mode.{Mode}
-use Rattle.loose_calls.specs.link_program.made_symbols.declared.mode.Mode.TheVariants.{Plain}
 use Rattle.loose_calls.specs.link_program.name_entries.Fits.{IsTable}
 use Rattle.loose_calls.specs.link_program.name_entries.declared.table.EntryTable.{EntryTable}
 use Rattle.loose_calls.specs.link_program.link_names.Numbered as names
@@ -16,6 +15,7 @@ use Rattle.loose_calls.specs.link_program.name_rules.Cases.{clash_by, duplicate}
 use Rattle.loose_calls.specs.link_program.name_entries.View.{WinnersAre, NonePast}
 use Rattle.loose_calls.specs.link_program.name_meanings.Means.{IsResolution}
 use Rattle.loose_calls.specs.link_program.link_plan.declared.plan.Plan.{Plan}
+use Rattle.loose_calls.specs.link_program.link_rules.ModeOf.{mode_of}
 use Rattle.loose_calls.specs.link_program.link_rules.LinkOf.{asked_names}
 use Rattle.loose_calls.specs.link_program.Loaded.{Origin}
 use Rattle.loose_calls.specs.link_program.declared.error.LinkError.{LinkError}
@@ -55,6 +55,6 @@ MeansOrRefused mode (Err OutOfMemory) origin objects held = Unit {0}
 
 -- The numbers of names, what is looked up of objects and what names mean, before variants have names.
 pub record AreMeant (origin : Origin) (objects : List Object) (n : names.Numbered) (table : EntryTable) (m : Meanings) : Type 0 where
-  pub numbered : Numbered Plain (Ok n) origin.plan objects
+  pub numbered : Numbered (mode_of origin.plan) (Ok n) origin.plan objects
   pub looked_up : IsTable objects n table
-  pub meanings : AreMeanings Plain m origin objects n.names
+  pub meanings : AreMeanings (mode_of origin.plan) m origin objects n.names

@@ -1,8 +1,8 @@
 //! What is found of the loaded objects, in order: the numbers of names, the winners of groups and of names, the least clash and the least
 //! duplicate, what symbols mean, and the tables of parts.
 ghost use Rattle.std.specs.Prelude.{◌≡◌, IfOk};
-ghost use Rattle.loose_calls.specs.link_program.made_symbols.declared.mode.Mode.TheVariants as modes;
 ghost use Rattle.loose_calls.specs.link_program.link_plan.Plan.{IsPlan};
+ghost use Rattle.loose_calls.specs.link_program.link_rules.ModeOf.{mode_of};
 ghost use Rattle.loose_calls.specs.link_program.link_rules.Program.{program_of};
 ghost use Rattle.loose_calls.specs.link_program.Loaded.{IsLoaded, Origin};
 ghost use Rattle.program_build.specs.Steps.{AreMeant};
@@ -37,7 +37,7 @@ fn found_by<R: Threads + Sync>(
     requires same { origin.plan ≡ plan.now }
     requires loaded { IsLoaded origin.files origin.all objects.now homes.now }
     requires meant { AreMeant origin objects.now names entries meanings }
-    ensures { IfOk result (λ found. IsFound modes.Plain plan.now objects.now found (program_of modes.Plain plan.now origin.files origin.all objects.now)) }
+    ensures { IfOk result (λ found. IsFound (mode_of plan.now) plan.now objects.now found (program_of (mode_of plan.now) plan.now origin.files origin.all objects.now)) }
 {
     let Meanings { ranks, resolution } = meanings;
     let loose = loosened(
@@ -78,7 +78,7 @@ pub fn find<G: Gate, R: Threads + Sync>(
     requires plan { IsPlan plan.now }
     requires same { origin.plan ≡ plan.now }
     requires loaded { IsLoaded origin.files origin.all objects.now homes.now }
-    ensures { Finds modes.Plain result plan.now objects.now (program_of modes.Plain plan.now origin.files origin.all objects.now) }
+    ensures { Finds (mode_of plan.now) result plan.now objects.now (program_of (mode_of plan.now) plan.now origin.files origin.all objects.now) }
 {
     let names = numbers_of(alloc, plan, objects, Mode::Plain)?;
     let groups = group_winners(rt, alloc, objects, &names, workers, gate)?;

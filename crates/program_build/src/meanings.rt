@@ -1,8 +1,8 @@
 //! Who wins each name, and what each symbol means.
 ghost use Rattle.std.specs.Prelude.{◌≡◌};
-ghost use Rattle.loose_calls.specs.link_program.made_symbols.declared.mode.Mode.TheVariants as modes;
 ghost use Rattle.loose_calls.specs.link_program.name_entries.Fits.{Fits};
 ghost use Rattle.loose_calls.specs.link_program.Loaded.{Origin};
+ghost use Rattle.loose_calls.specs.link_program.link_rules.ModeOf.{mode_of};
 ghost use Rattle.program_build.specs.Steps.{MeansOrRefused};
 
 use crate::cases::refuse_cases;
@@ -34,8 +34,8 @@ pub(crate) fn meanings_of<G: Gate, R: Threads + Sync>(
 ) -> Result<Meanings, LinkError>
     ghost origin: { Origin }
     requires same { origin.plan ≡ plan.now }
-    requires fits { Fits modes.Plain view }
-    ensures { MeansOrRefused modes.Plain result origin view.entry.objects.now view.entry.names.now.names }
+    requires fits { Fits (mode_of plan.now) view }
+    ensures { MeansOrRefused (mode_of plan.now) result origin view.entry.objects.now view.entry.names.now.names }
 {
     let ranks = name_winners(rt, alloc, view, Mode::Plain, workers, gate)?;
     refuse_cases(rt, alloc, view, plan.loose_calls, workers)?;

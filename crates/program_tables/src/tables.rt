@@ -6,6 +6,7 @@ ghost use Rattle.link_program.specs.name_rules.Meanings.{resolve};
 ghost use Rattle.link_program.specs.name_entries.View.{WinnersAre};
 ghost use Rattle.link_program.specs.name_entries.Fits.{Fits};
 ghost use Rattle.link_program.specs.name_meanings.Means.{IsResolution};
+ghost use Rattle.link_program.specs.link_rules.ModeOf.{mode_of};
 ghost use Rattle.link_program.specs.link_rules.Program.{program_of};
 ghost use Rattle.link_program.specs.Loaded.{Origin, IsLoaded};
 ghost use Rattle.link_program.specs.Program.{AreTables};
@@ -49,7 +50,7 @@ pub fn tables_of<R: Threads + Sync>(
     requires loaded { IsLoaded origin.files origin.all entries.objects.now homes.now }
     requires loose { IsLoose origin.plan.loose_calls origin.plan.allow_undefined entries.names.now.names resolution.now.imports entries.objects.now loose.now }
     ensures { IfOk result (λ tables. AreTables entries.entry.names.now.names resolution.now.imports tables
-        (program_of modes.Plain origin.plan origin.files origin.all entries.entry.objects.now)) }
+        (program_of (mode_of origin.plan) origin.plan origin.files origin.all entries.entry.objects.now)) }
 {
     let places = places_by_input(alloc, entries)?;
     let sources = Sources {

@@ -59,7 +59,7 @@ given_all {A} {B} P test f each (x ∷ xs) = by_test (test x) (given_all P test 
     by_test true rest = All-cons P (f x) (filter_map (λ x. given (test x) (f x)) xs) (each x) rest
     by_test false rest = rest
 
-module _ (d : Data) (p : rules.Program) (is : IsProgram Plain d p) (stand : PartsStand p) where
+module _ (d : Data) (p : rules.Program) (is : IsProgram d p) (stand : PartsStand p) where
   abbrev pub names_of : List (List ℕ)
   names_of = d.names.now.names
 

@@ -1,7 +1,7 @@
 //! From files to the loaded objects as the machine takes them, by the steps of a link up to its layout.
 ghost use Rattle.std.specs.Prelude.{◌≡◌, length, unwrap_or};
-ghost use Rattle.link_program.specs.made_symbols.declared.mode.Mode.TheVariants as modes;
 ghost use Rattle.link_program.specs.link_plan.Plan.{IsPlan};
+ghost use Rattle.link_program.specs.link_rules.ModeOf.{mode_of};
 ghost use Rattle.link_program.specs.link_rules.Program as rules;
 ghost use Rattle.link_program.specs.Loaded.{IsLoaded};
 ghost use Rattle.link_program.specs.Program.{IsProgram};
@@ -104,8 +104,8 @@ fn choose<R: Threads + Sync, G: Gate>(
     gate: &G,
 ) -> Result<Chosen, LinkError>
     ghost p: { rules.Program }
-    requires program { IsProgram modes.Plain program p }
-    requires fits { Fits modes.Plain entries }
+    requires program { IsProgram program p }
+    requires fits { Fits (mode_of p.plan) entries }
     requires objects { entries.objects.now ≡ program.objects.now }
     requires stand { PartsStand p }
     ensures { Chooses result program.entry p }

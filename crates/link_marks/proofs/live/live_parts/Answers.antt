@@ -1,5 +1,4 @@
 use Rattle.std.proofs.Common.{rules, map, ◌≡◌, ◌∙◌, sym, subst, ap, List, ℕ, length}
-use Rattle.link_program.specs.made_symbols.declared.mode.Mode.TheVariants.{Plain}
 use Rattle.link_program.specs.Told.{told_winner}
 use Rattle.link_program.specs.Program.{IsProgram}
 use Rattle.link_program.specs.mark_bits.Reach.{Reached}
@@ -14,7 +13,7 @@ live-requires-clause-roots g c κs within =
     let ns = c.args.program.names.now.names in
     let imports = c.args.program.resolution.now.imports in
     let p = g.w.program in
-    let is : IsProgram Plain c.args.program p = search rules in
+    let is : IsProgram c.args.program p = search rules in
     let told : c.args.exports.now ≡ map (told_winner ns) g.w.exports = search rules in
     let t = led_are ns imports c.args.program.tables.now p is.tables c.as_slice-led.result.now (c.as_slice-led.ensures.value ∙ c.in_ok-leads.ensures ∙ ap (led_numbers c.args.program.tables.now.chunks) c.as_slice-symbols.ensures) in
     let r = c.as_slice.ensures ∙ c.in_ok-roots.ensures ∙ roots_are ns imports c.args.program.tables.now p is.tables c.args.program.plan.now.gc c.args.exports.now g.w.exports (ap (λ plan. plan.gc) is.plan) told in
@@ -25,7 +24,7 @@ live-requires-clause-targets g c κs within =
     let ns = c.args.program.names.now.names in
     let imports = c.args.program.resolution.now.imports in
     let p = g.w.program in
-    let is : IsProgram Plain c.args.program p = search rules in
+    let is : IsProgram c.args.program p = search rules in
     let told : c.args.exports.now ≡ map (told_winner ns) g.w.exports = search rules in
     let t = led_are ns imports c.args.program.tables.now p is.tables c.as_slice-led.result.now (c.as_slice-led.ensures.value ∙ c.in_ok-leads.ensures ∙ ap (led_numbers c.args.program.tables.now.chunks) c.as_slice-symbols.ensures) in
     subst AllBelow (sym t) (targets_below p)
@@ -35,7 +34,7 @@ returns g c =
     let ns = c.args.program.names.now.names in
     let imports = c.args.program.resolution.now.imports in
     let p = g.w.program in
-    let is : IsProgram Plain c.args.program p = search rules in
+    let is : IsProgram c.args.program p = search rules in
     let told : c.args.exports.now ≡ map (told_winner ns) g.w.exports = search rules in
     let t = led_are ns imports c.args.program.tables.now p is.tables c.as_slice-led.result.now (c.as_slice-led.ensures.value ∙ c.in_ok-leads.ensures ∙ ap (led_numbers c.args.program.tables.now.chunks) c.as_slice-symbols.ensures) in
     let r = c.as_slice.ensures ∙ c.in_ok-roots.ensures ∙ roots_are ns imports c.args.program.tables.now p is.tables c.args.program.plan.now.gc c.args.exports.now g.w.exports (ap (λ plan. plan.gc) is.plan) told in

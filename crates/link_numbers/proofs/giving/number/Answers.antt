@@ -21,7 +21,7 @@ numbers_told-requires-clause-rows g c κs within =
 
 pub returns-in_err-numbering-clause-table : goal.returns-in_err-numbering-clause-table
 returns-in_err-numbering-clause-table g c =
-    let is : IsProgram Plain c.args.program g.link.program = search rules in
+    let is : IsProgram c.args.program g.link.program = search rules in
     let stand : PartsStand g.link.program = search rules in
     let are : AreLive g.link.program c.args.live.now g.link.parts = search rules in
     let meant : AllMeant g.link.parts = search rules in
@@ -34,7 +34,7 @@ returns-in_err-numbering-clause-table g c =
 
 pub returns-clause-numbers : goal.returns-clause-numbers
 returns-clause-numbers g c =
-    let is : IsProgram Plain c.args.program g.link.program = search rules in
+    let is : IsProgram c.args.program g.link.program = search rules in
     let stand : PartsStand g.link.program = search rules in
     let are : AreLive g.link.program c.args.live.now g.link.parts = search rules in
     let meant : AllMeant g.link.parts = search rules in
@@ -45,7 +45,7 @@ returns-clause-numbers g c =
 
 pub returns-clause-table : goal.returns-clause-table
 returns-clause-table g c =
-    let is : IsProgram Plain c.args.program g.link.program = search rules in
+    let is : IsProgram c.args.program g.link.program = search rules in
     let stand : PartsStand g.link.program = search rules in
     let are : AreLive g.link.program c.args.live.now g.link.parts = search rules in
     let meant : AllMeant g.link.parts = search rules in

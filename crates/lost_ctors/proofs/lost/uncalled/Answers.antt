@@ -20,7 +20,7 @@ is_lost-requires-clause-fits g c = let fits : Fits Plain c.args.entries = search
 
 pub is_lost-requires-clause-few : goal.is_lost-requires-clause-few
 is_lost-requires-clause-few g c =
-    let is : IsProgram Plain c.args.program g.w.program = search rules in
+    let is : IsProgram c.args.program g.w.program = search rules in
     let same : c.args.entries.objects.now ≡ c.args.program.objects.now = search rules in
     subst (λ (os : List Object). length (flat_map (λ row. row) (rows_of os)) < 2 ^ 32) (sym (same ∙ is.objects)) (few_rows c.args.program g.w.program is)
 
@@ -32,7 +32,7 @@ returns-then-is_exempt g c =
 pub returns-then-is_lost : goal.returns-then-is_lost
 unfolding uncalled
 returns-then-is_lost g c =
-    let is : IsProgram Plain c.args.program g.w.program = search rules in
+    let is : IsProgram c.args.program g.w.program = search rules in
     let live : IsLive g.w.program c.args.live.now g.w.parts = search rules in
     let same : c.args.entries.objects.now ≡ c.args.program.objects.now = search rules in
     let column : AreAlive c.args.program.tables.now c.args.live.now.numbers c.as_slice-column.result.now =
@@ -47,7 +47,7 @@ returns-then-is_lost g c =
 pub returns : goal.returns
 unfolding uncalled
 returns g c =
-    let is : IsProgram Plain c.args.program g.w.program = search rules in
+    let is : IsProgram c.args.program g.w.program = search rules in
     let live : IsLive g.w.program c.args.live.now g.w.parts = search rules in
     let same : c.args.entries.objects.now ≡ c.args.program.objects.now = search rules in
     let column : AreAlive c.args.program.tables.now c.args.live.now.numbers c.as_slice-column.result.now =
