@@ -35,7 +35,7 @@ use Rattle.program_build.specs.declared.found.Found.{Found}
 use Rattle.program_build.specs.Found.{Finds, IsFound}
 use Rattle.link_core.specs.Telling.{Tells, TellsBeside}
 
-beside_all : (e : LinkError) (told due : List Mismatch) → told ≡ due → TellsBeside e told due
+pub beside_all : (e : LinkError) (told due : List Mismatch) → told ≡ due → TellsBeside e told due
 beside_all (Refused f) told due is = is
 beside_all OutOfMemory told due is = tt
 

@@ -12,5 +12,5 @@ either true at none = none
 either false at none = refl
 
 pub passes : (plan : Plan) (bytes : List ℕ) → IsValidOutput bytes → invalid_fault plan bytes ≡ None
-unfolding invalid_fault invalid_at
+unfolding invalid_at
 passes plan bytes v = ap (option_map Invalid) (either plan.validate (judged (module_of bytes)) (ap judged v.read ∙ v.no_fault))

@@ -22,7 +22,7 @@ unfoldable pub invalid_at : Plan → List ℕ → Option InvalidAt
 invalid_at plan bytes = if plan.validate then judged (module_of bytes) else None
 
 -- The same as the fault that refuses the link.
-unfoldable pub invalid_fault : Plan → List ℕ → Option Fault
+abbrev pub invalid_fault : Plan → List ℕ → Option Fault
 invalid_fault plan bytes = option_map Invalid (invalid_at plan bytes)
 
 -- The bytes spell one module (Core 5.5), and it is valid: validation finds no fault in it.

@@ -9,3 +9,4 @@ mod OneTypes
 mod Variants
 mod Candidates
 mod Links
+pub use Rattle.output_check.proofs as output_check_lemmas

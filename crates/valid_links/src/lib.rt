@@ -4,6 +4,9 @@
 ghost use Rattle.valid_links.specs.Types.{NamesHaveOneType};
 ghost use Rattle.valid_links.specs.Links.{LinksAreValid};
 
+pub use link_runs::{Inputs, links_run, load_inputs};
+pub use output_check::{ValidError, check_output};
+
 /// Where no names of loaded objects clash, what a live reference names has the type that its object
 /// gives to the symbol: a definition, an import, or the stub of a null name.
 pub fn names_have_one_type()
@@ -20,7 +23,7 @@ pub fn links_are_valid()
     names_have_one_type();
     output_types::outputs_are_valid();
     output_types::places_dont_count();
-    output_module::bodies_take_references();
+    link_facts::bodies_take_references();
     object_file::read_objects_are_sound();
     object_file::read_objects_are_spellable();
     link_inputs::loaded_objects_are_sound();
