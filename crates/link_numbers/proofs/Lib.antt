@@ -2,6 +2,7 @@ pub mod Knows
 pub mod Ordered
 pub mod KeysTold
 pub mod Coded
+mod ReadAt
 mod Rows
 pub mod TypesTold
 pub mod Whole

@@ -47,7 +47,7 @@ fn is_same(a: FunctionKey, b: FunctionKey) -> bool
 }
 
 /// The number at a place, or 0.
-#[tactic(auto, using(link_keys::proofs::ReadAt::read))]
+#[tactic(auto, using(crate::proofs::ReadAt::read))]
 fn number_at(numbers: &[u32], at: usize) -> u32
     ensures { result ≡ slice_index_or numbers.now at 0 }
 {

@@ -99,6 +99,20 @@ impl Numbering {
         count_imports(self.functions.keys())
     }
 
+    /// The functions that have slots, in the order of the slots.
+    pub fn slots(&self) -> &[FunctionKey]
+        ensures { result.now ≡ self.now.slots }
+    {
+        self.slots.keys()
+    }
+
+    /// The first slot that a function has.
+    pub fn first_slot(&self) -> u32
+        ensures { result ≡ self.now.first_slot }
+    {
+        self.first_slot
+    }
+
     /// The numbers of the functions that have slots, in the order of the slots.
     pub fn takers(&self) -> &[u32]
         ensures { result.now ≡ map (number_by same_function_key self.now.functions) self.now.slots }
