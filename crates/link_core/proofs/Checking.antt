@@ -1,16 +1,18 @@
 -- The check behind the link: what is linked, by what the link gives and what the check finds.
-use Rattle.std.proofs.Common.{◌≡◌, ℕ, List, length, refl, sym, ap, ◌∙◌, Option, Some, None, Result, Ok, Err}
+use Rattle.std.proofs.Common.{◌≡◌, ℕ, List, length, refl, sym, ap, subst, ◌∙◌, Option, Some, None, Result, Ok, Err}
 use Rattle.std.specs.Prelude.{unwrap_or, IfOk}
 use Rattle.link_output.specs.link_program.wl_base.Choice.{unless, ◌>>=◌}
 use Rattle.link_output.specs.link_program.wl_base.declared.fault.Fault.{Fault}
+use Rattle.link_output.specs.link_program.wl_base.declared.fault.Fault.TheVariants.{Invalid}
+use Rattle.link_output.specs.link_program.wl_base.declared.fault.InvalidAt.{InvalidAt}
 use Rattle.link_output.specs.link_program.link_plan.declared.plan.Plan.{Plan}
 use Rattle.link_output.specs.link_program.link_plan.Plan.{IsPlan}
 use Rattle.link_output.specs.link_program.link_rules.LinkOf.{link_of}
 use Rattle.link_output.specs.link_program.declared.error.LinkError.{LinkError}
 use Rattle.link_output.specs.link_program.declared.error.LinkError.TheVariants.{Refused, OutOfMemory}
 use Rattle.link_output.specs.link_program.Answers.{Fails, Stops}
-use Rattle.valid_links.specs.Links.{AllValid, LinksAreValid}
-use Rattle.valid_links.specs.output_check.Check.{invalid_fault}
+use Rattle.valid_links.specs.Links.{AllValid, LinksAreValid, LinksDontJudge}
+use Rattle.valid_links.specs.output_check.Check.{invalid_fault, IsValidOutput}
 use Rattle.valid_links.proofs.output_check_lemmas.Passed.{passes}
 use Rattle.link_core.specs.Answers.{Answers}
 use Rattle.link_core.specs.Linked.{checked, linked}
@@ -51,7 +53,10 @@ passes_check plan files bytes link none = ap (then_checked plan) link ∙ ap (ke
 
 -- ---- what the link gave
 
-kept_is : (given bytes : List ℕ) (o : Option Fault) → kept given o ≡ Ok bytes → Ok given ≡ Ok bytes
+abbrev just : List ℕ → Result (List ℕ) Fault
+just bytes = Ok bytes
+
+kept_is : (given bytes : List ℕ) (o : Option Fault) → kept given o ≡ Ok bytes → just given ≡ Ok bytes
 kept_is given bytes None e = e
 kept_is given bytes (Some f) e = absurd cc
 
@@ -69,18 +74,29 @@ is_linked plan files bytes e = given_is plan (link_of plan files) bytes e
 -- where the check would pass, a fault is the link's
 fault_is : (plan : Plan) (r : Result (List ℕ) Fault) (f : Fault) → ((bytes : List ℕ) → r ≡ Ok bytes → invalid_fault plan bytes ≡ None) → then_checked plan r ≡ Err f → r ≡ Err f
 fault_is plan (Ok bytes) f none e =
-    let q : Ok bytes ≡ Err f = sym (ap (kept bytes) (none bytes refl)) ∙ e in
+    let q : just bytes ≡ Err f = sym (ap (kept bytes) (none bytes refl)) ∙ e in
     absurd cc
 fault_is plan (Err g) f none e = e
 
-module _ (plan : Plan) (files : List (List ℕ)) (law : LinksAreValid) (is : IsPlan plan) (long : length files ≡ unwrap_or plan.make_case (length plan.inputs)) (all : AllValid plan files) where
+module _ (plan : Plan) (files : List (List ℕ)) (law : LinksAreValid) (judge : LinksDontJudge) (is : IsPlan plan) (long : length files ≡ unwrap_or plan.make_case (length plan.inputs))
+    (all : AllValid plan files) where
   none_found : (bytes : List ℕ) → link_of plan files ≡ Ok bytes → invalid_fault plan bytes ≡ None
   none_found bytes link = passes plan bytes (law plan files bytes is long all link)
 
-  pub keeps_valid : (answer : Result (List ℕ) LinkError) → Answers answer (linked plan files) → KeepsValid plan files answer
+  never_so : (answer : Result (List ℕ) LinkError) → Answers answer (link_of plan files) → (at : InvalidAt) → answer ≡ Err (Refused (Invalid at)) → ⊥
+  never_so answer said at e = judge plan files at (subst (λ (r : Result (List ℕ) LinkError). Answers r (link_of plan files)) e said)
+
+  as_linked : (answer : Result (List ℕ) LinkError) → Answers answer (linked plan files) → Answers answer (link_of plan files)
   unfolding linked
-  keeps_valid (Ok bytes) said =
-      let link = is_linked plan files bytes said in
-      record { passes = link; valid = law plan files bytes is long all link }
-  keeps_valid (Err (Refused f)) said = record { passes = fault_is plan (link_of plan files) f none_found said; valid = tt }
-  keeps_valid (Err OutOfMemory) said = record { passes = tt; valid = tt }
+  as_linked (Ok bytes) said = is_linked plan files bytes said
+  as_linked (Err (Refused f)) said = fault_is plan (link_of plan files) f none_found said
+  as_linked (Err OutOfMemory) said = tt
+
+  all_valid : (answer : Result (List ℕ) LinkError) → Answers answer (link_of plan files) → IfOk answer IsValidOutput
+  all_valid (Ok bytes) said = law plan files bytes is long all said
+  all_valid (Err e) said = tt
+
+  pub keeps_valid : (answer : Result (List ℕ) LinkError) → Answers answer (linked plan files) → KeepsValid plan files answer
+  keeps_valid answer said =
+      let passes = as_linked answer said in
+      record { passes = passes; never = never_so answer passes; valid = all_valid answer passes }

@@ -45,7 +45,7 @@ use std::alloc::Global;
 use std::mem::forget;
 use std::thread::Threads;
 use valid_links::{
-    Inputs, ValidError, check_output, links_are_valid, links_run, load_inputs,
+    Inputs, ValidError, check_output, links_are_valid, links_dont_judge, links_run, load_inputs,
 };
 use wl_base::{Fault, Seq};
 use wl_fan::Workers;
@@ -113,6 +113,7 @@ pub fn link_telling<R: Threads + Sync, G: Gate>(
 {
     links_run();
     links_are_valid();
+    links_dont_judge();
     let answer = link_checked(rt, alloc, plan, files, gate, told);
     answer
 }

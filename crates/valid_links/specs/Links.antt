@@ -1,6 +1,8 @@
 -- Where all loaded objects of a link are valid, so is its output.
-use Rattle.std.specs.Prelude.{◌≡◌, ◌==◌, ℕ, List, length, find, Some, None, unwrap_or, Ok}
+use Rattle.std.specs.Prelude.{◌≡◌, ◌==◌, ℕ, List, length, find, Some, None, unwrap_or, Ok, Err}
 use Rattle.list_places.specs.Has.{Has}
+use Rattle.object_file.specs.wl_base.declared.fault.InvalidAt.{InvalidAt}
+use Rattle.object_file.specs.wl_base.declared.fault.Fault.TheVariants.{Invalid}
 use Rattle.object_file.specs.declared.object.Object.{Object}
 use Rattle.link_facts.specs.link_worlds.link_rules.round_rules.Rounds.{Candidate, load}
 use Rattle.link_plan.specs.declared.plan.Plan.{Plan}
@@ -22,3 +24,7 @@ AllValid plan files = (all : List Candidate) (objects : List Object)
 abbrev pub LinksAreValid : Type 0
 LinksAreValid = (plan : Plan) (files : List (List ℕ)) (bytes : List ℕ)
     → IsPlan plan → length files ≡ unwrap_or plan.make_case (length plan.inputs) → AllValid plan files → link_of plan files ≡ Ok bytes → IsValidOutput bytes
+
+-- The fault of the check is none of the link's own.
+abbrev pub LinksDontJudge : Type 0
+LinksDontJudge = (plan : Plan) (files : List (List ℕ)) (at : InvalidAt) → link_of plan files ≡ Err (Invalid at) → ⊥

@@ -2,7 +2,7 @@
 #![tactic(auto)]
 
 ghost use Rattle.valid_links.specs.Types.{NamesHaveOneType};
-ghost use Rattle.valid_links.specs.Links.{LinksAreValid};
+ghost use Rattle.valid_links.specs.Links.{LinksAreValid, LinksDontJudge};
 
 pub use link_runs::{Inputs, links_run, load_inputs};
 pub use output_check::{ValidError, check_output};
@@ -31,3 +31,8 @@ pub fn links_are_valid()
     link_facts::facts_hold();
     link_runs::links_run();
 }
+
+/// `link_of` judges no module: it never gives the fault of the check, which stands behind it.
+pub fn links_dont_judge()
+    ensures { LinksDontJudge }
+{}

@@ -8,4 +8,4 @@ returns-clause-runs g c =
 
 pub returns-clause-valid : goal.returns-clause-valid
 returns-clause-valid g c = λ all.
-    keeps_valid c.args.plan.now c.args.files.now c.links_are_valid.ensures c.requires.plan c.requires.files all c.link_checked-answer.result c.link_checked-answer.ensures.exact
+    keeps_valid c.args.plan.now c.args.files.now c.links_are_valid.ensures c.links_dont_judge.ensures c.requires.plan c.requires.files all c.link_checked-answer.result c.link_checked-answer.ensures.exact
