@@ -6,7 +6,6 @@ use Rattle.list_places.proofs.Lists.{has_filter, has_map}
 use Rattle.object_file.specs.wl_base.Choice.{given, first_some, unless, ◌>>=◌}
 use Rattle.object_file.specs.wl_base.declared.fault.Fault.{Fault}
 use Rattle.object_file.specs.wl_base.declared.fault.Fault.TheVariants.{Invalid, Overflow}
-use Rattle.object_file.specs.wl_base.declared.fault.LibFault.{LibFault}
 use Rattle.object_file.specs.wl_base.declared.fault.InvalidAt.{InvalidAt}
 use Rattle.object_file.specs.wasm_module.wasm_instr.wasm_grammar.declared.fault.Stop.{Stop}
 use Rattle.object_file.specs.wasm_module.wasm_instr.wasm_grammar.declared.fault.Stop.TheVariants.{Broken, Foreign}
@@ -19,7 +18,6 @@ use Rattle.object_file.specs.object_parts.Reading.{parts_of}
 use Rattle.object_file.specs.object_rules.Rules.{broken_rule}
 use Rattle.object_file.specs.declared.object.Object.{Object}
 use Rattle.object_file.specs.ObjectOf.{section_fault, agreed, spelled_object, framed_object, object_of}
-use Rattle.lib_index.specs.Library.{Contents}
 use Rattle.made_symbols.specs.declared.mode.Mode.TheVariants.{Plain}
 use Rattle.link_plan.specs.declared.plan.Plan.{Plan}
 use Rattle.link_plan.specs.declared.plan.InputWord.{InputWord}
@@ -107,7 +105,7 @@ object_free : (input : ℕ) (bytes : List ℕ) → NotRefused (object_of input b
 unfolding object_of
 object_free input bytes = cond_free _ _ (framed_object input bytes (frame_at bytes)) refl (framed_free input bytes (frame_at bytes))
 
-library_free : (file : ℕ) (r : Result Contents LibFault) → NotRefused (opened_library file r)
+library_free : (file : ℕ) (r : _) → NotRefused (opened_library file r)
 library_free file (Ok l) = tt
 library_free file (Err fault) = refl
 
