@@ -1,11 +1,11 @@
 -- A link without the check never has the fault of the check: no step of its definition gives it.
-use Rattle.std.proofs.Common.{◌≡◌, inl, inr, ℕ, zero, suc, ◌+◌, Bool, true, false, List, [], ◌∷◌, ◌++◌, length, map, refl, sym, ap, subst, ◌∙◌, Option, Some, None, Result, Ok, Err, arith}
+use Rattle.std.proofs.Common.{◌≡◌, inl, inr, ℕ, zero, suc, ◌+◌, ◌^◌, nat_lt, Bool, true, false, List, [], ◌∷◌, ◌++◌, length, map, refl, sym, ap, subst, ◌∙◌, Option, Some, None, Result, Ok, Err, arith}
 use Rattle.std.specs.Prelude.{if◌then◌else◌, option_map, option_and_then, find}
 use Rattle.list_places.specs.Has.{Has}
 use Rattle.list_places.proofs.Lists.{has_filter, has_map}
 use Rattle.object_file.specs.wl_base.Choice.{given, first_some, unless, ◌>>=◌}
 use Rattle.object_file.specs.wl_base.declared.fault.Fault.{Fault}
-use Rattle.object_file.specs.wl_base.declared.fault.Fault.TheVariants.{Invalid, Overflow}
+use Rattle.object_file.specs.wl_base.declared.fault.Fault.TheVariants.{TooLong, Invalid}
 use Rattle.object_file.specs.wl_base.declared.fault.InvalidAt.{InvalidAt}
 use Rattle.object_file.specs.wasm_module.wasm_instr.wasm_grammar.declared.fault.Stop.{Stop}
 use Rattle.object_file.specs.wasm_module.wasm_instr.wasm_grammar.declared.fault.Stop.TheVariants.{Broken, Foreign}
@@ -22,7 +22,7 @@ use Rattle.made_symbols.specs.declared.mode.Mode.TheVariants.{Plain}
 use Rattle.link_plan.specs.declared.plan.Plan.{Plan}
 use Rattle.link_plan.specs.declared.plan.InputWord.{InputWord}
 use Rattle.link_facts.specs.link_worlds.link_rules.name_rules.Entries.{InputSymbol, name_of}
-use Rattle.link_facts.specs.link_worlds.link_rules.name_rules.Cases.{clash_of, clash, clash_beside, other_import, broken, loose_clash, clash_by, duplicate_of, duplicate, passes}
+use Rattle.link_facts.specs.link_worlds.link_rules.name_rules.Cases.{first_entry, clashes, clash_of, clash, clash_beside, other_import, broken, loose_clash, clash_by, first_strong, is_duplicate, duplicate_of, duplicate}
 use Rattle.link_facts.specs.link_worlds.link_rules.round_rules.Rounds.{Candidate, Added, fault_in, object_fault, is_always_read, always_read_fault, is_loaded, wanted_names, objects_of, added_with, adds_any, round_adds, added_fault_in, added_fault, inputs_of, go_on, next_adds, rounds, at_once, loaded_inputs, load}
 use Rattle.link_facts.specs.link_worlds.link_rules.Candidates.{opened_library, opened, is_library, candidates_in, candidates_from, too_much_input, too_many_inputs, words_for, candidates_of}
 use Rattle.link_facts.specs.link_worlds.link_rules.Program.{Program, Part, program_of}
@@ -34,7 +34,7 @@ use Rattle.link_facts.specs.link_worlds.link_rules.LinkOf.{asked_names, too_many
 
 -- ---- what is looked at
 
-pub is_check : Fault → Bool
+abbrev is_check : Fault → Bool
 is_check (Invalid at) = true
 is_check _ = false
 
@@ -103,7 +103,8 @@ framed_free input bytes (Err e) = refl
 
 object_free : (input : ℕ) (bytes : List ℕ) → NotRefused (object_of input bytes)
 unfolding object_of
-object_free input bytes = cond_free _ _ (framed_object input bytes (frame_at bytes)) refl (framed_free input bytes (frame_at bytes))
+object_free input bytes =
+    cond_free (nat_lt (2 ^ 30) (length bytes)) (Err (TooLong input (length bytes))) (framed_object input bytes (frame_at bytes)) refl (framed_free input bytes (frame_at bytes))
 
 library_free : (file : ℕ) (r : _) → NotRefused (opened_library file r)
 library_free file (Ok l) = tt
@@ -170,12 +171,14 @@ beside_free test beside all = and_then_free _ _ (λ e. map_free (clash_of e) (be
 
 clash_free : (loose : Bool) (all : List InputSymbol) → Free (clash_by loose all)
 unfolding clash loose_clash
-clash_free false all = and_then_free _ _ (λ e. map_free (clash_of e) _ (λ a. refl))
+clash_free false all =
+    and_then_free (λ e. option_map (clash_of e) (first_entry all (name_of e))) (find (clashes all) all) (λ e. map_free (clash_of e) (first_entry all (name_of e)) (λ a. refl))
 clash_free true all = first_free (other_import all) (broken all ∷ []) (beside_free _ _ all) (first_free (broken all) [] (beside_free _ _ all) tt)
 
 duplicate_free : (all : List InputSymbol) → Free (duplicate all)
 unfolding duplicate
-duplicate_free all = and_then_free _ _ (λ e. map_free (duplicate_of e) _ (λ a. refl))
+duplicate_free all =
+    and_then_free (λ e. option_map (duplicate_of e) (first_strong all (name_of e))) (find (is_duplicate all) all) (λ e. map_free (duplicate_of e) (first_strong all (name_of e)) (λ a. refl))
 
 names_free : (p : Program) → Free (too_many_names p)
 unfolding too_many_names
