@@ -19,10 +19,10 @@ const MANY: usize = 1 << 31;
 // The first fault of a module. All bodies are judged.
 #[tactic(auto, using(crate::proofs::Few::few))]
 fn validated<R: Threads + Sync>(
-    _rt: &R,
+    rt: &R,
     alloc: Global,
     m: &Module,
-    _workers: Workers,
+    workers: Workers,
 ) -> Result<(), ValidError>
     requires { length m.now.bodies ≡ length m.now.functions }
     ensures judges { Judges result m.now }
