@@ -22,7 +22,7 @@ use Rattle.made_symbols.specs.declared.mode.Mode.TheVariants.{Plain}
 use Rattle.link_plan.specs.declared.plan.Plan.{Plan}
 use Rattle.link_plan.specs.declared.plan.InputWord.{InputWord}
 use Rattle.link_facts.specs.link_worlds.link_rules.name_rules.Entries.{InputSymbol, name_of}
-use Rattle.link_facts.specs.link_worlds.link_rules.name_rules.Cases.{first_entry, clashes, clash_of, clash, clash_beside, other_import, broken, loose_clash, clash_by, first_strong, is_duplicate, duplicate_of, duplicate}
+use Rattle.link_facts.specs.link_worlds.link_rules.name_rules.Cases.{first_entry, judge, breaks, differs, clashes, clash_of, clash, clash_beside, other_import, broken, loose_clash, clash_by, first_strong, is_duplicate, duplicate_of, duplicate}
 use Rattle.link_facts.specs.link_worlds.link_rules.round_rules.Rounds.{Candidate, Added, fault_in, object_fault, is_always_read, always_read_fault, is_loaded, wanted_names, objects_of, added_with, adds_any, round_adds, added_fault_in, added_fault, inputs_of, go_on, next_adds, rounds, at_once, loaded_inputs, load}
 use Rattle.link_facts.specs.link_worlds.link_rules.Candidates.{opened_library, opened, is_library, candidates_in, candidates_from, too_much_input, too_many_inputs, words_for, candidates_of}
 use Rattle.link_facts.specs.link_worlds.link_rules.Program.{Program, Part, program_of}
@@ -173,7 +173,8 @@ clash_free : (loose : Bool) (all : List InputSymbol) → Free (clash_by loose al
 unfolding clash loose_clash
 clash_free false all =
     and_then_free (λ e. option_map (clash_of e) (first_entry all (name_of e))) (find (clashes all) all) (λ e. map_free (clash_of e) (first_entry all (name_of e)) (λ a. refl))
-clash_free true all = first_free (other_import all) (broken all ∷ []) (beside_free _ _ all) (first_free (broken all) [] (beside_free _ _ all) tt)
+clash_free true all =
+    first_free (other_import all) (broken all ∷ []) (beside_free differs (first_entry all) all) (first_free (broken all) [] (beside_free breaks (judge all) all) tt)
 
 duplicate_free : (all : List InputSymbol) → Free (duplicate all)
 unfolding duplicate
