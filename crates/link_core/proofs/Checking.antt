@@ -10,7 +10,7 @@ use Rattle.link_output.specs.link_program.link_plan.Plan.{IsPlan}
 use Rattle.link_output.specs.link_program.link_rules.LinkOf.{link_of}
 use Rattle.link_output.specs.link_program.declared.error.LinkError.{LinkError}
 use Rattle.link_output.specs.link_program.declared.error.LinkError.TheVariants.{Refused, OutOfMemory}
-use Rattle.link_output.specs.link_program.Answers.{Fails, Stops}
+use Rattle.link_output.specs.link_program.Answers.{Stops}
 use Rattle.valid_links.specs.Links.{AllValid, LinksAreValid, LinksDontJudge}
 use Rattle.valid_links.specs.output_check.Check.{invalid_fault, IsValidOutput}
 use Rattle.valid_links.proofs.output_check_lemmas.Passed.{passes}

@@ -7,7 +7,6 @@ use Rattle.link_output.specs.link_program.link_rules.LinkOf.{link_of}
 use Rattle.link_output.specs.link_program.declared.error.LinkError.{LinkError}
 use Rattle.link_output.specs.link_program.declared.error.LinkError.TheVariants.{Refused}
 use Rattle.valid_links.specs.output_check.Check.{IsValidOutput}
-use Rattle.valid_links.specs.Links.{AllValid}
 use Rattle.link_core.specs.Answers.{Answers}
 
 -- The check refuses nothing: the answer is that of the link without it, and never the fault of the check. And the bytes that are given spell

@@ -1,5 +1,5 @@
 -- A link without the check never has the fault of the check: no step of its definition gives it.
-use Rattle.std.proofs.Common.{◌≡◌, inl, inr, ℕ, zero, suc, ◌+◌, ◌^◌, nat_lt, Bool, true, false, List, [], ◌∷◌, ◌++◌, length, map, refl, sym, ap, subst, ◌∙◌, Option, Some, None, Result, Ok, Err, arith}
+use Rattle.std.proofs.Common.{◌≡◌, inl, inr, ℕ, zero, suc, ◌+◌, ◌^◌, nat_lt, Bool, true, false, List, [], ◌∷◌, ◌++◌, length, map, refl, sym, subst, Option, Some, None, Result, Ok, Err}
 use Rattle.std.specs.Prelude.{if◌then◌else◌, option_map, option_and_then, find}
 use Rattle.list_places.specs.Has.{Has}
 use Rattle.list_places.proofs.Lists.{has_filter, has_map}
@@ -23,14 +23,14 @@ use Rattle.link_plan.specs.declared.plan.Plan.{Plan}
 use Rattle.link_plan.specs.declared.plan.InputWord.{InputWord}
 use Rattle.link_facts.specs.link_worlds.link_rules.name_rules.Entries.{InputSymbol, name_of}
 use Rattle.link_facts.specs.link_worlds.link_rules.name_rules.Cases.{first_entry, judge, breaks, differs, clashes, clash_of, clash, clash_beside, other_import, broken, loose_clash, clash_by, first_strong, is_duplicate, duplicate_of, duplicate}
-use Rattle.link_facts.specs.link_worlds.link_rules.round_rules.Rounds.{Candidate, Added, fault_in, object_fault, is_always_read, always_read_fault, is_loaded, wanted_names, objects_of, added_with, adds_any, round_adds, added_fault_in, added_fault, inputs_of, go_on, next_adds, rounds, at_once, loaded_inputs, load}
+use Rattle.link_facts.specs.link_worlds.link_rules.round_rules.Rounds.{Candidate, Added, fault_in, object_fault, is_always_read, always_read_fault, wanted_names, objects_of, added_with, adds_any, added_fault_in, added_fault, inputs_of, go_on, next_adds, rounds, at_once, loaded_inputs, load}
 use Rattle.link_facts.specs.link_worlds.link_rules.Candidates.{opened_library, opened, is_library, candidates_in, candidates_from, too_much_input, too_many_inputs, words_for, candidates_of}
 use Rattle.link_facts.specs.link_worlds.link_rules.Program.{Program, Part, program_of}
 use Rattle.link_facts.specs.link_worlds.link_rules.Values.{Layout}
 use Rattle.link_facts.specs.link_worlds.link_rules.Output.{layout, image, source_windows}
 use Rattle.link_facts.specs.link_worlds.link_rules.image_emit.declared.tree.Image.{Image}
 use Rattle.link_facts.specs.link_worlds.link_rules.Marks.{Given, demanded, exported, given_names, repeated_by, first_repeat, repeated_export, live, pic_fault, missing, unresolved, uncalled}
-use Rattle.link_facts.specs.link_worlds.link_rules.LinkOf.{asked_names, too_many_names, passed_fault, memory_fault, table_fault, length_fault, output_fault, reference_fault, output_bytes, written, placed, laid_out, resolved, marked, exporting, link_program, link_by, the_readers, link_of}
+use Rattle.link_facts.specs.link_worlds.link_rules.LinkOf.{asked_names, too_many_names, passed_fault, memory_fault, table_fault, output_fault, reference_fault, output_bytes, written, laid_out, marked, link_program, link_by, the_readers, link_of}
 
 -- ---- what is looked at
 

@@ -1,5 +1,5 @@
 -- Where all loaded objects of a link are valid, so is its output.
-use Rattle.std.specs.Prelude.{◌≡◌, ◌==◌, ℕ, List, length, find, Some, None, unwrap_or, Ok, Err}
+use Rattle.std.specs.Prelude.{◌≡◌, ◌==◌, ℕ, List, length, find, Some, unwrap_or, Ok, Err}
 use Rattle.list_places.specs.Has.{Has}
 use Rattle.object_file.specs.wl_base.declared.fault.InvalidAt.{InvalidAt}
 use Rattle.object_file.specs.wl_base.declared.fault.Fault.TheVariants.{Invalid}
