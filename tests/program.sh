@@ -58,6 +58,15 @@ expect "a library may be empty" ends 0 "" a.o empty.a -o b.wasm "${f[@]}"
 expect "the generated case is linked" ends 0 "case 2: functions 3 segments 2 bytes 124 sum 5691" --make-case=2 -o case.wasm
 expect "and saved" test "$(wc -c <case.wasm)" -eq 124
 expect "by any number of workers" ends 0 "case 2000: functions 2001 segments 2000 bytes 62069 sum 4449098" --make-case=2000 --threads=64
+expect "a generated case is valid" ends 0 "case 2: functions 3 segments 2 bytes 124 sum 5691" --make-case=2 --validate
+expect "a valid output is saved where it is checked" ends 0 "" a.o -o checked.wasm "${f[@]}" --validate
+expect "as without the check" cmp checked.wasm "$module"
+
+# An object of which a function of type () to () leaves an integer.
+printf '\0asm\1\0\0\0\1\4\1\140\0\0\3\2\1\0\12\6\1\4\0\101\1\13\0\21\7linking\2\10\6\1\0\0\0\1f' >untyped.o
+expect "it is linked" ends 0 "" untyped.o -o untyped.wasm "${f[@]}"
+expect "but not where the output is checked" ends 1 "wasmld: invalid output: body 0" untyped.o -o none.wasm "${f[@]}" --validate
+expect "and nothing is saved" is_absent none.wasm
 
 # So many windows that the workers find what they hold, each of a part.
 mkdir many

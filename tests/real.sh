@@ -33,13 +33,14 @@ compile() {
   done
 }
 
-# Links with 1 and with 64 workers; the bytes are equal.
+# Links with 1 and with 64 workers, and once more with the output checked; the bytes are equal.
 links() {
   local output=$1
   shift
   "$wasmld" --threads=1 -o "$output" "$@" || return 1
   "$wasmld" --threads=64 -o "$output.64" "$@" || return 1
-  cmp "$output" "$output.64"
+  "$wasmld" --validate -o "$output.checked" "$@" || return 1
+  cmp "$output" "$output.64" && cmp "$output" "$output.checked"
 }
 
 # Takes the line of the refusal, and the words.

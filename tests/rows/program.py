@@ -89,12 +89,15 @@ def words_of(titles, words, entry):
 
 
 def linked(inputs, *words, entry=False, valid=True):
-    """The module, where the link succeeds with any number of workers, prints nothing and leaves the inputs as they were."""
+    """The module, where the link succeeds with any number of workers, prints nothing and leaves the inputs as they were; a valid one also with the check."""
     files, titles = numbered(inputs)
     ended = run_alike(words_of(titles, words, entry), files)
     same((ended.status, ended.printed), (0, ""), "the status and the line")
     module = ended.files.pop("out")
     same(ended.files, files, "the files that were given")
+    if valid:
+        checked = run(["--validate", *words_of(titles, words, entry)], files)
+        same((checked.status, checked.printed, checked.files.get("out")), (0, "", module), "the answer where the output is checked")
     if valid and NODE:
         holds(node({"module": module})["valid"], "the module is valid")
     return Module(module)

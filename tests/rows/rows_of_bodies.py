@@ -2,7 +2,7 @@
 
 from broken import *
 from objects import *
-from program import calls, linked, row, same
+from program import calls, linked, refused, row, same
 
 
 @row("instructions outside of the profile aren't supported")
@@ -73,3 +73,22 @@ def integers():
     same(module.section(1), hexa("01 07 01 60 02 7E 7E 01 7E"), "the type section")
     same(module.section(10), hexa("0A 09 01 07 00 20 00 20 01 7C 0B"), "the code section")
     calls(module, ("f", ["40", "2"], "42"))
+
+
+@row("a body without a typing is linked as it stands, and refused by its number where the output is checked")
+def untyped():
+    object = Object().function("f", [hexa("41 01")])
+    same(linked([object], "--export=f", valid=False).body("f"), hexa("00 41 01 0B"), "the body")
+    refused([object], "invalid output: body 0", "--validate", "--export=f")
+    refused([object], "invalid output: body 0", "--export=f", "--validate", "--validate")
+    caller = Object().needs("g", module="m", field="x").function("f", [call("g"), hexa("6A")])
+    refused([caller], "invalid output: body 1", "--validate", "--allow-undefined", "--export=f")
+    dead = Object().function("e", [hexa("1A")]).function("f", [])
+    linked([dead], "--export=f")
+    refused([dead], "invalid output: body 0", "--validate", "--export=f", "--no-gc-sections")
+
+
+@row("the check of the output is the last to be told")
+def checked_last():
+    object = Object().function("f", [hexa("41 01")]).function("g", call("h"))
+    refused([object], "input 1: unresolved h", "--validate", "--export=f", "--no-gc-sections")

@@ -52,7 +52,7 @@ def help_alone():
 @row("a value where none is due is refused")
 def value_not_due():
     words = "--no-entry", "--gc-sections", "--no-gc-sections", "--export-dynamic", "--allow-undefined", "--stack-first", "--import-memory"
-    words += "--whole-archive", "--no-whole-archive", "--start-lib", "--end-lib", "--export-table", "--strip-all", "--strip-debug"
+    words += "--whole-archive", "--no-whole-archive", "--start-lib", "--end-lib", "--export-table", "--validate", "--strip-all", "--strip-debug"
     for word in [one + value for one in words for value in ("=", "=1")] + ["-s=", "-S=", "-o=b", "-u=a", "-m=wasm32"]:
         usage(["a.o", "-o", "b", word], "UnknownOption", 3)
 

@@ -10,7 +10,7 @@ use Rattle.link_command.specs.declared.status.Status.{Status}
 use Rattle.link_command.specs.declared.status.Status.TheVariants.{Linked, Refused, Usage, ReadFault, WriteFault, NoMemory}
 use Rattle.link_command.specs.Command.{planned, Shows, LinkIs, IsTold, LoadsWork, SaveWorks, Saved, SavedRuns, Cut, contents, input_names, files_of}
 use Rattle.link_command.specs.Telling.{AreMismatches, TellsBy, Tells, WouldTell}
-use Rattle.mismatch_rules.specs.declared.mismatch.Mismatch.{Mismatch}
+use Rattle.link_command.specs.mismatch_rules.declared.mismatch.Mismatch.{Mismatch}
 use Rattle.driver_command.specs.Linked.{LinksBy, LinksAs}
 
 pub tells_on : (old new : Shown) → Grows old new → IsTrue old.tells → IsTrue new.tells

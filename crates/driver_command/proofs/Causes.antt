@@ -9,7 +9,7 @@ use Rattle.link_command.specs.declared.status.Status.{Status}
 use Rattle.link_command.specs.declared.status.Status.TheVariants.{Linked, Refused, Usage, ReadFault, WriteFault, NoMemory}
 use Rattle.link_command.specs.Command.{planned, Shows, IsUnlessMemory, IsTold}
 use Rattle.link_command.specs.Telling.{AreMismatches, WouldTell}
-use Rattle.mismatch_rules.specs.declared.mismatch.Mismatch.{Mismatch}
+use Rattle.link_command.specs.mismatch_rules.declared.mismatch.Mismatch.{Mismatch}
 use Rattle.driver_command.specs.Causes.{CausesBy, is_clash, AreCauses, TellsOf}
 use Rattle.driver_command.specs.Linked.{LinksBy, LinksAs}
 use Rattle.driver_command.proofs.Around.{tells_back, files_in, tells_after, grows_all, same_all, links_after, links_before, would_back}

@@ -11,7 +11,7 @@ use Rattle.link_command.specs.declared.status.Status.TheVariants.{Linked, Refuse
 use Rattle.driver_lines.specs.Lines.{refusal_line, error_line}
 use Rattle.driver_words.specs.Search.{holds}
 use Rattle.link_command.specs.Command.{input_names}
-use Rattle.mismatch_rules.specs.declared.mismatch.Mismatch.{Mismatch}
+use Rattle.link_command.specs.mismatch_rules.declared.mismatch.Mismatch.{Mismatch}
 use Rattle.driver_command.specs.Mismatched.{AreTold, told_lines, severity, gap}
 use Rattle.driver_command.specs.Named.{AreNames, names_held}
 use Rattle.driver_command.specs.Told.{IsRefusal, IsUnread, IsUnwritten, IsStatusLine, says_why, IsLast, IsEnd, unread_line, unwritten_line, no_memory_line}

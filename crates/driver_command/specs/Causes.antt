@@ -6,7 +6,7 @@ use Rattle.link_command.specs.Command.{planned}
 use Rattle.link_command.specs.Telling.{Tells, WouldTell}
 use Rattle.link_command.specs.declared.status.Status.{Status}
 use Rattle.link_command.specs.declared.status.Status.TheVariants.{Refused}
-use Rattle.mismatch_rules.specs.declared.mismatch.Mismatch.{Mismatch}
+use Rattle.link_command.specs.mismatch_rules.declared.mismatch.Mismatch.{Mismatch}
 
 abbrev pub is_clash : Status → Bool
 is_clash (Refused (Clash name first other)) = true

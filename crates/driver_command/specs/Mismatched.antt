@@ -7,7 +7,7 @@ use Rattle.link_lines.specs.Pieces.{joined}
 use Rattle.link_command.specs.Command.{input_names}
 use Rattle.link_command.specs.declared.status.Status.{Status}
 use Rattle.link_command.specs.declared.status.Status.TheVariants.{Linked, Refused, Usage, ReadFault, WriteFault, NoMemory}
-use Rattle.mismatch_rules.specs.declared.mismatch.Mismatch.{Mismatch}
+use Rattle.link_command.specs.mismatch_rules.declared.mismatch.Mismatch.{Mismatch}
 use Rattle.driver_lines.specs.Mismatch.{mismatch_line}
 use Rattle.driver_command.specs.Named.{names_held}
 

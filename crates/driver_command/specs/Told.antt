@@ -20,7 +20,7 @@ use Rattle.driver_command.specs.declared.outcome.Outcome.{Outcome}
 use Rattle.driver_command.specs.declared.outcome.Outcome.TheVariants.{Said, Unsaid, Refused, Stopped, Linked}
 use Rattle.driver_command.specs.Ends.{Means}
 use Rattle.driver_command.specs.Manual.{text_of}
-use Rattle.mismatch_rules.specs.declared.mismatch.Mismatch.{Mismatch}
+use Rattle.link_command.specs.mismatch_rules.declared.mismatch.Mismatch.{Mismatch}
 use Rattle.driver_command.specs.Causes.{TellsOf}
 use Rattle.driver_command.specs.Mismatched.{severity, gap, AreTold}
 use Rattle.driver_command.specs.Named.{AreNames}

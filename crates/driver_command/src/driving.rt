@@ -3,7 +3,7 @@
 ghost use Rattle.std.specs.Prelude.{◌≡◌, ◌<◌, ◌^◌, ◌++◌, ℕ, List, IsTrue, length};
 ghost use Rattle.wl_outside.specs.Shelf.{Grows};
 ghost use Rattle.link_command.specs.Said.{Said as Written};
-ghost use Rattle.mismatch_rules.specs.declared.mismatch.Mismatch.{Mismatch};
+ghost use Rattle.link_command.specs.mismatch_rules.declared.mismatch.Mismatch.{Mismatch};
 ghost use Rattle.driver_command.specs.declared.outcome.Outcome.TheVariants.{Stopped};
 ghost use Rattle.driver_words.specs.Translated.{translated};
 ghost use Rattle.driver_command.specs.Causes.{TellsOf};

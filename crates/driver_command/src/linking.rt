@@ -10,8 +10,7 @@ ghost use Rattle.link_command.specs.Telling.{Tells};
 ghost use Rattle.driver_command.specs.Causes.{is_clash as is_clash_of, AreCauses, TellsOf};
 ghost use Rattle.driver_command.specs.Linked.{LinksBy, LinksAs};
 
-use link_command::{Status, link_like_lld, tell_calls};
-use mismatch_rules::Mismatch;
+use link_command::{Mismatch, Status, link_like_lld, tell_calls};
 use std::alloc::Global;
 use std::thread::Threads;
 use wl_base::{Fault, Seq, Text};

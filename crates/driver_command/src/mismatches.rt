@@ -11,10 +11,9 @@ ghost use Rattle.driver_command.specs.Mismatched.{severity as severity_of, line_
 use crate::names::names_again;
 use driver_lines::say_mismatch;
 use driver_words::Finder;
-use link_command::Status;
+use link_command::{Mismatch, Status};
 use link_lines::{Piece, print};
 use link_words::read_words;
-use mismatch_rules::Mismatch;
 use std::alloc::Global;
 use wl_base::{Seq, Text};
 use wl_outside::{Failed, Sink};

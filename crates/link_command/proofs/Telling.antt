@@ -4,7 +4,7 @@ use Rattle.wl_base.specs.declared.usage.Usage.{Usage as UsageFault}
 use Rattle.wl_base.specs.declared.fault.Fault.{Fault}
 use Rattle.wl_outside.specs.Shelf.{Shown}
 use Rattle.link_plan.specs.declared.plan.Plan.{Plan}
-use Rattle.mismatch_rules.specs.declared.mismatch.Mismatch.{Mismatch}
+use Rattle.link_core.specs.mismatch_rules.declared.mismatch.Mismatch.{Mismatch}
 use Rattle.link_core.specs.called_variants.Called.{calls_told_of}
 use Rattle.link_command.specs.declared.status.Status.{Status}
 use Rattle.link_command.specs.declared.status.Status.TheVariants.{Linked, Refused, Usage, WriteFault, NoMemory}

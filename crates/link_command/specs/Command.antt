@@ -5,7 +5,7 @@ use Rattle.wl_base.specs.declared.usage.Usage.{Usage as UsageFault}
 use Rattle.wl_outside.specs.Shelf.{Shown, Same, SameBut, Holds, Torn, LoadFailed, SaveFailed}
 use Rattle.link_plan.specs.declared.plan.Plan.{Plan}
 use Rattle.link_words.specs.Words.{plan_of, word}
-use Rattle.link_rules.specs.LinkOf.{link_of}
+use Rattle.link_core.specs.Linked.{linked}
 use Rattle.link_core.specs.link_runs.Links.{Runs}
 use Rattle.case_objects.specs.Objects.{objects}
 use Rattle.link_command.specs.declared.status.Status.{Status}
@@ -57,7 +57,7 @@ IsTold None before = IsTrue before.tells
 pub record LinkIs (before : Shown) (words : List (List ℕ)) (plan : Plan) (said : Result (List ℕ) Fault) : Type 0 where
   pub files : List (List ℕ)
   pub held : files_of plan.make_case before words plan ≡ Some files
-  pub link : link_of plan files ≡ said
+  pub link : linked plan files ≡ said
 
 -- the output, where the plan names one, holds the bytes, and all else is as before
 abbrev pub Saved : Shown → Shown → Option (List ℕ) → List ℕ → Type 0

@@ -7,9 +7,8 @@ ghost use Rattle.link_command.specs.Telling.{WouldTell};
 
 use crate::command::read_plan;
 use crate::inputs::files;
-use link_core::{LinkError, link_telling};
+use link_core::{LinkError, Mismatch, link_telling};
 use link_words::Plan;
-use mismatch_rules::Mismatch;
 use std::alloc::Global;
 use std::thread::Threads;
 use wl_base::{Seq, Text};

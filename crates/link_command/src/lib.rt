@@ -10,4 +10,5 @@ mod status;
 
 pub use calls::tell_calls;
 pub use command::{link_command, link_like_lld};
+pub use link_core::Mismatch;
 pub use status::Status;

@@ -2,4 +2,5 @@ pub mod Steps
 pub mod Answering
 pub mod Loading
 pub mod Running
+pub mod Checking
 pub mod Listing

@@ -3,12 +3,13 @@ use Rattle.std.proofs.Common.{◌≡◌, ℕ, List, length}
 use Rattle.std.specs.Prelude.{Result, Ok, Err, unwrap_or, IfOk}
 use Rattle.link_plan.specs.declared.plan.Plan.{Plan}
 use Rattle.link_plan.specs.Plan.{IsPlan}
-use Rattle.link_output.specs.link_program.link_rules.LinkOf.{link_of}
 use Rattle.link_output.specs.link_program.declared.error.LinkError.{LinkError}
-use Rattle.link_runs.specs.Links.{Runs, LinksRun}
+use Rattle.valid_links.specs.link_runs.Links.{Runs, LinksRun}
 use Rattle.link_core.specs.Answers.{Answers}
+use Rattle.link_core.specs.Linked.{linked}
+use Rattle.link_core.proofs.Checking.{is_linked}
 
 pub runs_of : (plan : Plan) (files : List (List ℕ)) (answer : Result (List ℕ) LinkError) → LinksRun → IsPlan plan → length files ≡ unwrap_or plan.make_case (length plan.inputs)
-    → Answers answer (link_of plan files) → IfOk answer (λ bytes. Runs plan files bytes)
-runs_of plan files (Ok bytes) law fit long is = law plan files bytes fit long is
+    → Answers answer (linked plan files) → IfOk answer (λ bytes. Runs plan files bytes)
+runs_of plan files (Ok bytes) law fit long is = law plan files bytes fit long (is_linked plan files bytes is)
 runs_of plan files (Err e) law fit long is = tt

@@ -1,9 +1,14 @@
 pub mod Answers
+pub mod Linked
+pub mod Checked
 pub mod Loading
 pub mod Linking
 pub mod Chosen
 pub mod Prepared
 pub mod Making
 pub mod Telling
-pub use Rattle.link_runs.specs as link_runs
+pub use Rattle.valid_links.specs as valid_links
+pub use Rattle.valid_links.specs.link_runs as link_runs
+pub use Rattle.valid_links.specs.output_check as output_check
 pub use Rattle.called_variants.specs as called_variants
+pub use Rattle.mismatch_rules.specs as mismatch_rules

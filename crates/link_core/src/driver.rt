@@ -1,10 +1,12 @@
 //! The whole link, as a list of steps in the order of its definition (`link_of` in link_rules/specs/LinkOf.antt): load, find, exports,
-//! mark, unresolved, place, number, image, measure, patches, write. Each gives what the next ones need, or a fault that ends the link.
-ghost use Rattle.std.specs.Prelude.{◌≡◌, [], length, unwrap_or, IfOk};
+//! mark, unresolved, place, number, image, measure, patches, write. Each gives what the next ones need, or a fault that ends the link. Behind
+//! them stands the check of the output, where the plan asks for it (`linked` in specs/Linked.antt).
+ghost use Rattle.std.specs.Prelude.{◌≡◌, [], length, unwrap_or, IfOk, IsTrue};
 ghost use Rattle.link_output.specs.link_program.link_plan.Plan.{IsPlan};
 ghost use Rattle.link_output.specs.link_program.link_rules.ModeOf.{mode_of};
 ghost use Rattle.link_output.specs.link_program.link_rules.Program as rules;
 ghost use Rattle.link_output.specs.link_program.link_rules.LinkOf.{link_of, link_program, laid_out, written};
+ghost use Rattle.link_output.specs.link_program.Answers.{Passes};
 ghost use Rattle.link_image.specs.link_layout.Layout.{IsLayout};
 ghost use Rattle.link_output.specs.link_program.Loaded.{IsLoaded};
 ghost use Rattle.link_output.specs.link_program.Program.{IsProgram};
@@ -12,7 +14,9 @@ ghost use Rattle.link_output.specs.link_program.name_entries.Fits.{Fits};
 ghost use Rattle.link_output.specs.link_program.Stand.{PartsStand};
 ghost use Rattle.link_output.specs.link_program.Live.{Stage};
 ghost use Rattle.link_core.specs.Answers.{Answers, IsShort};
+ghost use Rattle.link_core.specs.Checked.{KeepsValid};
 ghost use Rattle.link_core.specs.Chosen.{IsChosen, Chooses};
+ghost use Rattle.link_core.specs.Linked.{linked};
 ghost use Rattle.link_core.specs.Linking.{IsLinking};
 ghost use Rattle.link_core.specs.Loading.{Loading, program_in};
 ghost use Rattle.link_core.specs.Making.{the_image, the_windows};
@@ -20,7 +24,9 @@ ghost use Rattle.link_core.specs.Prepared.{outputs, IsReady};
 ghost use Rattle.link_core.specs.Telling.{Tells};
 ghost use Rattle.mismatch_rules.specs.Mismatches.{standing};
 ghost use Rattle.called_variants.specs.Called.{calls_told_of, told_of};
-ghost use Rattle.link_runs.specs.Links.{Runs};
+ghost use Rattle.valid_links.specs.link_runs.Links.{Runs};
+ghost use Rattle.valid_links.specs.output_check.Check.{invalid_fault, IsValidOutput};
+ghost use Rattle.valid_links.specs.Links.{AllValid};
 
 use crate::chosen::Chosen;
 use crate::prepared::Prepared;
@@ -31,7 +37,6 @@ use link_output::laws::{
 };
 use link_output::{Entries, LinkError, Program, Winner, measured, write};
 use link_plan::Plan;
-use link_runs::{Inputs, links_run, load_inputs};
 use lost_ctors::{all_are_meant, exports, live_parts, repeated_export, uncalled, unresolved};
 use mismatch_rules::Mismatch;
 use program_build::Found;
@@ -39,7 +44,10 @@ use program_build::laws::parts_stand;
 use std::alloc::Global;
 use std::mem::forget;
 use std::thread::Threads;
-use wl_base::Seq;
+use valid_links::{
+    Inputs, ValidError, check_output, links_are_valid, links_dont_judge, links_run, load_inputs,
+};
+use wl_base::{Fault, Seq};
 use wl_fan::Workers;
 use wl_outside::Gate;
 
@@ -55,7 +63,7 @@ const FILE_WORK: usize = 4 << 10;
 /// Given objects are read, groups and names are raced for, live parts are marked and the output is filled by as many workers as the plan
 /// has threads, or by one where the gate is open and little is to be linked; each passes the gate before a job. The values of windows are
 /// found by the same workers, who pass no gate for that. The answer doesn't depend on them. From the moment that the output's buffer is
-/// reserved nothing can want memory.
+/// reserved nothing can want memory; but where the plan asks for the check of the output, from the end of the check on.
 ///
 /// What was read of the files, and the names, aren't given back, but kept until the process ends: that would be a free for each small piece,
 /// which takes up to a tenth of a link of many objects.
@@ -69,9 +77,13 @@ pub fn link<R: Threads + Sync, G: Gate>(
     requires plan { IsPlan plan.now }
     requires files { length files.now ≡ unwrap_or plan.now.make_case (length plan.now.inputs) }
     // The answer is the definition's, or want of memory.
-    ensures exact { Answers result (link_of plan.now files.now) }
+    ensures exact { Answers result (linked plan.now files.now) }
     // The module runs as the plan and the files tell, with nothing linked.
     ensures runs { IfOk result (λ bytes. Runs plan.now files.now bytes) }
+    // Where all objects that are loaded are valid, so is the module, and the check refuses nothing, whether the plan asks for it or not.
+    ensures valid { AllValid plan.now files.now → KeepsValid plan.now files.now result }
+    // Where the plan asks for the check, the module is valid whatever the objects are.
+    ensures checked { IsTrue plan.now.validate → IfOk result IsValidOutput }
     // The module has fewer than 2^31 bytes.
     ensures short { IsShort result }
 {
@@ -92,17 +104,66 @@ pub fn link_telling<R: Threads + Sync, G: Gate>(
 ) -> Result<Seq<u8>, LinkError>
     requires plan { IsPlan plan.now }
     requires files { length files.now ≡ unwrap_or plan.now.make_case (length plan.now.inputs) }
-    ensures exact { Answers result (link_of plan.now files.now) }
+    ensures exact { Answers result (linked plan.now files.now) }
     ensures runs { IfOk result (λ bytes. Runs plan.now files.now bytes) }
+    ensures valid { AllValid plan.now files.now → KeepsValid plan.now files.now result }
+    ensures checked { IsTrue plan.now.validate → IfOk result IsValidOutput }
     ensures short { IsShort result }
     ensures told { told.old ≡ [] → Tells result told.new (calls_told_of plan.now files.now) }
 {
     links_run();
-    let answer = link_files(rt, alloc, plan, files, gate, told);
+    links_are_valid();
+    links_dont_judge();
+    let answer = link_checked(rt, alloc, plan, files, gate, told);
     answer
 }
 
-// The same, where no word is said of runs.
+// The same, where no word is said of runs and of valid objects.
+fn link_checked<R: Threads + Sync, G: Gate>(
+    rt: &R,
+    alloc: Global,
+    plan: &Plan,
+    files: &[Seq<u8>],
+    gate: &G,
+    told: &mut Seq<Mismatch>,
+) -> Result<Seq<u8>, LinkError>
+    requires plan { IsPlan plan.now }
+    requires files { length files.now ≡ unwrap_or plan.now.make_case (length plan.now.inputs) }
+    ensures exact { Answers result (linked plan.now files.now) }
+    ensures checked { IsTrue plan.now.validate → IfOk result IsValidOutput }
+    ensures short { IsShort result }
+    ensures told { told.old ≡ [] → Tells result told.new (calls_told_of plan.now files.now) }
+{
+    let bytes = link_files(rt, alloc, plan, files, gate, told)?;
+    check(
+        rt,
+        alloc,
+        plan,
+        bytes.as_slice(),
+        workers_of(plan, files, gate),
+    )?;
+    Ok(bytes)
+}
+
+// Checks the output, where the plan asks for that.
+fn check<R: Threads + Sync>(
+    rt: &R,
+    alloc: Global,
+    plan: &Plan,
+    bytes: &[u8],
+    workers: Workers,
+) -> Result<(), LinkError>
+    ensures exact { Passes result (invalid_fault plan.now bytes.now) }
+    ensures valid { IfOk result (λ passed. IsTrue plan.now.validate → IsValidOutput bytes.now) }
+{
+    match check_output(rt, alloc, plan, bytes, workers) {
+        Ok(()) => Ok(()),
+        Err(ValidError::Invalid(at)) => Err(LinkError::Refused(Fault::Invalid { at })),
+        Err(ValidError::OutOfMemory) => Err(LinkError::OutOfMemory),
+    }
+}
+
+// The link without the check.
 fn link_files<R: Threads + Sync, G: Gate>(
     rt: &R,
     alloc: Global,

@@ -78,8 +78,8 @@ value_to_short : plan_of (codes "a.o" ∷ codes "-o=b" ∷ []) ≡ Err (UnknownO
 unfolding plan_of first_fault
 value_to_short = refl
 
--- a plan of a generated case: it has no entry, and its first function is exported
-case : plan_of (codes "--export=g" ∷ codes "-z" ∷ codes "stack-size=0x20" ∷ codes "--no-gc-sections" ∷ codes "--make-case=2" ∷ codes "--export-table" ∷ [])
+-- a plan of a generated case: it has no entry, its first function is exported, and its output is checked
+case : plan_of (codes "--export=g" ∷ codes "-z" ∷ codes "stack-size=0x20" ∷ codes "--no-gc-sections" ∷ codes "--validate" ∷ codes "--make-case=2" ∷ codes "--export-table" ∷ [])
     ≡ Ok (record {
       inputs = [];
       output = None;
@@ -100,7 +100,7 @@ case : plan_of (codes "--export=g" ∷ codes "-z" ∷ codes "stack-size=0x20" �
       make_case = Some 2;
       shared = false;
       partial = false;
-      validate = false;
+      validate = true;
       keep_debug = false;
       like_lld = false;
       loose_calls = false;

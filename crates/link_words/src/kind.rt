@@ -55,6 +55,8 @@ pub enum Kind {
     Threads,
     /// `--make-case`.
     MakeCase,
+    /// `--validate`.
+    Validate,
     /// `-m wasm32` and the options to strip, which have no effect.
     Accepted,
 }

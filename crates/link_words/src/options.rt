@@ -74,6 +74,7 @@ pub fn option_of(word: &str) -> Option<Rule>
         "--end-lib" => found(Kind::EndLib, Takes::Nothing),
         "--threads" => found(Kind::Threads, Takes::Long(Form::Number(Range::Workers))),
         "--make-case" => found(Kind::MakeCase, Takes::Long(Form::Number(Range::Cases))),
+        "--validate" => found(Kind::Validate, Takes::Nothing),
         "-m" => found(Kind::Accepted, Takes::Next(Form::Machine)),
         "-s" => found(Kind::Accepted, Takes::Nothing),
         "-S" => found(Kind::Accepted, Takes::Nothing),

@@ -72,7 +72,7 @@ fn plan(alloc: Global, items: &[Item<'_>]) -> Result<Plan, OutOfMemory>
         make_case: case(items),
         shared: false,
         partial: false,
-        validate: false,
+        validate: has(items, Kind::Validate),
         keep_debug: false,
         like_lld: false,
         loose_calls: false,

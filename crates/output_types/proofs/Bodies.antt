@@ -6,23 +6,23 @@ use Rattle.std.proofs.lemmas.Option.{slice_get-map}
 use Rattle.std.proofs.lemmas.List.{length-map}
 use Rattle.list_places.specs.Has.{Has}
 use Rattle.list_places.proofs.Lists.{has_at, has_filter}
-use Rattle.wasm_types.specs.declared.function.FuncType.{FuncType}
-use Rattle.wasm_grammar.specs.declared.fault.Stop.{Stop}
-use Rattle.wasm_instr.specs.declared.instr.Instr.TheVariants as instrs
-use Rattle.wasm_instr.specs.declared.body.Placed.{Placed}
-use Rattle.wasm_instr.specs.declared.body.Body.{Body}
-use Rattle.wasm_instr.specs.Bodies.{body_at}
-use Rattle.object_columns.specs.declared.functions.FunctionDef.{FunctionDef}
-use Rattle.object_file.specs.declared.object.Object.{Object}
-use Rattle.object_file.specs.Spaces.{no_type, defined_type}
+use Rattle.link_worlds.specs.link_rules.object_file.wasm_types.declared.function.FuncType.{FuncType}
+use Rattle.link_worlds.specs.link_rules.object_file.wasm_module.wasm_instr.wasm_grammar.declared.fault.Stop.{Stop}
+use Rattle.link_worlds.specs.link_rules.object_file.wasm_module.wasm_instr.declared.instr.Instr.TheVariants as instrs
+use Rattle.link_worlds.specs.link_rules.object_file.wasm_module.wasm_instr.declared.body.Placed.{Placed}
+use Rattle.link_worlds.specs.link_rules.object_file.wasm_module.wasm_instr.declared.body.Body.{Body}
+use Rattle.link_worlds.specs.link_rules.object_file.wasm_module.wasm_instr.Bodies.{body_at}
+use Rattle.link_worlds.specs.link_rules.object_file.object_columns.declared.functions.FunctionDef.{FunctionDef}
+use Rattle.link_worlds.specs.link_rules.object_file.declared.object.Object.{Object}
+use Rattle.link_worlds.specs.link_rules.object_file.Spaces.{no_type, defined_type}
 use Rattle.made_symbols.specs.declared.mode.Mode.TheVariants.{Plain}
 use Rattle.live_mark.specs.Live.{ReachedLaw}
-use Rattle.name_rules.specs.Entries.{InputSymbol, of_function}
-use Rattle.link_rules.specs.Program.{Program, Part, Ref, refs}
-use Rattle.link_rules.specs.Marks.{live}
-use Rattle.link_rules.specs.Keys.{FunctionKey, outside, linker_function, stub, own, ref_function, type_of, type_place, content_type, part_type, is_function_at, function_number}
-use Rattle.link_rules.specs.Values.{Layout, part_bytes}
-use Rattle.link_rules.specs.Output.{layout, image, is_import}
+use Rattle.link_worlds.specs.link_rules.name_rules.Entries.{InputSymbol, of_function}
+use Rattle.link_worlds.specs.link_rules.Program.{Program, Part, Ref, refs}
+use Rattle.link_worlds.specs.link_rules.Marks.{live}
+use Rattle.link_worlds.specs.link_rules.Keys.{FunctionKey, outside, linker_function, stub, own, ref_function, type_of, type_place, content_type, part_type, is_function_at, function_number}
+use Rattle.link_worlds.specs.link_rules.Values.{Layout, part_bytes}
+use Rattle.link_worlds.specs.link_rules.Output.{layout, image, is_import}
 use Rattle.link_worlds.specs.Bodies.{linked_body, linked_part, linked_calls, linked_source, unplaced}
 use Rattle.link_worlds.specs.Worlds.{layout_of, module_by, linked_module}
 use Rattle.link_worlds.specs.Sound.{Shaped}

@@ -7,3 +7,4 @@ mod Limits
 mod Names
 mod Rules
 mod Places
+pub use Rattle.wasm_valid.proofs as wasm_valid_lemmas

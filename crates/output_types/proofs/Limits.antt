@@ -2,19 +2,19 @@
 use Rattle.std.proofs.Common.{◌≡◌, ℕ, ◌-◌, ◌*◌, ◌/◌, ◌^◌, ◌≤◌, List, [], ◌∷◌, Option, Some, None, Bool, true, false, refl, sym, ap, ◌∙◌, arith}
 use Rattle.std.specs.Prelude.{◌&&◌, nat_lt, nat_le, IfSome, option_map}
 use Rattle.std.proofs.lemmas.Bool.{and_from, ltb-false, le-leb}
-use Rattle.wl_base.specs.Choice.{given, first_some}
-use Rattle.wl_base.specs.declared.fault.What.TheVariants.{MaxMemory}
+use Rattle.link_worlds.specs.link_rules.object_file.wl_base.Choice.{given, first_some}
+use Rattle.link_worlds.specs.link_rules.object_file.wl_base.declared.fault.What.TheVariants.{MaxMemory}
 use Rattle.made_symbols.specs.declared.mode.Mode.TheVariants.{Plain}
-use Rattle.name_rules.specs.Entries.{InputSymbol}
+use Rattle.link_worlds.specs.link_rules.name_rules.Entries.{InputSymbol}
 use Rattle.link_plan.specs.Plan.{IsPlan, IsMemory}
 use Rattle.memory_layout.specs.Memory.{heap_base, around, around_stack, pages_over, memory_overflow, passed, above_max, data_past, heap_past, max_past, base_of, placed, data_end, places}
 use Rattle.memory_layout.specs.declared.rules.MemoryRules.{MemoryRules}
 use Rattle.memory_layout.specs.declared.rules.SegmentShape.{SegmentShape}
-use Rattle.link_rules.specs.Program.{Program}
-use Rattle.link_rules.specs.Marks.{live}
-use Rattle.link_rules.specs.Values.{rules_of, shapes}
-use Rattle.link_rules.specs.Output.{layout, memory}
-use Rattle.link_rules.specs.LinkOf.{memory_fault}
+use Rattle.link_worlds.specs.link_rules.Program.{Program}
+use Rattle.link_worlds.specs.link_rules.Marks.{live}
+use Rattle.link_worlds.specs.link_rules.Values.{rules_of, shapes}
+use Rattle.link_worlds.specs.link_rules.Output.{layout, memory}
+use Rattle.link_worlds.specs.link_rules.LinkOf.{memory_fault}
 use Rattle.link_worlds.specs.Worlds.{layout_of}
 use Rattle.wasm_valid.specs.Rules.{is_memory}
 

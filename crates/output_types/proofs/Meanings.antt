@@ -5,24 +5,24 @@ use Rattle.std.proofs.lemmas.Option.{slice_get-map}
 use Rattle.std.proofs.lemmas.Bool.{false≢true}
 use Rattle.list_places.specs.Has.{Has}
 use Rattle.list_places.proofs.Lists.{has_at, has_right, pick_has, flat_has}
-use Rattle.wasm_types.specs.declared.function.FuncType.{FuncType}
-use Rattle.wasm_types.specs.declared.table.GlobalType.{GlobalType}
-use Rattle.linking_section.specs.declared.symbol.Symbol.{Symbol}
-use Rattle.linking_section.specs.declared.symbol.SymbolKind.{SymbolKind}
-use Rattle.linking_section.specs.declared.symbol.SymbolKind.TheVariants.{Function, Datum, GlobalVar, Section, Table}
-use Rattle.linking_section.specs.Flags.{kind_code}
-use Rattle.object_rules.specs.Relocs.{may_name}
-use Rattle.object_file.specs.declared.object.Object.{Object}
-use Rattle.object_file.specs.Spaces.{function_types}
+use Rattle.link_worlds.specs.link_rules.object_file.wasm_types.declared.function.FuncType.{FuncType}
+use Rattle.link_worlds.specs.link_rules.object_file.wasm_types.declared.table.GlobalType.{GlobalType}
+use Rattle.link_worlds.specs.link_rules.object_file.linking_section.declared.symbol.Symbol.{Symbol}
+use Rattle.link_worlds.specs.link_rules.object_file.linking_section.declared.symbol.SymbolKind.{SymbolKind}
+use Rattle.link_worlds.specs.link_rules.object_file.linking_section.declared.symbol.SymbolKind.TheVariants.{Function, Datum, GlobalVar, Section, Table}
+use Rattle.link_worlds.specs.link_rules.object_file.linking_section.Flags.{kind_code}
+use Rattle.link_worlds.specs.link_rules.object_file.object_rules.Relocs.{may_name}
+use Rattle.link_worlds.specs.link_rules.object_file.declared.object.Object.{Object}
+use Rattle.link_worlds.specs.link_rules.object_file.Spaces.{function_types}
 use Rattle.made_symbols.specs.declared.mode.Mode.TheVariants.{Plain}
 use Rattle.live_mark.specs.Live.{ReachedLaw}
 use Rattle.reloc_apply.specs.declared.window.Form.TheVariants.{Unsigned5}
-use Rattle.name_rules.specs.Entries.{InputSymbol, SymbolType, of_function, of_global, is_kind}
-use Rattle.link_rules.specs.Program.{Program, Part, Ref, refs, named_ref, named_type, types_named, TypeWindow, a_symbol, a_type}
-use Rattle.link_rules.specs.Marks.{live}
-use Rattle.link_rules.specs.Keys.{FunctionKey, ref_function, ref_global, functions, types, type_of, type_place, window_types}
-use Rattle.link_rules.specs.Values.{Layout}
-use Rattle.link_rules.specs.Output.{layout}
+use Rattle.link_worlds.specs.link_rules.name_rules.Entries.{InputSymbol, SymbolType, of_function, of_global, is_kind}
+use Rattle.link_worlds.specs.link_rules.Program.{Program, Part, Ref, refs, named_ref, named_type, types_named, TypeWindow, a_symbol, a_type}
+use Rattle.link_worlds.specs.link_rules.Marks.{live}
+use Rattle.link_worlds.specs.link_rules.Keys.{FunctionKey, ref_function, ref_global, functions, types, type_of, type_place, window_types}
+use Rattle.link_worlds.specs.link_rules.Values.{Layout}
+use Rattle.link_worlds.specs.link_rules.Output.{layout}
 use Rattle.link_worlds.specs.Names.{number_at, RefGets}
 use Rattle.link_worlds.specs.Worlds.{layout_of, linked_module}
 use Rattle.link_worlds.specs.Statements.{LinkedBy}

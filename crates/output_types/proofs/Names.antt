@@ -5,8 +5,8 @@ use Rattle.std.specs.List.{list_any}
 use Rattle.std.proofs.lemmas.Bool.{and_from, not_from_false}
 use Rattle.list_places.specs.Has.{Has}
 use Rattle.list_places.proofs.Lists.{has_left, has_right}
-use Rattle.wl_base.specs.Choice.{first_some}
-use Rattle.link_rules.specs.Marks.{Given, repeated_by, first_repeat}
+use Rattle.link_worlds.specs.link_rules.object_file.wl_base.Choice.{first_some}
+use Rattle.link_worlds.specs.link_rules.Marks.{Given, repeated_by, first_repeat}
 use Rattle.wasm_valid.specs.Rules.{all_differ}
 
 -- ---- what isn't found isn't there

@@ -3,10 +3,10 @@ use Rattle.std.proofs.Common.{◌≡◌, ℕ, List, Option, Some, None, Bool, tr
 use Rattle.std.specs.Prelude.{◌==◌, if◌then◌else◌, slice_get, position, option_map, option_and_then}
 use Rattle.std.proofs.lemmas.Bool.{and_parts, eqb-true}
 use Rattle.list_places.proofs.Lists.{stands}
-use Rattle.name_rules.specs.Meanings.{is_nothing}
-use Rattle.link_rules.specs.Program.{Program, Part, Ref}
-use Rattle.link_rules.specs.Keys.{FunctionKey, GlobalKey, outside_global, linker_global, own_global, got, exported_datum, same_function, same_global, ref_function}
-use Rattle.link_rules.specs.Values.{Layout}
+use Rattle.link_worlds.specs.link_rules.name_rules.Meanings.{is_nothing}
+use Rattle.link_worlds.specs.link_rules.Program.{Program, Part, Ref}
+use Rattle.link_worlds.specs.link_rules.Keys.{FunctionKey, GlobalKey, outside_global, linker_global, own_global, got, exported_datum, same_function, same_global, ref_function}
+use Rattle.link_worlds.specs.link_rules.Values.{Layout}
 use Rattle.link_worlds.specs.Names.{all_functions, all_cells, function_place, callee, constant_of, renaming, FunctionGets, CellGets}
 use Rattle.link_worlds.proofs.Keys.{function_equal, import_equal}
 use Rattle.output_types.specs.Types.{constant_cell, cell_type}

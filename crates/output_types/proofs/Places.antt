@@ -3,14 +3,14 @@ use Rattle.std.proofs.Common.{◌≡◌, ◌<◌, List, [], ◌∷◌, length, m
 use Rattle.std.specs.Prelude.{slice_get, option_map, option_and_then}
 use Rattle.std.proofs.lemmas.Option.{slice_get-map}
 use Rattle.std.proofs.lemmas.List.{length-map}
-use Rattle.wasm_types.specs.declared.function.FuncType.{FuncType}
-use Rattle.wasm_instr.specs.declared.instr.Instr.{Instr}
-use Rattle.wasm_instr.specs.declared.body.LocalRun.{LocalRun}
-use Rattle.wasm_instr.specs.declared.body.Placed.{Placed}
-use Rattle.wasm_instr.specs.declared.body.Body.{Body}
-use Rattle.wasm_instr.specs.Placeless.{instrs_of}
-use Rattle.wasm_module.specs.declared.structure.Module.{Module}
-use Rattle.wasm_module.specs.Modules.{placeless, SameButPlaces}
+use Rattle.link_worlds.specs.link_rules.object_file.wasm_types.declared.function.FuncType.{FuncType}
+use Rattle.link_worlds.specs.link_rules.object_file.wasm_module.wasm_instr.declared.instr.Instr.{Instr}
+use Rattle.link_worlds.specs.link_rules.object_file.wasm_module.wasm_instr.declared.body.LocalRun.{LocalRun}
+use Rattle.link_worlds.specs.link_rules.object_file.wasm_module.wasm_instr.declared.body.Placed.{Placed}
+use Rattle.link_worlds.specs.link_rules.object_file.wasm_module.wasm_instr.declared.body.Body.{Body}
+use Rattle.link_worlds.specs.link_rules.object_file.wasm_module.wasm_instr.Placeless.{instrs_of}
+use Rattle.link_worlds.specs.link_rules.object_file.wasm_module.declared.structure.Module.{Module}
+use Rattle.link_worlds.specs.link_rules.object_file.wasm_module.Modules.{placeless, SameButPlaces}
 use Rattle.valid_rules.specs.Leads.{IsTyped}
 use Rattle.valid_bodies.specs.declared.types.Context.{Context}
 use Rattle.valid_bodies.specs.Shapes.{shape, shapes_in}

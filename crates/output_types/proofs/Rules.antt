@@ -6,30 +6,30 @@ use Rattle.std.proofs.lemmas.Bool.{and_from, and_parts, lt-ltb, le-leb, eqb-true
 use Rattle.std.proofs.lemmas.List.{length-map}
 use Rattle.list_places.specs.Has.{Has, Same}
 use Rattle.list_places.proofs.Lists.{by_test, below, has_left, has_right, first_of, second_of, has_map, has_pick, pick_has, has_filter, placed, stands as stands_at, some_is}
-use Rattle.wl_base.specs.Choice.{given}
-use Rattle.wasm_types.specs.declared.value.ValType.{ValType}
-use Rattle.wasm_types.specs.declared.table.GlobalType.{GlobalType}
-use Rattle.wasm_types.specs.declared.const_expr.ConstExpr.{ConstExpr}
-use Rattle.wasm_types.specs.declared.const_expr.ConstExpr.TheVariants as constants
-use Rattle.wasm_module.specs.declared.structure.Module.{Module}
-use Rattle.wasm_module.specs.declared.parts.Export.{Export}
-use Rattle.wasm_module.specs.declared.parts.ModuleGlobal.{ModuleGlobal}
-use Rattle.linking_section.specs.declared.symbol.SymbolKind.{SymbolKind}
-use Rattle.linking_section.specs.declared.symbol.SymbolKind.TheVariants.{Function, Datum, GlobalVar, Section, Table}
-use Rattle.linking_section.specs.Flags.{kind_code}
+use Rattle.link_worlds.specs.link_rules.object_file.wl_base.Choice.{given}
+use Rattle.link_worlds.specs.link_rules.object_file.wasm_types.declared.value.ValType.{ValType}
+use Rattle.link_worlds.specs.link_rules.object_file.wasm_types.declared.table.GlobalType.{GlobalType}
+use Rattle.link_worlds.specs.link_rules.object_file.wasm_types.declared.const_expr.ConstExpr.{ConstExpr}
+use Rattle.link_worlds.specs.link_rules.object_file.wasm_types.declared.const_expr.ConstExpr.TheVariants as constants
+use Rattle.link_worlds.specs.link_rules.object_file.wasm_module.declared.structure.Module.{Module}
+use Rattle.link_worlds.specs.link_rules.object_file.wasm_module.declared.parts.Export.{Export}
+use Rattle.link_worlds.specs.link_rules.object_file.wasm_module.declared.parts.ModuleGlobal.{ModuleGlobal}
+use Rattle.link_worlds.specs.link_rules.object_file.linking_section.declared.symbol.SymbolKind.{SymbolKind}
+use Rattle.link_worlds.specs.link_rules.object_file.linking_section.declared.symbol.SymbolKind.TheVariants.{Function, Datum, GlobalVar, Section, Table}
+use Rattle.link_worlds.specs.link_rules.object_file.linking_section.Flags.{kind_code}
 use Rattle.index_layout.specs.Numbers.{number_by}
 use Rattle.made_symbols.specs.declared.mode.Mode.TheVariants.{Plain}
 use Rattle.mark_bits.specs.declared.chunk.Chunk.{Chunk}
 use Rattle.live_mark.specs.Live.{ReachedLaw}
 use Rattle.reloc_apply.specs.Windows.{signed32}
-use Rattle.image_emit.specs.Bytes.{Block}
-use Rattle.image_emit.specs.Spelled.{segments as data_segments}
-use Rattle.name_rules.specs.Entries.{InputSymbol, is_kind}
-use Rattle.link_rules.specs.Program.{Program, Part, Content, function, segment, global, linker_made, chunk_of, chunk_by, chunk_at}
-use Rattle.link_rules.specs.Marks.{Given, live, refs_of, export_name, memory_name, given_names, repeated_export}
-use Rattle.link_rules.specs.Keys.{FunctionKey, GlobalKey, outside_global, linker_global, own_global, got, exported_datum, same_function, same_global, functions, globals, slots, used_globals, made_global_key, own_global_key, got_entries, datum_key, function_of, global_of, function_number, global_number, type_of, type_place}
-use Rattle.link_rules.specs.Values.{Layout, slot_count, solid_segments}
-use Rattle.link_rules.specs.Output.{layout, image, first_address, memory, memory_export, elements, export_of, global_for, global_content, content_global}
+use Rattle.link_worlds.specs.link_rules.image_emit.Bytes.{Block}
+use Rattle.link_worlds.specs.link_rules.image_emit.Spelled.{segments as data_segments}
+use Rattle.link_worlds.specs.link_rules.name_rules.Entries.{InputSymbol, is_kind}
+use Rattle.link_worlds.specs.link_rules.Program.{Program, Part, Content, function, segment, global, linker_made, chunk_of, chunk_by, chunk_at}
+use Rattle.link_worlds.specs.link_rules.Marks.{Given, live, refs_of, export_name, memory_name, given_names, repeated_export}
+use Rattle.link_worlds.specs.link_rules.Keys.{FunctionKey, GlobalKey, outside_global, linker_global, own_global, got, exported_datum, same_function, same_global, functions, globals, slots, used_globals, made_global_key, own_global_key, got_entries, datum_key, function_of, global_of, function_number, global_number, type_of, type_place}
+use Rattle.link_worlds.specs.link_rules.Values.{Layout, slot_count, solid_segments}
+use Rattle.link_worlds.specs.link_rules.Output.{layout, image, first_address, memory, memory_export, elements, export_of, global_for, global_content, content_global}
 use Rattle.link_worlds.specs.Worlds.{layout_of, linked_tree, module_by, linked_module}
 use Rattle.link_worlds.specs.Sound.{PartOf}
 use Rattle.link_worlds.specs.Statements.{LinkedBy}

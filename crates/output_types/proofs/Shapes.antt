@@ -4,18 +4,18 @@ use Rattle.std.proofs.Common.{◌≡◌, ℕ, List, [], ◌∷◌, map, Option, 
 use Rattle.std.specs.Prelude.{◌==◌, slice_get}
 use Rattle.list_places.specs.Has.{Has}
 use Rattle.list_places.proofs.Lists.{find_has}
-use Rattle.wasm_types.specs.declared.value.ValType.TheVariants.{I32}
-use Rattle.wasm_types.specs.declared.function.FuncType.{FuncType}
-use Rattle.wasm_instr.specs.declared.instr.Instr.{Instr}
-use Rattle.wasm_instr.specs.declared.instr.Instr.TheVariants as instrs
-use Rattle.wasm_instr.specs.declared.instr.BlockKind.TheVariants as blocks
-use Rattle.wasm_instr.specs.declared.body.LocalRun.{LocalRun}
-use Rattle.wasm_instr.specs.declared.body.Placed.{Placed}
-use Rattle.body_windows.specs.declared.operand.Operand.{Operand}
-use Rattle.body_windows.specs.declared.operand.Operand.TheVariants as operands
-use Rattle.object_file.specs.declared.object.Object.{Object}
-use Rattle.link_rules.specs.Program.{Program, Ref, TypeWindow, Named, a_symbol, a_type}
-use Rattle.link_rules.specs.Values.{Layout}
+use Rattle.link_worlds.specs.link_rules.object_file.wasm_types.declared.value.ValType.TheVariants.{I32}
+use Rattle.link_worlds.specs.link_rules.object_file.wasm_types.declared.function.FuncType.{FuncType}
+use Rattle.link_worlds.specs.link_rules.object_file.wasm_module.wasm_instr.declared.instr.Instr.{Instr}
+use Rattle.link_worlds.specs.link_rules.object_file.wasm_module.wasm_instr.declared.instr.Instr.TheVariants as instrs
+use Rattle.link_worlds.specs.link_rules.object_file.wasm_module.wasm_instr.declared.instr.BlockKind.TheVariants as blocks
+use Rattle.link_worlds.specs.link_rules.object_file.wasm_module.wasm_instr.declared.body.LocalRun.{LocalRun}
+use Rattle.link_worlds.specs.link_rules.object_file.wasm_module.wasm_instr.declared.body.Placed.{Placed}
+use Rattle.link_worlds.specs.link_rules.object_file.body_windows.declared.operand.Operand.{Operand}
+use Rattle.link_worlds.specs.link_rules.object_file.body_windows.declared.operand.Operand.TheVariants as operands
+use Rattle.link_worlds.specs.link_rules.object_file.declared.object.Object.{Object}
+use Rattle.link_worlds.specs.link_rules.Program.{Program, Ref, TypeWindow, Named, a_symbol, a_type}
+use Rattle.link_worlds.specs.link_rules.Values.{Layout}
 use Rattle.link_worlds.specs.Names.{number_at}
 use Rattle.link_worlds.specs.Bodies.{place_of, named_at, first_place, number_or, constant_or, linked_at, linked_placed}
 use Rattle.link_worlds.specs.Sound.{NamesFunction, NamesType, NamesTable, NamesCell, TakesAt, Takes}

@@ -6,17 +6,17 @@ use Rattle.std.proofs.lemmas.List.{append-nil, map-append}
 use Rattle.std.proofs.lemmas.Bool.{and_parts, eqb-true}
 use Rattle.list_places.specs.Has.{Has}
 use Rattle.list_places.proofs.Lists.{has_left, has_right, has_either, has_map, map_has, has_pick, given_some, some_is}
-use Rattle.wasm_types.specs.declared.import.Import.{Import}
-use Rattle.wasm_types.specs.declared.import.ImportKind.{ImportKind}
-use Rattle.wasm_module.specs.declared.parts.ModuleGlobal.{ModuleGlobal}
-use Rattle.linking_section.specs.declared.symbol.SymbolKind.TheVariants.{Datum}
+use Rattle.link_worlds.specs.link_rules.object_file.wasm_types.declared.import.Import.{Import}
+use Rattle.link_worlds.specs.link_rules.object_file.wasm_types.declared.import.ImportKind.{ImportKind}
+use Rattle.link_worlds.specs.link_rules.object_file.wasm_module.declared.parts.ModuleGlobal.{ModuleGlobal}
+use Rattle.link_worlds.specs.link_rules.object_file.linking_section.declared.symbol.SymbolKind.TheVariants.{Datum}
 use Rattle.made_symbols.specs.declared.mode.Mode.TheVariants.{Plain}
-use Rattle.name_rules.specs.Entries.{InputSymbol, ImportKey, SymbolType, of_function, of_global, untyped, is_kind}
-use Rattle.link_rules.specs.Program.{Program, Part, Content, function, segment, global, linker_made}
-use Rattle.link_rules.specs.Marks.{live, refs_of}
-use Rattle.link_rules.specs.Keys.{FunctionKey, GlobalKey, outside, linker_function, stub, own, outside_global, linker_global, own_global, got, exported_datum, functions, defined_functions, function_imports_of, globals, defined_globals, used_globals, made_global_key, own_global_key, got_entries, datum_key, type_of, type_place, is_function_type, is_global_type}
-use Rattle.link_rules.specs.Values.{Layout}
-use Rattle.link_rules.specs.Output.{layout, image, is_import, function_import, global_import, import_for, memory_import, memory, table, imports, global_for, global_content, content_global}
+use Rattle.link_worlds.specs.link_rules.name_rules.Entries.{InputSymbol, ImportKey, SymbolType, of_function, of_global, untyped, is_kind}
+use Rattle.link_worlds.specs.link_rules.Program.{Program, Part, Content, function, segment, global, linker_made}
+use Rattle.link_worlds.specs.link_rules.Marks.{live, refs_of}
+use Rattle.link_worlds.specs.link_rules.Keys.{FunctionKey, GlobalKey, outside, linker_function, stub, own, outside_global, linker_global, own_global, got, exported_datum, functions, defined_functions, function_imports_of, globals, defined_globals, used_globals, made_global_key, own_global_key, got_entries, datum_key, type_of, type_place, is_function_type, is_global_type}
+use Rattle.link_worlds.specs.link_rules.Values.{Layout}
+use Rattle.link_worlds.specs.link_rules.Output.{layout, image, is_import, function_import, global_import, import_for, memory_import, memory, table, imports, global_for, global_content, content_global}
 use Rattle.link_worlds.specs.Worlds.{layout_of, module_by}
 use Rattle.link_worlds.specs.Sound.{IsGlobalPart}
 use Rattle.link_worlds.specs.Statements.{LinkedBy}

@@ -1,13 +1,13 @@
 -- What a link that gives bytes makes sure of for the rules outside bodies, and what is asked of the globals of objects.
 use Rattle.std.specs.Prelude.{◌≡◌, List, [], true, None}
 use Rattle.list_places.specs.Has.{Has}
-use Rattle.object_parts.specs.declared.parts.GlobalDef.{GlobalDef}
+use Rattle.link_worlds.specs.link_rules.object_file.object_parts.declared.parts.GlobalDef.{GlobalDef}
 use Rattle.made_symbols.specs.declared.mode.Mode.TheVariants.{Plain}
-use Rattle.name_rules.specs.Entries.{InputSymbol}
+use Rattle.link_worlds.specs.link_rules.name_rules.Entries.{InputSymbol}
 use Rattle.link_plan.specs.Plan.{IsPlan}
-use Rattle.link_rules.specs.Program.{Program, Part, global}
-use Rattle.link_rules.specs.Marks.{live, repeated_export}
-use Rattle.link_rules.specs.LinkOf.{memory_fault}
+use Rattle.link_worlds.specs.link_rules.Program.{Program, Part, global}
+use Rattle.link_worlds.specs.link_rules.Marks.{live, repeated_export}
+use Rattle.link_worlds.specs.link_rules.LinkOf.{memory_fault}
 use Rattle.wasm_valid.specs.Rules.{has_type}
 
 pub record IsChecked (p : Program) (exports : List InputSymbol) : Type 0 where

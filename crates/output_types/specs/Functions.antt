@@ -2,21 +2,21 @@
 -- names the same symbol or type.
 use Rattle.std.specs.Prelude.{◌≡◌, ℕ, List, Option, Some, None, slice_get, IsTrue}
 use Rattle.list_places.specs.Has.{Has}
-use Rattle.wasm_types.specs.declared.function.FuncType.{FuncType}
-use Rattle.wasm_types.specs.declared.table.GlobalType.{GlobalType}
-use Rattle.wasm_instr.specs.Bodies.{body_at}
-use Rattle.linking_section.specs.declared.symbol.Symbol.{Symbol}
-use Rattle.linking_section.specs.declared.symbol.SymbolKind.{SymbolKind}
-use Rattle.linking_section.specs.declared.symbol.SymbolKind.TheVariants.{Function, Datum, GlobalVar, Section, Table}
-use Rattle.body_windows.specs.declared.operand.Operand.{Operand}
-use Rattle.body_windows.specs.declared.operand.Operand.TheVariants as operands
-use Rattle.object_columns.specs.declared.functions.FunctionDef.{FunctionDef}
-use Rattle.object_rules.specs.Relocs.{may_name}
-use Rattle.object_file.specs.declared.object.Object.{Object}
-use Rattle.object_file.specs.Spaces.{no_type, defined_type, function_types, global_types}
-use Rattle.name_rules.specs.Entries.{SymbolType, of_function, of_global}
-use Rattle.link_rules.specs.Program.{Program, Part, function, Ref, refs, Named, a_symbol, a_type}
-use Rattle.link_rules.specs.Values.{part_bytes}
+use Rattle.link_worlds.specs.link_rules.object_file.wasm_types.declared.function.FuncType.{FuncType}
+use Rattle.link_worlds.specs.link_rules.object_file.wasm_types.declared.table.GlobalType.{GlobalType}
+use Rattle.link_worlds.specs.link_rules.object_file.wasm_module.wasm_instr.Bodies.{body_at}
+use Rattle.link_worlds.specs.link_rules.object_file.linking_section.declared.symbol.Symbol.{Symbol}
+use Rattle.link_worlds.specs.link_rules.object_file.linking_section.declared.symbol.SymbolKind.{SymbolKind}
+use Rattle.link_worlds.specs.link_rules.object_file.linking_section.declared.symbol.SymbolKind.TheVariants.{Function, Datum, GlobalVar, Section, Table}
+use Rattle.link_worlds.specs.link_rules.object_file.body_windows.declared.operand.Operand.{Operand}
+use Rattle.link_worlds.specs.link_rules.object_file.body_windows.declared.operand.Operand.TheVariants as operands
+use Rattle.link_worlds.specs.link_rules.object_file.object_columns.declared.functions.FunctionDef.{FunctionDef}
+use Rattle.link_worlds.specs.link_rules.object_file.object_rules.Relocs.{may_name}
+use Rattle.link_worlds.specs.link_rules.object_file.declared.object.Object.{Object}
+use Rattle.link_worlds.specs.link_rules.object_file.Spaces.{no_type, defined_type, function_types, global_types}
+use Rattle.link_worlds.specs.link_rules.name_rules.Entries.{SymbolType, of_function, of_global}
+use Rattle.link_worlds.specs.link_rules.Program.{Program, Part, function, Ref, refs, Named, a_symbol, a_type}
+use Rattle.link_worlds.specs.link_rules.Values.{part_bytes}
 use Rattle.link_worlds.specs.Bodies.{named_at}
 use Rattle.valid_objects.specs.Objects.{operand_at, HasTyping}
 

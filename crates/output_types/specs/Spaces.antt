@@ -1,11 +1,11 @@
 -- The index spaces of the output's module (Core 2.5.1), by the keys that number them.
 use Rattle.std.specs.Prelude.{◌≡◌, ℕ, List, [], ◌∷◌, map}
 use Rattle.made_symbols.specs.declared.mode.Mode.TheVariants.{Plain}
-use Rattle.name_rules.specs.Entries.{InputSymbol}
-use Rattle.link_rules.specs.Program.{Program}
-use Rattle.link_rules.specs.Marks.{live}
-use Rattle.link_rules.specs.Keys.{FunctionKey, type_of, type_place}
-use Rattle.link_rules.specs.Output.{table, memory}
+use Rattle.link_worlds.specs.link_rules.name_rules.Entries.{InputSymbol}
+use Rattle.link_worlds.specs.link_rules.Program.{Program}
+use Rattle.link_worlds.specs.link_rules.Marks.{live}
+use Rattle.link_worlds.specs.link_rules.Keys.{FunctionKey, type_of, type_place}
+use Rattle.link_worlds.specs.link_rules.Output.{table, memory}
 use Rattle.link_worlds.specs.Worlds.{layout_of, linked_module}
 use Rattle.wasm_valid.specs.Spaces.{functions_of, tables_of, memories_of, globals_of}
 use Rattle.output_types.specs.Types.{cell_type}

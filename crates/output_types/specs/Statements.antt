@@ -2,17 +2,17 @@
 -- bytes.
 use Rattle.std.specs.Prelude.{◌≡◌, ℕ, ◌<◌, List, length, true, Some, Ok}
 use Rattle.list_places.specs.Has.{Has}
-use Rattle.wasm_instr.specs.declared.body.Body.{Body}
-use Rattle.wasm_instr.specs.Bodies.{body_at}
-use Rattle.wasm_module.specs.declared.structure.Module.{Module}
-use Rattle.wasm_module.specs.Modules.{SameButPlaces}
-use Rattle.object_columns.specs.declared.functions.FunctionDef.{FunctionDef}
-use Rattle.object_file.specs.declared.object.Object.{Object}
-use Rattle.object_file.specs.Spaces.{defined_type}
-use Rattle.name_rules.specs.Entries.{InputSymbol}
-use Rattle.link_rules.specs.Program.{Program, Part}
-use Rattle.link_rules.specs.Marks.{live}
-use Rattle.link_rules.specs.Values.{part_bytes}
+use Rattle.link_worlds.specs.link_rules.object_file.wasm_module.wasm_instr.declared.body.Body.{Body}
+use Rattle.link_worlds.specs.link_rules.object_file.wasm_module.wasm_instr.Bodies.{body_at}
+use Rattle.link_worlds.specs.link_rules.object_file.wasm_module.declared.structure.Module.{Module}
+use Rattle.link_worlds.specs.link_rules.object_file.wasm_module.Modules.{SameButPlaces}
+use Rattle.link_worlds.specs.link_rules.object_file.object_columns.declared.functions.FunctionDef.{FunctionDef}
+use Rattle.link_worlds.specs.link_rules.object_file.declared.object.Object.{Object}
+use Rattle.link_worlds.specs.link_rules.object_file.Spaces.{defined_type}
+use Rattle.link_worlds.specs.link_rules.name_rules.Entries.{InputSymbol}
+use Rattle.link_worlds.specs.link_rules.Program.{Program, Part}
+use Rattle.link_worlds.specs.link_rules.Marks.{live}
+use Rattle.link_worlds.specs.link_rules.Values.{part_bytes}
 use Rattle.link_worlds.specs.Bodies.{linked_part}
 use Rattle.link_worlds.specs.Worlds.{layout_of, linked_module}
 use Rattle.link_worlds.specs.Statements.{LinkedBy}

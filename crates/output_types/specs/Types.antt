@@ -1,14 +1,14 @@
 -- The types of what an output numbers, by keys; and that they are the types which the objects give to their symbols.
 use Rattle.std.specs.Prelude.{◌≡◌, ℕ, ◌==◌, Bool, true, false, ◌&&◌, List, find, Option, Some, None}
 use Rattle.list_places.specs.Has.{Has}
-use Rattle.wasm_types.specs.declared.value.ValType.TheVariants.{I32}
-use Rattle.wasm_types.specs.declared.table.GlobalType.{GlobalType}
-use Rattle.linking_section.specs.declared.symbol.SymbolKind.TheVariants.{GlobalVar}
+use Rattle.link_worlds.specs.link_rules.object_file.wasm_types.declared.value.ValType.TheVariants.{I32}
+use Rattle.link_worlds.specs.link_rules.object_file.wasm_types.declared.table.GlobalType.{GlobalType}
+use Rattle.link_worlds.specs.link_rules.object_file.linking_section.declared.symbol.SymbolKind.TheVariants.{GlobalVar}
 use Rattle.made_symbols.specs.Made.{stack_pointer}
 use Rattle.made_symbols.specs.declared.mode.Mode.TheVariants.{Plain}
-use Rattle.name_rules.specs.Entries.{SymbolType, of_function, of_global, untyped, is_kind}
-use Rattle.link_rules.specs.Program.{Program, Part, Content, function, segment, global, linker_made, Ref, refs}
-use Rattle.link_rules.specs.Keys.{GlobalKey, outside_global, linker_global, own_global, got, exported_datum, ref_function, ref_global, type_of}
+use Rattle.link_worlds.specs.link_rules.name_rules.Entries.{SymbolType, of_function, of_global, untyped, is_kind}
+use Rattle.link_worlds.specs.link_rules.Program.{Program, Part, Content, function, segment, global, linker_made, Ref, refs}
+use Rattle.link_worlds.specs.link_rules.Keys.{GlobalKey, outside_global, linker_global, own_global, got, exported_datum, ref_function, ref_global, type_of}
 
 -- ---- globals
 

@@ -8,15 +8,15 @@ use Rattle.std.proofs.lemmas.List.Sums.{position_or_len_is}
 use Rattle.std.proofs.lemmas.Option.{slice_get_within, slice_get-get_or, get_or_from_slice_get}
 use Rattle.list_places.specs.Has.{Has}
 use Rattle.list_places.proofs.Lists.{has_either}
-use Rattle.wl_base.specs.Choice.{unless, ◌>>=◌}
-use Rattle.wl_base.specs.declared.fault.Fault.{Fault}
-use Rattle.wl_base.specs.declared.span.Span.{Span}
+use Rattle.object_file.specs.wl_base.Choice.{unless, ◌>>=◌}
+use Rattle.object_file.specs.wl_base.declared.fault.Fault.{Fault}
+use Rattle.object_file.specs.wl_base.declared.span.Span.{Span}
 use Rattle.object_file.specs.ObjectOf.{object_of}
-use Rattle.round_rules.specs.Rounds.{Candidate}
+use Rattle.link_facts.specs.link_worlds.link_rules.round_rules.Rounds.{Candidate}
 use Rattle.link_plan.specs.declared.plan.Plan.{Plan}
 use Rattle.link_plan.specs.declared.plan.InputWord.{InputWord}
-use Rattle.link_rules.specs.Candidates.{Opened, object, library, opened, is_library, members_from, candidates_in, candidates_from, candidates_of, too_much_input, too_many_inputs, words_for}
-use Rattle.link_rules.specs.LinkOf.{the_readers}
+use Rattle.link_facts.specs.link_worlds.link_rules.Candidates.{Opened, object, library, opened, is_library, members_from, candidates_in, candidates_from, candidates_of, too_much_input, too_many_inputs, words_for}
+use Rattle.link_facts.specs.link_worlds.link_rules.LinkOf.{the_readers}
 use Rattle.link_facts.specs.Facts.{bytes_of}
 use Rattle.link_facts.proofs.Steps.{guard}
 

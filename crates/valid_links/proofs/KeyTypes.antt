@@ -4,26 +4,26 @@ use Rattle.std.specs.Prelude.{◌==◌, ◌&&◌, not, if◌then◌else◌, slic
 use Rattle.std.proofs.lemmas.Bool.{and_parts, eqb-true, eq-eqb, ne_eqb, cond-true, cond-false}
 use Rattle.list_places.specs.Has.{Has}
 use Rattle.list_places.proofs.Lists.{has_at, all_has, some_is}
-use Rattle.wasm_types.specs.declared.value.ValType.TheVariants.{I32}
-use Rattle.linking_section.specs.declared.symbol.Symbol.{Symbol}
-use Rattle.linking_section.specs.declared.symbol.SymbolKind.{SymbolKind}
-use Rattle.linking_section.specs.declared.symbol.SymbolKind.TheVariants.{Function, Datum, GlobalVar, Section, Table}
-use Rattle.linking_section.specs.Flags.{is_undefined}
+use Rattle.object_file.specs.wasm_types.declared.value.ValType.TheVariants.{I32}
+use Rattle.object_file.specs.linking_section.declared.symbol.Symbol.{Symbol}
+use Rattle.object_file.specs.linking_section.declared.symbol.SymbolKind.{SymbolKind}
+use Rattle.object_file.specs.linking_section.declared.symbol.SymbolKind.TheVariants.{Function, Datum, GlobalVar, Section, Table}
+use Rattle.object_file.specs.linking_section.Flags.{is_undefined}
 use Rattle.object_file.specs.declared.object.Object.{Object}
 use Rattle.object_file.specs.Sound.{NamesInRange}
-use Rattle.round_rules.specs.Rounds.{Candidate}
+use Rattle.link_facts.specs.link_worlds.link_rules.round_rules.Rounds.{Candidate}
 use Rattle.link_plan.specs.declared.plan.Plan.{Plan}
 use Rattle.made_symbols.specs.Made.{MadeSymbol, made, stack_pointer}
 use Rattle.made_symbols.specs.declared.mode.Mode.TheVariants.{Plain}
-use Rattle.name_rules.specs.Entries.{InputSymbol, of_function, of_global, entries, type_in, index_in, made_type, in_kept_part}
-use Rattle.name_rules.specs.Cases.{clash_by}
-use Rattle.link_rules.specs.Program.{Program, loosened, Part}
-use Rattle.link_rules.specs.Marks.{live}
-use Rattle.link_rules.specs.Keys.{linker_function, own, linker_global, own_global, function_of, global_of, type_of, part_type, content_type, is_function_at}
-use Rattle.link_worlds.specs.Sound.{Sound}
-use Rattle.link_worlds.proofs.Live.{live_part}
-use Rattle.link_worlds.proofs.Functions.{find_part, live_apart, Stood}
-use Rattle.link_worlds.proofs.Start.{IfOwn}
+use Rattle.link_facts.specs.link_worlds.link_rules.name_rules.Entries.{InputSymbol, of_function, of_global, entries, type_in, index_in, made_type, in_kept_part}
+use Rattle.link_facts.specs.link_worlds.link_rules.name_rules.Cases.{clash_by}
+use Rattle.link_facts.specs.link_worlds.link_rules.Program.{Program, loosened, Part}
+use Rattle.link_facts.specs.link_worlds.link_rules.Marks.{live}
+use Rattle.link_facts.specs.link_worlds.link_rules.Keys.{linker_function, own, linker_global, own_global, function_of, global_of, type_of, part_type, content_type, is_function_at}
+use Rattle.link_facts.specs.link_worlds.Sound.{Sound}
+use Rattle.link_facts.proofs.link_worlds_lemmas.Live.{live_part}
+use Rattle.link_facts.proofs.link_worlds_lemmas.Functions.{find_part, live_apart, Stood}
+use Rattle.link_facts.proofs.link_worlds_lemmas.Start.{IfOwn}
 use Rattle.link_facts.specs.Loaded.{AreLoaded}
 use Rattle.link_facts.proofs.Symbols.{Known, OfObject, positive}
 use Rattle.output_types.specs.Types.{part_cell, content_cell, is_global_at, cell_type}

@@ -8,4 +8,6 @@ mod KeyTypes
 mod OneTypes
 mod Variants
 mod Candidates
+mod NoCheck
 mod Links
+pub use Rattle.output_check.proofs as output_check_lemmas

@@ -5,45 +5,45 @@ use Rattle.std.specs.List.{list_all}
 use Rattle.std.proofs.lemmas.Bool.{and_parts}
 use Rattle.list_places.specs.Has.{Has}
 use Rattle.list_places.proofs.Lists.{has_at, all_has}
-use Rattle.wasm_types.specs.declared.const_expr.ConstExpr.{ConstExpr}
-use Rattle.wasm_types.specs.declared.const_expr.ConstExpr.TheVariants as constants
-use Rattle.wasm_types.specs.declared.value.ValType.{ValType}
-use Rattle.wasm_instr.specs.BodyLaws.{body_again}
-use Rattle.object_parts.specs.declared.parts.GlobalDef.{GlobalDef}
+use Rattle.object_file.specs.wasm_types.declared.const_expr.ConstExpr.{ConstExpr}
+use Rattle.object_file.specs.wasm_types.declared.const_expr.ConstExpr.TheVariants as constants
+use Rattle.object_file.specs.wasm_types.declared.value.ValType.{ValType}
+use Rattle.object_file.specs.wasm_module.wasm_instr.BodyLaws.{body_again}
+use Rattle.object_file.specs.object_parts.declared.parts.GlobalDef.{GlobalDef}
 use Rattle.object_file.specs.declared.object.Object.{Object}
 use Rattle.object_file.specs.ObjectOf.{IsObject, object_of}
 use Rattle.object_file.specs.Sound.{Sound as ObjectSound}
 use Rattle.object_file.specs.Spellable.{IsSpellable}
 use Rattle.object_file.proofs.Read.{object_found}
-use Rattle.round_rules.specs.Rounds.{Candidate, load}
+use Rattle.link_facts.specs.link_worlds.link_rules.round_rules.Rounds.{Candidate, load}
 use Rattle.link_plan.specs.declared.plan.Plan.{Plan}
 use Rattle.link_plan.specs.Plan.{IsPlan}
 use Rattle.made_symbols.specs.declared.mode.Mode.TheVariants.{Plain}
 use Rattle.live_mark.specs.Live.{ReachedLaw}
-use Rattle.name_rules.specs.Entries.{InputSymbol}
-use Rattle.name_rules.specs.Cases.{clash_by, duplicate}
-use Rattle.link_rules.specs.Candidates.{candidates_of}
-use Rattle.link_rules.specs.Program.{Program, program_of, Part}
-use Rattle.link_rules.specs.Marks.{exported, repeated_export}
-use Rattle.link_rules.specs.Values.{part_bytes}
-use Rattle.link_rules.specs.LinkOf.{asked_names, the_readers, link_of, link_program, too_many_names}
+use Rattle.link_facts.specs.link_worlds.link_rules.name_rules.Entries.{InputSymbol}
+use Rattle.link_facts.specs.link_worlds.link_rules.name_rules.Cases.{clash_by, duplicate}
+use Rattle.link_facts.specs.link_worlds.link_rules.Candidates.{candidates_of}
+use Rattle.link_facts.specs.link_worlds.link_rules.Program.{Program, program_of, Part}
+use Rattle.link_facts.specs.link_worlds.link_rules.Marks.{exported, repeated_export}
+use Rattle.link_facts.specs.link_worlds.link_rules.Values.{part_bytes}
+use Rattle.link_facts.specs.link_worlds.link_rules.LinkOf.{asked_names, the_readers, link_of, link_program, too_many_names}
 use Rattle.link_program.specs.Loaded.{home_of, IsLoaded, IsReadFrom}
 use Rattle.link_inputs.specs.Loaded.{LoadedAreSound}
-use Rattle.link_worlds.specs.Sound.{IsConstant, IsShaped, Shaped, Takes}
-use Rattle.link_worlds.specs.Worlds.{layout_of, linked_module}
-use Rattle.link_worlds.specs.Statements.{LinkedBy}
-use Rattle.link_worlds.proofs.Live.{live_part}
-use Rattle.output_module.specs.Filled.{Reads, TakenBody}
-use Rattle.output_module.specs.Outputs.{IsCoded}
+use Rattle.link_facts.specs.link_worlds.Sound.{IsConstant, IsShaped, Shaped, Takes}
+use Rattle.link_facts.specs.link_worlds.Worlds.{layout_of, linked_module}
+use Rattle.link_facts.specs.link_worlds.Statements.{LinkedBy}
+use Rattle.link_facts.proofs.link_worlds_lemmas.Live.{live_part}
+use Rattle.link_facts.specs.output_module.Filled.{Reads, TakenBody}
+use Rattle.link_facts.specs.output_module.Outputs.{IsCoded}
 use Rattle.link_facts.specs.Faults.{NoFault, ValuesFit}
 use Rattle.link_facts.specs.Facts.{IsFrom, IsReading, Facts, FactsHold, bytes_of}
 use Rattle.link_facts.proofs.Loads.{are_loaded}
 use Rattle.link_facts.proofs.Steps.{guard, is_link, is_linked, is_marked}
 use Rattle.link_runs.specs.Links.{LinksRun}
-use Rattle.valid_objects.specs.Objects.{IsValidObject}
-use Rattle.wasm_valid.specs.Rules.{has_type}
-use Rattle.wasm_valid.specs.Valid.{IsValid}
-use Rattle.wasm_valid.proofs.Computed.{judged_is_computed}
+use Rattle.output_types.specs.valid_objects.Objects.{IsValidObject}
+use Rattle.output_types.specs.wasm_valid.Rules.{has_type}
+use Rattle.output_types.specs.wasm_valid.Valid.{IsValid}
+use Rattle.output_types.proofs.wasm_valid_lemmas.Computed.{judged_is_computed}
 use Rattle.output_types.specs.Statements.{OutputsAreValid, PlacesDontCount}
 use Rattle.valid_links.specs.Types.{NamesHaveOneType}
 use Rattle.valid_links.specs.Links.{LinksAreValid}

@@ -3,18 +3,18 @@ use Rattle.std.proofs.Common.{◌≡◌, ℕ, zero, suc, ◌-◌, ◌≤◌, Lis
 use Rattle.std.specs.Prelude.{nat_lt, slice_get, filter_map, option_map}
 use Rattle.std.proofs.lemmas.Option.{slice_get-map, get_or_from_slice_get}
 use Rattle.std.proofs.lemmas.List.{length-append, length-map}
-use Rattle.wasm_types.specs.declared.value.ValType.TheVariants.{I32}
-use Rattle.linking_section.specs.declared.symbol.Symbol.{Symbol}
-use Rattle.linking_section.specs.declared.symbol.SymbolKind.{SymbolKind}
-use Rattle.linking_section.specs.declared.symbol.SymbolKind.TheVariants.{Function, Datum, GlobalVar, Section, Table}
-use Rattle.linking_section.specs.Flags.{is_undefined}
-use Rattle.object_parts.specs.declared.parts.GlobalDef.{GlobalDef}
-use Rattle.object_columns.specs.declared.functions.FunctionDef.{FunctionDef}
+use Rattle.object_file.specs.wasm_types.declared.value.ValType.TheVariants.{I32}
+use Rattle.object_file.specs.linking_section.declared.symbol.Symbol.{Symbol}
+use Rattle.object_file.specs.linking_section.declared.symbol.SymbolKind.{SymbolKind}
+use Rattle.object_file.specs.linking_section.declared.symbol.SymbolKind.TheVariants.{Function, Datum, GlobalVar, Section, Table}
+use Rattle.object_file.specs.linking_section.Flags.{is_undefined}
+use Rattle.object_file.specs.object_parts.declared.parts.GlobalDef.{GlobalDef}
+use Rattle.object_file.specs.object_columns.declared.functions.FunctionDef.{FunctionDef}
 use Rattle.object_file.specs.declared.object.Object.{Object}
 use Rattle.object_file.specs.Spaces.{no_type, function_imports, global_imports, imported_type, imported_global, defined_type, function_types, global_types}
 use Rattle.object_file.specs.Sound.{NamesInRange}
 use Rattle.object_file.proofs.Counted.{functions_counted, globals_counted}
-use Rattle.name_rules.specs.Entries.{of_function, of_global, type_in}
+use Rattle.link_facts.specs.link_worlds.link_rules.name_rules.Entries.{of_function, of_global, type_in}
 use Rattle.link_facts.proofs.Parts.{there_is}
 use Rattle.output_types.specs.Functions.{IsTypeOf}
 

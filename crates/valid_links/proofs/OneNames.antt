@@ -5,12 +5,12 @@ use Rattle.std.specs.Prelude.{◌&&◌, ◌||◌, not, filter, find, option_map,
 use Rattle.std.proofs.lemmas.Bool.{and_parts, not-false}
 use Rattle.list_places.specs.Has.{Has}
 use Rattle.list_places.proofs.Lists.{has_filter, has_right, has_either, find_has}
-use Rattle.wl_base.specs.Choice.{first_some}
-use Rattle.wl_base.specs.declared.fault.Fault.{Fault}
-use Rattle.linking_section.specs.declared.symbol.SymbolKind.TheVariants.{Function}
-use Rattle.name_rules.specs.Entries.{InputSymbol, SymbolType, of_function, of_global, untyped, is_kind, is_entry, name_of, named, is_named, same_symbol_type}
-use Rattle.name_rules.specs.Cases.{clash, loose_clash, clash_by, clash_of, clash_beside, clashes_with, other_import, broken, judge, breaks, may_differ, mismatches, has_other_type, first_entry, passes, differ, explicit_import}
-use Rattle.link_worlds.proofs.Keys.{bytes_equal, bytes_itself, type_equal, global_type_equal}
+use Rattle.object_file.specs.wl_base.Choice.{first_some}
+use Rattle.object_file.specs.wl_base.declared.fault.Fault.{Fault}
+use Rattle.object_file.specs.linking_section.declared.symbol.SymbolKind.TheVariants.{Function}
+use Rattle.link_facts.specs.link_worlds.link_rules.name_rules.Entries.{InputSymbol, SymbolType, of_function, of_global, untyped, is_kind, is_entry, name_of, named, is_named, same_symbol_type}
+use Rattle.link_facts.specs.link_worlds.link_rules.name_rules.Cases.{clash, loose_clash, clash_by, clash_of, clash_beside, clashes_with, other_import, broken, judge, breaks, may_differ, mismatches, has_other_type, first_entry, passes, differ, explicit_import}
+use Rattle.link_facts.proofs.link_worlds_lemmas.Keys.{bytes_equal, bytes_itself, type_equal, global_type_equal}
 use Rattle.link_facts.proofs.Meant.{find_none}
 
 -- ---- tests

@@ -5,21 +5,21 @@ use Rattle.std.specs.List.{cons_option}
 use Rattle.std.proofs.lemmas.Option.{slice_get-map, get_or_from_slice_get}
 use Rattle.list_places.specs.Has.{Has}
 use Rattle.list_places.proofs.Lists.{has_at, some_is}
-use Rattle.linking_section.specs.declared.symbol.Symbol.{Symbol}
-use Rattle.body_windows.specs.declared.operand.Operand.{Operand}
-use Rattle.body_windows.specs.declared.operand.Operand.TheVariants as operands
-use Rattle.object_rules.specs.Relocs.{may_name}
+use Rattle.object_file.specs.linking_section.declared.symbol.Symbol.{Symbol}
+use Rattle.object_file.specs.body_windows.declared.operand.Operand.{Operand}
+use Rattle.object_file.specs.body_windows.declared.operand.Operand.TheVariants as operands
+use Rattle.object_file.specs.object_rules.Relocs.{may_name}
 use Rattle.object_file.specs.declared.object.Object.{Object}
 use Rattle.object_file.specs.Spaces.{no_type, written_type}
 use Rattle.object_file.specs.Sound.{OperandNames, IsNamedBy, NamesInRange}
 use Rattle.made_symbols.specs.declared.mode.Mode.TheVariants.{Plain}
-use Rattle.name_rules.specs.Entries.{InputSymbol, entry_in, entries_from, symbols_of, entries, type_in}
-use Rattle.name_rules.specs.Meanings.{Meaning, Resolved, resolved_in, meaning, no_uses}
-use Rattle.link_rules.specs.Program.{Ref, TypeWindow, Named, a_symbol, a_type, ref_to, ref_in, operand_named}
-use Rattle.link_worlds.specs.Bodies.{place_of, named_at}
+use Rattle.link_facts.specs.link_worlds.link_rules.name_rules.Entries.{InputSymbol, entry_in, entries_from, symbols_of, entries, type_in}
+use Rattle.link_facts.specs.link_worlds.link_rules.name_rules.Meanings.{Meaning, Resolved, resolved_in, meaning, no_uses}
+use Rattle.link_facts.specs.link_worlds.link_rules.Program.{Ref, TypeWindow, Named, a_symbol, a_type, ref_to, ref_in, operand_named}
+use Rattle.link_facts.specs.link_worlds.Bodies.{place_of, named_at}
 use Rattle.link_facts.proofs.Parts.{there_is}
 use Rattle.link_facts.proofs.Loosened.{named_by, ref_by, changed_or_not}
-use Rattle.valid_objects.specs.Objects.{operand_at}
+use Rattle.output_types.specs.valid_objects.Objects.{operand_at}
 use Rattle.output_types.specs.Functions.{IsTypeOf, NamesSymbol, NamesSame}
 use Rattle.valid_links.proofs.ObjectTypes.{symbol_type}
 

@@ -6,37 +6,37 @@ use Rattle.std.proofs.lemmas.Bool.{false≢true}
 use Rattle.std.proofs.lemmas.Option.{get_or_from_slice_get}
 use Rattle.list_places.specs.Has.{Has}
 use Rattle.list_places.proofs.Lists.{below, has_at, has_map, has_pick, has_filter, all_has, some_is}
-use Rattle.wasm_instr.specs.Bodies.{body_at}
-use Rattle.linking_section.specs.declared.symbol.Symbol.{Symbol}
-use Rattle.linking_section.specs.declared.symbol.SymbolKind.{SymbolKind}
-use Rattle.linking_section.specs.declared.symbol.SymbolKind.TheVariants.{Function, Datum, GlobalVar, Section, Table}
-use Rattle.linking_section.specs.declared.init.InitFunc.{InitFunc}
-use Rattle.object_parts.specs.declared.parts.GlobalDef.{GlobalDef}
-use Rattle.object_parts.specs.Spans.{LiesIn}
-use Rattle.object_rules.specs.Metadata.{is_function_kind}
-use Rattle.object_columns.specs.declared.functions.FunctionDef.{FunctionDef}
+use Rattle.object_file.specs.wasm_module.wasm_instr.Bodies.{body_at}
+use Rattle.object_file.specs.linking_section.declared.symbol.Symbol.{Symbol}
+use Rattle.object_file.specs.linking_section.declared.symbol.SymbolKind.{SymbolKind}
+use Rattle.object_file.specs.linking_section.declared.symbol.SymbolKind.TheVariants.{Function, Datum, GlobalVar, Section, Table}
+use Rattle.object_file.specs.linking_section.declared.init.InitFunc.{InitFunc}
+use Rattle.object_file.specs.object_parts.declared.parts.GlobalDef.{GlobalDef}
+use Rattle.object_file.specs.object_parts.Spans.{LiesIn}
+use Rattle.object_file.specs.object_rules.Metadata.{is_function_kind}
+use Rattle.object_file.specs.object_columns.declared.functions.FunctionDef.{FunctionDef}
 use Rattle.object_file.specs.declared.object.Object.{Object}
 use Rattle.object_file.specs.Spaces.{no_type, defined_type, function_types}
 use Rattle.object_file.specs.Sound.{Sound as ObjectSound, OperandNames, NamesInRange, IsInit}
-use Rattle.round_rules.specs.Rounds.{Candidate}
+use Rattle.link_facts.specs.link_worlds.link_rules.round_rules.Rounds.{Candidate}
 use Rattle.link_plan.specs.declared.plan.Plan.{Plan}
 use Rattle.made_symbols.specs.Made.{made}
 use Rattle.made_symbols.specs.declared.mode.Mode.TheVariants.{Plain}
 use Rattle.mark_bits.specs.declared.chunk.Chunk.{Chunk}
-use Rattle.name_rules.specs.Entries.{InputSymbol, of_function, entries, type_in}
-use Rattle.name_rules.specs.Meanings.{Resolved, resolved_in, no_uses}
-use Rattle.name_rules.specs.Cases.{clash_by}
-use Rattle.image_emit.specs.Bytes.{file_part}
-use Rattle.link_rules.specs.Program.{Program, strict_program, loosened, Part, function, segment, global, linker_made, Ref, refs, a_symbol, function_part, parts_of, init_calls, init_calls_in, InitCall, init_call, ref_in, is_skipped, operand_named, span_in}
-use Rattle.link_rules.specs.Values.{part_bytes}
-use Rattle.link_worlds.specs.Bodies.{named_at}
+use Rattle.link_facts.specs.link_worlds.link_rules.name_rules.Entries.{InputSymbol, of_function, entries, type_in}
+use Rattle.link_facts.specs.link_worlds.link_rules.name_rules.Meanings.{Resolved, resolved_in, no_uses}
+use Rattle.link_facts.specs.link_worlds.link_rules.name_rules.Cases.{clash_by}
+use Rattle.link_facts.specs.link_worlds.link_rules.image_emit.Bytes.{file_part}
+use Rattle.link_facts.specs.link_worlds.link_rules.Program.{Program, strict_program, loosened, Part, function, segment, global, linker_made, Ref, refs, a_symbol, function_part, parts_of, init_calls, init_calls_in, InitCall, init_call, ref_in, is_skipped, operand_named, span_in}
+use Rattle.link_facts.specs.link_worlds.link_rules.Values.{part_bytes}
+use Rattle.link_facts.specs.link_worlds.Bodies.{named_at}
 use Rattle.link_facts.specs.Loaded.{AreLoaded}
 use Rattle.link_facts.specs.Facts.{IsFrom, bytes_of}
 use Rattle.link_facts.proofs.Parts.{Stood, as_function, as_segment, as_global, stood, made_as, made_behind, made_by_input, object_by_input, made_or_object}
 use Rattle.link_facts.proofs.Refs.{ref_is, calls_are, refs_named}
 use Rattle.link_facts.proofs.SoundPrograms.{parts_are, names_symbol}
 use Rattle.link_facts.proofs.Loosened.{part_by, ref_by, named_by, came, ref_came, changed_or_not}
-use Rattle.valid_objects.specs.Objects.{operand_at, body_bytes, HasTyping, TypedIn, IsValidObject}
+use Rattle.output_types.specs.valid_objects.Objects.{operand_at, body_bytes, HasTyping, TypedIn, IsValidObject}
 use Rattle.output_types.specs.Functions.{NamesSame, IsTypedFunction}
 use Rattle.valid_links.proofs.Bytes.{part_in}
 use Rattle.valid_links.proofs.Operands.{same_named}

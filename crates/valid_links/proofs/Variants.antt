@@ -6,22 +6,22 @@ use Rattle.std.proofs.Math.Utf8.{scalar, scalars, encode, encodes, next, scalar_
 use Rattle.std.proofs.lemmas.Bool.{and_parts, ltb-true}
 use Rattle.list_places.specs.Has.{Has}
 use Rattle.list_places.proofs.Lists.{has_at, has_either, has_flat, has_map, find_has, all_has}
-use Rattle.wasm_types.specs.declared.value.ValType.{ValType}
-use Rattle.wasm_types.specs.declared.value.ValType.TheVariants.{I32, I64, F32, F64}
-use Rattle.wasm_types.specs.declared.function.FuncType.{FuncType}
-use Rattle.wasm_types.specs.Types.{val_byte}
+use Rattle.object_file.specs.wasm_types.declared.value.ValType.{ValType}
+use Rattle.object_file.specs.wasm_types.declared.value.ValType.TheVariants.{I32, I64, F32, F64}
+use Rattle.object_file.specs.wasm_types.declared.function.FuncType.{FuncType}
+use Rattle.object_file.specs.wasm_types.Types.{val_byte}
 use Rattle.object_file.specs.declared.object.Object.{Object}
 use Rattle.object_file.specs.Spellable.{IsSpellable, IsSymbol}
-use Rattle.round_rules.specs.Rounds.{Candidate}
+use Rattle.link_facts.specs.link_worlds.link_rules.round_rules.Rounds.{Candidate}
 use Rattle.link_plan.specs.declared.plan.Plan.{Plan}
 use Rattle.made_symbols.specs.Made.{MadeSymbol, made}
 use Rattle.made_symbols.specs.declared.mode.Mode.TheVariants.{Plain}
-use Rattle.name_rules.specs.Entries.{InputSymbol, SymbolType, of_function, of_global, untyped, name_of, is_named, entries}
-use Rattle.name_rules.specs.Meanings.{Meaning, Resolved, resolve}
-use Rattle.name_rules.specs.Cases.{clash_by, first_entry}
-use Rattle.link_rules.specs.Program.{Program, loosened, Ref, is_mismatch, variant, variant_name, renamed, variants_among, variants_of, loose_variants}
-use Rattle.link_rules.specs.Keys.{callable}
-use Rattle.link_worlds.proofs.Keys.{bytes_equal}
+use Rattle.link_facts.specs.link_worlds.link_rules.name_rules.Entries.{InputSymbol, SymbolType, of_function, of_global, untyped, name_of, is_named, entries}
+use Rattle.link_facts.specs.link_worlds.link_rules.name_rules.Meanings.{Meaning, Resolved, resolve}
+use Rattle.link_facts.specs.link_worlds.link_rules.name_rules.Cases.{clash_by, first_entry}
+use Rattle.link_facts.specs.link_worlds.link_rules.Program.{Program, loosened, Ref, is_mismatch, variant, variant_name, renamed, variants_among, variants_of, loose_variants}
+use Rattle.link_facts.specs.link_worlds.link_rules.Keys.{callable}
+use Rattle.link_facts.proofs.link_worlds_lemmas.Keys.{bytes_equal}
 use Rattle.link_facts.specs.Loaded.{AreLoaded}
 use Rattle.link_facts.proofs.Symbols.{Known, entry_known, is_symbol}
 use Rattle.link_facts.proofs.Loosened.{IsChanged}

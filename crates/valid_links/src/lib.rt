@@ -2,7 +2,10 @@
 #![tactic(auto)]
 
 ghost use Rattle.valid_links.specs.Types.{NamesHaveOneType};
-ghost use Rattle.valid_links.specs.Links.{LinksAreValid};
+ghost use Rattle.valid_links.specs.Links.{LinksAreValid, LinksDontJudge};
+
+pub use link_runs::{Inputs, links_run, load_inputs};
+pub use output_check::{ValidError, check_output};
 
 /// Where no names of loaded objects clash, what a live reference names has the type that its object
 /// gives to the symbol: a definition, an import, or the stub of a null name.
@@ -20,7 +23,7 @@ pub fn links_are_valid()
     names_have_one_type();
     output_types::outputs_are_valid();
     output_types::places_dont_count();
-    output_module::bodies_take_references();
+    link_facts::bodies_take_references();
     object_file::read_objects_are_sound();
     object_file::read_objects_are_spellable();
     link_inputs::loaded_objects_are_sound();
@@ -28,3 +31,8 @@ pub fn links_are_valid()
     link_facts::facts_hold();
     link_runs::links_run();
 }
+
+/// `link_of` judges no module: it never gives the fault of the check, which stands behind it.
+pub fn links_dont_judge()
+    ensures { LinksDontJudge }
+{}

@@ -45,6 +45,8 @@ Numbers are decimal, or 0x and hexadecimal digits.
   --threads=N                1 to 64 workers, by default 4
   --make-case=N              link N generated objects, 1 to 20000, and print
                              what became of them
+  --validate                 check the module by the standard's rules of
+                             validation, and refuse it where it breaks one
   -m wasm32, -s, -S, --strip-all, --strip-debug
                              have no effect
 

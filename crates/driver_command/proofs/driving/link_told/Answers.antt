@@ -1,5 +1,5 @@
 use Rattle.std.proofs.Common.{sym, subst, List}
-use Rattle.mismatch_rules.specs.declared.mismatch.Mismatch.{Mismatch}
+use Rattle.link_command.specs.mismatch_rules.declared.mismatch.Mismatch.{Mismatch}
 use Rattle.driver_command.specs.Told.{warning_lines, IsEnd}
 use Rattle.driver_command.proofs.Around.{links_as_before}
 use Rattle.driver_command.proofs.Causes.{tells_of_on}

@@ -3,7 +3,7 @@ use Rattle.std.specs.List.{flat_map}
 use Rattle.std.proofs.lemmas.Option.{same_Some}
 use Rattle.wl_outside.specs.Sink.{Wrote}
 use Rattle.link_lines.specs.Pieces.{joined}
-use Rattle.mismatch_rules.specs.declared.mismatch.Mismatch.{Mismatch}
+use Rattle.link_command.specs.mismatch_rules.declared.mismatch.Mismatch.{Mismatch}
 use Rattle.driver_lines.specs.Mismatch.{first_and_rest}
 use Rattle.driver_lines.proofs.Parts.{both, last, stops, stops_first, later}
 use Rattle.driver_command.specs.Mismatched.{line_of, next_lines, told_lines}

@@ -1,0 +1,19 @@
+-- The whole link: its bytes, checked where the plan asks for that.
+use Rattle.std.specs.Prelude.{ℕ, List, Result, Ok}
+use Rattle.link_output.specs.link_program.wl_base.Choice.{unless, ◌>>=◌}
+use Rattle.link_output.specs.link_program.wl_base.declared.fault.Fault.{Fault}
+use Rattle.link_output.specs.link_program.link_plan.declared.plan.Plan.{Plan}
+use Rattle.link_output.specs.link_program.link_rules.LinkOf.{link_of}
+use Rattle.valid_links.specs.output_check.Check.{invalid_fault}
+
+-- The bytes, unless the plan asks for the check of the output and it finds a fault (Core 3).
+abbrev pub checked : Plan → List ℕ → Result (List ℕ) Fault
+checked plan bytes = do
+  bytes ← unless (invalid_fault plan bytes) bytes
+  Ok bytes
+
+-- The link of files by a plan: what the definition of linking gives, then the check of its output.
+unfoldable pub linked : Plan → List (List ℕ) → Result (List ℕ) Fault
+linked plan files = do
+  bytes ← link_of plan files
+  checked plan bytes
