@@ -38,7 +38,7 @@ pub fn enter(alloc: Global, opener: Opener, kind: FuncType) -> Result<Frame, Out
 }
 
 /// An instruction that takes these and puts those.
-fn uses(
+pub fn uses(
     frames: &mut Stack<Frame>,
     frame: Frame,
     takes: &[ValType],
@@ -56,7 +56,7 @@ fn uses(
 }
 
 /// An instruction that takes these and never comes behind itself.
-fn cuts(
+pub fn cuts(
     alloc: Global,
     frames: &mut Stack<Frame>,
     frame: Frame,
@@ -97,14 +97,14 @@ fn is_over(operands: Stack<Operand>, unreachable: bool, kind: &FuncType, opener:
 
 /// `block`, `loop` or `if`.
 #[tactic(auto, unfolding(valid_rules::specs::Reading::step))]
-fn opens(
+pub fn opens(
     alloc: Global,
     frames: &mut Stack<Frame>,
     frame: Frame,
     opener: Opener,
-    kind: &FuncType,
+    kind: FuncType,
 ) -> Result<bool, OutOfMemory>
-    ensures { IfOk result (λ went. Went (step frames.old frame (Opens opener kind.now)) went frames.new) }
+    ensures { IfOk result (λ went. Went (step frames.old frame (Opens opener kind)) went frames.new) }
 {
     let mut frame = frame;
     if opener == Opener::If && !takes_one(&mut frame.operands, frame.unreachable, ValType::I32) {
@@ -118,7 +118,7 @@ fn opens(
         return Ok(false);
     }
     frames.push(frame)?;
-    frames.push(enter(alloc, opener, copied(alloc, kind)?)?)?;
+    frames.push(enter(alloc, opener, kind)?)?;
     Ok(true)
 }
 
@@ -301,7 +301,7 @@ fn fit_labels(
 
 /// `br_table`.
 #[tactic(auto, unfolding(valid_rules::specs::Reading::step))]
-fn branches_by(
+pub fn branches_by(
     alloc: Global,
     frames: &mut Stack<Frame>,
     frame: Frame,
@@ -362,7 +362,7 @@ pub fn reads(
             labels.as_slice(),
             *last,
         ),
-        Shape::Opens(opener, kind) => opens(alloc, frames, frame, *opener, kind),
+        Shape::Opens(opener, kind) => opens(alloc, frames, frame, *opener, copied(alloc, kind)?),
         Shape::Else => parts(alloc, frames, frame),
         Shape::End => closes(alloc, frames, frame),
         Shape::Untyped => Ok(false),

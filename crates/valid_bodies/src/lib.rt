@@ -10,15 +10,19 @@
 
 mod accesses;
 mod bodies;
+mod effects;
 mod frames;
 mod meanings;
 mod numeric;
 mod opcodes;
 mod operands;
+mod reading;
 mod shapes;
+mod sharing;
 mod types;
 
 pub use bodies::{begin, first_untyped};
 pub use frames::reads;
 pub use shapes::shape_by;
+pub use sharing::first_untyped_by;
 pub use types::{Context, Meaning};
