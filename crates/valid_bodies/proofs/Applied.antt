@@ -1,11 +1,10 @@
 -- An instruction of an effect, in a frame.
-use Rattle.std.proofs.Common.{◌≡◌, List, [], ◌∷◌, Option, Some, None, Bool, true, false, refl, sym, ap}
+use Rattle.std.proofs.Common.{List, [], ◌∷◌, Option, Some, None, Bool, true, false, refl, sym, ap}
 use Rattle.std.specs.Prelude.{reverse, option_and_then}
 use Rattle.wasm_types.specs.declared.value.ValType.TheVariants.{I32}
 use Rattle.wasm_types.specs.declared.function.FuncType.{FuncType}
 use Rattle.valid_rules.specs.declared.types.Operand.{Operand}
 use Rattle.valid_rules.specs.declared.types.Frame.{Frame}
-use Rattle.valid_rules.specs.declared.types.Shape.{Shape}
 use Rattle.valid_rules.specs.Reading.{step, with_operands, put, take_all}
 use Rattle.valid_rules.proofs.Fitting.{no_some}
 use Rattle.valid_bodies.specs.declared.effects.Effect.{Effect}

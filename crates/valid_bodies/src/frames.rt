@@ -102,9 +102,9 @@ pub fn opens(
     frames: &mut Stack<Frame>,
     frame: Frame,
     opener: Opener,
-    kind: FuncType,
+    kind: &FuncType,
 ) -> Result<bool, OutOfMemory>
-    ensures { IfOk result (λ went. Went (step frames.old frame (Opens opener kind)) went frames.new) }
+    ensures { IfOk result (λ went. Went (step frames.old frame (Opens opener kind.now)) went frames.new) }
 {
     let mut frame = frame;
     if opener == Opener::If && !takes_one(&mut frame.operands, frame.unreachable, ValType::I32) {
@@ -118,7 +118,7 @@ pub fn opens(
         return Ok(false);
     }
     frames.push(frame)?;
-    frames.push(enter(alloc, opener, kind)?)?;
+    frames.push(enter(alloc, opener, copied(alloc, kind)?)?)?;
     Ok(true)
 }
 
@@ -362,7 +362,7 @@ pub fn reads(
             labels.as_slice(),
             *last,
         ),
-        Shape::Opens(opener, kind) => opens(alloc, frames, frame, *opener, copied(alloc, kind)?),
+        Shape::Opens(opener, kind) => opens(alloc, frames, frame, *opener, kind),
         Shape::Else => parts(alloc, frames, frame),
         Shape::End => closes(alloc, frames, frame),
         Shape::Untyped => Ok(false),

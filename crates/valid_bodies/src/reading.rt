@@ -96,7 +96,7 @@ fn opens_block(
 {
     match block_kind(alloc, &context.types, kind)? {
         None => Ok(false),
-        Some(kind) => opens(alloc, frames, frame, opener_of(op), kind),
+        Some(kind) => opens(alloc, frames, frame, opener_of(op), &kind),
     }
 }
 
