@@ -89,8 +89,7 @@ pub fn applies(
             gives(operands, to)
         }
         Effect::Stores(of) => Ok(
-            takes_one(operands, unreachable, of)
-                && takes_one(operands, unreachable, ValType::I32),
+            takes_one(operands, unreachable, of) && takes_one(operands, unreachable, ValType::I32),
         ),
         Effect::Chooses(of) => {
             if !takes_one(operands, unreachable, ValType::I32)

@@ -4,6 +4,10 @@
 //! its opcode (`shapes`, `numeric`, `accesses`). The shapes are read once, by the validation
 //! algorithm of Core, appendix A.3 (`frames`, `operands`).
 //!
+//! A module's shapes are never made, but for some of control: most instructions say by themselves what
+//! they take and give (`effects`), and calls and blocks have it in the context (`reading`). So a common
+//! instruction takes no memory. Bodies are read by one worker (`bodies`) or several (`sharing`).
+//!
 //! An instruction whose references aren't its indices, as in an object, has its shape by what it names
 //! (`shape_by`), and is read like any other (`begin`, `reads`).
 #![tactic(auto)]

@@ -129,14 +129,7 @@ pub fn reads_at(
 {
     match instr {
         Instr::Plain(opcodes::RETURN) => returns(alloc, frames, frame, kind.results.as_slice()),
-        Instr::Block { opcode, kind } => opens_block(
-            alloc,
-            context,
-            frames,
-            frame,
-            *opcode,
-            kind,
-        ),
+        Instr::Block { opcode, kind } => opens_block(alloc, context, frames, frame, *opcode, kind),
         Instr::BranchTable { labels, last } => branches_by(
             alloc,
             frames,
@@ -145,13 +138,7 @@ pub fn reads_at(
             *last,
         ),
         Instr::Call(function) => calls(context, frames, frame, *function),
-        Instr::CallIndirect { kind, table } => calls_through(
-            context,
-            frames,
-            frame,
-            *kind,
-            *table,
-        ),
+        Instr::CallIndirect { kind, table } => calls_through(context, frames, frame, *kind, *table),
         _ => {
             let shape = shape_at(alloc, context, kind, locals, instr)?;
             reads(alloc, frames, frame, &shape)

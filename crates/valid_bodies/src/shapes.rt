@@ -209,9 +209,12 @@ pub fn effect_by(
 {
     match instr {
         Instr::Plain(op) => plain_effect(*op),
-        Instr::Local { opcode, local } => Some(
-            local_named(kind.params.as_slice(), locals, *opcode, *local),
-        ),
+        Instr::Local { opcode, local } => Some(local_named(
+            kind.params.as_slice(),
+            locals,
+            *opcode,
+            *local,
+        )),
         Instr::SelectTyped(kinds) => Some(select_effect(kinds.as_slice())),
         Instr::Access { opcode, align, .. } => Some(access_effect(memory, *opcode, *align)),
         Instr::MemorySize => Some(in_memory(memory, Effect::Gives(ValType::I32))),

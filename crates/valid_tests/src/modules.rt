@@ -48,11 +48,7 @@ fn is_small(m: &Module) -> bool
 
 /// What is answered of a module of few functions, where no number of workers answers otherwise.
 #[tactic(auto, using(crate::proofs::Few::few))]
-fn judged<R: Threads + Sync>(
-    rt: &R,
-    alloc: Global,
-    m: &Module,
-) -> Option<Result<(), ValidError>> {
+fn judged<R: Threads + Sync>(rt: &R, alloc: Global, m: &Module) -> Option<Result<(), ValidError>> {
     if !is_small(m) {
         return None;
     }
@@ -66,11 +62,7 @@ fn judged<R: Threads + Sync>(
 }
 
 /// What is answered of the module that these bytes are.
-fn answer<R: Threads + Sync>(
-    rt: &R,
-    alloc: Global,
-    text: &[u8],
-) -> Option<Result<(), ValidError>> {
+fn answer<R: Threads + Sync>(rt: &R, alloc: Global, text: &[u8]) -> Option<Result<(), ValidError>> {
     match read(alloc, text) {
         Ok(m) => judged(rt, alloc, &m),
         Err(_) => None,

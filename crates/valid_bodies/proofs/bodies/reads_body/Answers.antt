@@ -14,5 +14,8 @@ returns-in_default c =
     let here = slice_get_read body.code (length body.code) l.at x refl within (c.index-code-at.is ∙ ap (λ xs. get_or xs l.at x) c.as_slice-code.ensures) in
     let went : step l.around l.frame (shape c.args.context.now c.args.kind.now body.locals c.index-code-at.result.instr) ≡ Some c.reads_at.new.frames = search rules in
     let none : c.reads_at.new.frames ≡ [] = search rules in
-    search (rules, is_last (λ p. shape c.args.context.now c.args.kind.now body.locals p.instr) body.code c.index-code-at.result l.at l.frame l.around c.reads_at.new.frames
-    (read (whole c.args.kind.now.results ∷ []) (shapes_in c.args.context.now c.args.kind.now body)) here l.invariant went none)
+    search (
+      rules,
+      is_last (λ p. shape c.args.context.now c.args.kind.now body.locals p.instr) body.code c.index-code-at.result l.at l.frame l.around c.reads_at.new.frames
+          (read (whole c.args.kind.now.results ∷ []) (shapes_in c.args.context.now c.args.kind.now body)) here l.invariant went none,
+    )
