@@ -1,12 +1,12 @@
 -- What a save shows that comes after loads.
-use Rattle.std.proofs.Common.{◌≡◌, ◌⊎◌, inl, inr, ℕ, List, Option, Some, None, IsTrue, IsSomeAnd, Ok, refl, subst, sym, ◌∙◌, arith}
+use Rattle.std.proofs.Common.{◌≡◌, ◌⊎◌, inl, inr, ℕ, List, Option, Some, None, IsTrue, IsSomeAnd, IfSome, Ok, refl, subst, sym, ◌∙◌, arith}
 use Rattle.wl_outside.specs.Shelf.{Shown, Same, SameBut, Grows, Torn, SaveFailed}
 use Rattle.link_plan.specs.declared.plan.Plan.{Plan}
 use Rattle.link_core.specs.Linked.{linked}
 use Rattle.link_core.specs.link_runs.Links.{Runs}
 use Rattle.link_command.specs.declared.status.Status.{Status}
 use Rattle.link_command.specs.declared.status.Status.TheVariants.{Linked, WriteFault}
-use Rattle.link_command.specs.Command.{Shows, IsTold, Saved, SavedRuns, Cut, files_of}
+use Rattle.link_command.specs.Command.{Shows, IsTold, Saved, SavedRuns, Cut, IsUnlessMemory, files_of}
 
 told_on : (before mid : Shown) → Grows before mid → IsTrue before.tells → IsTrue mid.tells
 told_on before mid grows told = subst (λ b. IsTrue b) (sym grows.tells) told
@@ -77,3 +77,10 @@ save_runs status before mid after words plan files bytes same grows held runs sa
   saved = saved_on plan.output before mid after bytes same grows (saved done);
   runs = runs;
 }
+
+-- a save that doesn't fail
+pub save_works : (output : Option (List ℕ)) (status : Status) (before mid after : Shown) → (status ≡ Linked) ⊎ (status ≡ WriteFault) → Grows before mid
+    → (status ≡ WriteFault → IsSomeAnd output (λ o. SaveFailed mid after o)) → IfSome output (λ o. SaveFailed before after o → ⊥) → IsUnlessMemory status Linked
+save_works output status before mid after (inl done) grows failed works = inl done
+save_works None status before mid after (inr torn) grows failed works = absurd (failed torn)
+save_works (Some output) status before mid after (inr torn) grows failed works = absurd (works (failed_on (Some output) before mid after grows (failed torn)))

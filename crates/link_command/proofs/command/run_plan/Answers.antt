@@ -4,7 +4,7 @@ use Rattle.link_core.specs.link_runs.Links.{Runs}
 use Rattle.std.specs.Option.{option_map}
 use Rattle.link_command.specs.Ending.{summary_of}
 use Rattle.link_command.proofs.Lines.{line_is}
-use Rattle.link_command.proofs.Saves.{save_shows, save_runs}
+use Rattle.link_command.proofs.Saves.{save_shows, save_runs, save_works}
 use Rattle.link_command.proofs.Telling.{saved_tells}
 use Rattle.link_core.specs.called_variants.Called.{calls_told_of}
 use Rattle.link_command.proofs.command.run_plan.Goals as goal
@@ -29,3 +29,8 @@ pub returns-clause-told : goal.returns-clause-told
 returns-clause-told g c = λ none.
     saved_tells _ _ c.args.plan.now _ c.link_telling.new.told c.save_output-status.result c.save_output-status.ensures.answer
     (c.in-Ok-link_telling.ensures.told none ∙ ap (calls_told_of c.args.plan.now) c.as_slice.ensures) c.in-Ok.ensures.files
+
+pub returns-clause-is_linked : goal.returns-clause-is_linked
+returns-clause-is_linked g c = λ bytes told link loads works.
+    save_works c.args.plan.now.output c.save_output-status.result (g.F.Shelf.shown c.args.shelf.now) (g.F.Shelf.shown c.files.new.shelf)
+    (g.F.Shelf.shown c.save_output-status.new.shelf) c.save_output-status.ensures.answer c.in-Ok.ensures.counts c.save_output-status.ensures.cause works
