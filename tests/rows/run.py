@@ -20,6 +20,7 @@ SUBJECTS = (
     "cases",
     "sections",
     "bodies",
+    "validity",
     "agreement",
     "limits",
 )

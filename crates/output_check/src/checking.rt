@@ -9,7 +9,7 @@ use link_plan::Plan;
 use std::alloc::Global;
 use std::thread::Threads;
 use wasm_module::{Module, ModuleFault, read};
-use wasm_valid::{ValidError, validate};
+use wasm_valid::{ValidError, validate_by};
 use wl_base::InvalidAt;
 use wl_fan::Workers;
 
@@ -31,7 +31,7 @@ fn validated<R: Threads + Sync>(
     if m.imports.len() >= MANY || m.functions.len() >= MANY {
         return Err(ValidError::OutOfMemory);
     }
-    validate(alloc, m)
+    validate_by(rt, alloc, m, workers)
 }
 
 // The first fault of the module that these bytes are.

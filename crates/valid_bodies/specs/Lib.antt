@@ -1,7 +1,9 @@
 pub mod Went
 pub mod Numeric
+pub mod Effects
 pub mod Accesses
 pub mod Meanings
 pub mod Shapes
 pub mod First
+pub mod Shares
 pub mod Examples

@@ -38,7 +38,7 @@ pub fn enter(alloc: Global, opener: Opener, kind: FuncType) -> Result<Frame, Out
 }
 
 /// An instruction that takes these and puts those.
-fn uses(
+pub fn uses(
     frames: &mut Stack<Frame>,
     frame: Frame,
     takes: &[ValType],
@@ -56,7 +56,7 @@ fn uses(
 }
 
 /// An instruction that takes these and never comes behind itself.
-fn cuts(
+pub fn cuts(
     alloc: Global,
     frames: &mut Stack<Frame>,
     frame: Frame,
@@ -97,7 +97,7 @@ fn is_over(operands: Stack<Operand>, unreachable: bool, kind: &FuncType, opener:
 
 /// `block`, `loop` or `if`.
 #[tactic(auto, unfolding(valid_rules::specs::Reading::step))]
-fn opens(
+pub fn opens(
     alloc: Global,
     frames: &mut Stack<Frame>,
     frame: Frame,
@@ -301,7 +301,7 @@ fn fit_labels(
 
 /// `br_table`.
 #[tactic(auto, unfolding(valid_rules::specs::Reading::step))]
-fn branches_by(
+pub fn branches_by(
     alloc: Global,
     frames: &mut Stack<Frame>,
     frame: Frame,

@@ -4,21 +4,29 @@
 //! its opcode (`shapes`, `numeric`, `accesses`). The shapes are read once, by the validation
 //! algorithm of Core, appendix A.3 (`frames`, `operands`).
 //!
+//! A module's shapes are never made, but for some of control: most instructions say by themselves what
+//! they take and give (`effects`), and calls and blocks have it in the context (`reading`). So a common
+//! instruction takes no memory. Bodies are read by one worker (`bodies`) or several (`sharing`).
+//!
 //! An instruction whose references aren't its indices, as in an object, has its shape by what it names
 //! (`shape_by`), and is read like any other (`begin`, `reads`).
 #![tactic(auto)]
 
 mod accesses;
 mod bodies;
+mod effects;
 mod frames;
 mod meanings;
 mod numeric;
 mod opcodes;
 mod operands;
+mod reading;
 mod shapes;
+mod sharing;
 mod types;
 
 pub use bodies::{begin, first_untyped};
 pub use frames::reads;
 pub use shapes::shape_by;
+pub use sharing::first_untyped_by;
 pub use types::{Context, Meaning};

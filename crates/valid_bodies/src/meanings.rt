@@ -1,7 +1,8 @@
 //! What the indices of instructions name (Core 3.3.5 and 3.3.8).
 
-ghost use Rattle.std.specs.Prelude.{◌≡◌, IfOk, MatchOption, Some, None};
-ghost use Rattle.valid_bodies.specs.Meanings.{block_type, meaning, type_at};
+ghost use Rattle.std.specs.Prelude.{◌≡◌, slice_get, IfOk, MatchOption, Some, None};
+ghost use Rattle.valid_bodies.specs.declared.types.Meaning.TheVariants.{Nothing, OfType};
+ghost use Rattle.valid_bodies.specs.Meanings.{block_type, in_table, meaning, type_at, typed_as};
 
 use crate::frames::copied;
 use crate::types::{Context, Meaning};
@@ -11,7 +12,7 @@ use wasm_types::FuncType;
 use wl_base::{OutOfMemory, Seq};
 
 /// The type of a block, where it is there (Core 3.2.2).
-fn block_kind(
+pub fn block_kind(
     alloc: Global,
     types: &Seq<FuncType>,
     kind: &BlockKind,
@@ -35,12 +36,23 @@ fn block_kind(
 }
 
 /// The type of a function, where both are there.
-fn type_at(context: &Context, function: u32) -> Option<&FuncType>
+pub fn type_at(context: &Context, function: u32) -> Option<&FuncType>
     ensures { MatchOption result (type_at context.now function ≡ None) (λ kind. type_at context.now function ≡ Some kind.now) }
 {
     match context.functions.get(function as usize) {
         None => None,
         Some(index) => context.types.get(*index as usize),
+    }
+}
+
+/// The type of a function that is called through a table, where both are there, and the table of funcref.
+pub fn type_through(context: &Context, kind: u32, table: u32) -> Option<&FuncType>
+    ensures { MatchOption result (in_table (slice_get context.now.tables table) (typed_as (slice_get context.now.types kind)) ≡ Nothing)
+        (λ found. in_table (slice_get context.now.tables table) (typed_as (slice_get context.now.types kind)) ≡ OfType found.now) }
+{
+    match context.tables.get(table as usize) {
+        Some(true) => context.types.get(kind as usize),
+        _ => None,
     }
 }
 
@@ -57,12 +69,9 @@ pub fn meaning_at(alloc: Global, context: &Context, instr: &Instr) -> Result<Mea
             None => Ok(Meaning::Nothing),
             Some(kind) => Ok(Meaning::OfType(copied(alloc, kind)?)),
         },
-        Instr::CallIndirect { kind, table } => match (
-            context.tables.get(*table as usize),
-            context.types.get(*kind as usize),
-        ) {
-            (Some(true), Some(kind)) => Ok(Meaning::OfType(copied(alloc, kind)?)),
-            _ => Ok(Meaning::Nothing),
+        Instr::CallIndirect { kind, table } => match type_through(context, *kind, *table) {
+            None => Ok(Meaning::Nothing),
+            Some(kind) => Ok(Meaning::OfType(copied(alloc, kind)?)),
         },
         Instr::GlobalAt { global, .. } => match context.globals.get(*global as usize) {
             None => Ok(Meaning::Nothing),

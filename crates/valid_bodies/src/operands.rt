@@ -1,7 +1,8 @@
 //! Operands that are taken and put (Core, appendix A.3). Below those of a frame that is unreachable
 //! there are any, so an empty stack gives what is asked for.
 
-ghost use Rattle.std.specs.Prelude.{◌≡◌, ◌+◌, ◌-◌, ◌<◌, reverse, OnOk, Some, None, MatchOption, is_some};
+ghost use Rattle.std.specs.Prelude.{◌≡◌, ◌+◌, ◌-◌, ◌<◌, ◌∷◌, reverse, IfOk, OnOk, Some, None, MatchOption, is_some};
+ghost use Rattle.valid_rules.specs.declared.types.Operand.TheVariants.{Known};
 ghost use Rattle.valid_rules.specs.Reading.{same_type, take_one, take_all, put, take_any, joined};
 ghost use Rattle.valid_bodies.specs.Went.{Went};
 
@@ -56,6 +57,14 @@ pub fn puts(operands: &mut Stack<Operand>, kinds: &[ValType]) -> Result<(), OutO
         operands.push(Operand::Known(*kind))?;
     }
     Ok(())
+}
+
+/// Puts an operand of this type: that goes in any frame.
+pub fn gives(operands: &mut Stack<Operand>, kind: ValType) -> Result<bool, OutOfMemory>
+    ensures { IfOk result (λ went. Went (Some (Known kind ∷ operands.old)) went operands.new) }
+{
+    operands.push(Operand::Known(kind))?;
+    Ok(true)
 }
 
 /// Takes an operand of any type, where there is one.

@@ -1,13 +1,17 @@
 //! What typing sees of an instruction (Core 3.3).
 
-ghost use Rattle.std.specs.Prelude.{◌≡◌, IfOk};
+ghost use Rattle.std.specs.Prelude.{◌≡◌, List, slice_get, IfOk, IfSome, MatchOption};
+ghost use Rattle.wasm_types.specs.declared.value.ValType.{ValType};
 ghost use Rattle.valid_rules.specs.declared.types.Shape.TheVariants.{Typed, Opens};
-ghost use Rattle.valid_bodies.specs.Numeric.{to};
-ghost use Rattle.valid_bodies.specs.Shapes.{as_global, as_type, global, in_memory, local, local_type, opener, plain, select_typed, shape, shape_as, called_through};
+ghost use Rattle.valid_bodies.specs.declared.types.Meaning.{Meaning};
+ghost use Rattle.valid_bodies.specs.Effects.{shape_of, IsOther};
+ghost use Rattle.valid_bodies.specs.Meanings.{global_as};
+ghost use Rattle.valid_bodies.specs.Shapes.{as_global, as_type, global, in_memory, local, local_type, opener, plain, select_typed, shape, shape_as, there, called_through};
 
-use crate::accesses::access_shape;
+use crate::accesses::access_effect;
+use crate::effects::{Effect, with_effect};
 use crate::meanings::meaning_at;
-use crate::numeric::{leads, numeric_shape, of_one, truncation_shape};
+use crate::numeric::{numeric_effect, truncation_effect};
 use crate::opcodes;
 use crate::types::{Context, Meaning};
 use std::alloc::Global;
@@ -23,42 +27,59 @@ fn plain_shape(alloc: Global, results: &[ValType], op: u8) -> Result<Shape, OutO
 {
     match op {
         opcodes::UNREACHABLE => Ok(Shape::Leaves(Seq::new(alloc))),
-        opcodes::NOP => leads(alloc, &[], &[]),
+        opcodes::NOP => with_effect(alloc, Effect::Nothing),
         opcodes::ELSE => Ok(Shape::Else),
         opcodes::END => Ok(Shape::End),
         opcodes::RETURN => Ok(Shape::Leaves(Seq::from_slice(alloc, results)?)),
         opcodes::DROP => Ok(Shape::Drops),
         opcodes::SELECT => Ok(Shape::Selects),
-        _ => numeric_shape(alloc, op),
+        _ => with_effect(alloc, numeric_effect(op)),
+    }
+}
+
+/// The effect of an instruction without immediates, where it has one in any function.
+#[tactic(auto, unfolding(crate::specs::Shapes::plain))]
+fn plain_effect(op: u8) -> Option<Effect>
+    ensures { IfSome result (λ effect. (results : List ValType) → shape_of effect ≡ plain results op) }
+{
+    match op {
+        opcodes::UNREACHABLE
+        | opcodes::ELSE
+        | opcodes::END
+        | opcodes::RETURN
+        | opcodes::DROP
+        | opcodes::SELECT => None,
+        opcodes::NOP => Some(Effect::Nothing),
+        _ => Some(numeric_effect(op)),
     }
 }
 
 /// An instruction of a local of this type (Core 3.3.5).
-fn local_shape(alloc: Global, op: u8, kind: ValType) -> Result<Shape, OutOfMemory>
-    ensures { IfOk result (λ shape. shape ≡ local op kind) }
+fn local_effect(op: u8, kind: ValType) -> Effect
+    ensures { shape_of result ≡ local op kind }
 {
     match op {
-        opcodes::LOCAL_GET => leads(alloc, &[], &[kind]),
-        opcodes::LOCAL_SET => leads(alloc, &[kind], &[]),
-        _ => of_one(alloc, kind, kind),
+        opcodes::LOCAL_GET => Effect::Gives(kind),
+        opcodes::LOCAL_SET => Effect::Takes(kind),
+        _ => Effect::Turns(kind, kind),
     }
 }
 
 /// An instruction of a global of this type (Core 3.3.5).
-fn global_shape(alloc: Global, op: u8, kind: GlobalType) -> Result<Shape, OutOfMemory>
-    ensures { IfOk result (λ shape. shape ≡ global op kind) }
+fn global_effect(op: u8, kind: GlobalType) -> Effect
+    ensures { shape_of result ≡ global op kind }
 {
     if op == opcodes::GLOBAL_GET {
-        leads(alloc, &[], &[kind.kind])
+        Effect::Gives(kind.kind)
     } else if kind.var {
-        leads(alloc, &[kind.kind], &[])
+        Effect::Takes(kind.kind)
     } else {
-        Ok(Shape::Untyped)
+        Effect::Untyped
     }
 }
 
 /// What opens a block.
-fn opener_of(op: u8) -> Opener
+pub fn opener_of(op: u8) -> Opener
     ensures { result ≡ opener op }
 {
     match op {
@@ -99,29 +120,30 @@ fn call_through(alloc: Global, kind: &FuncType) -> Result<Shape, OutOfMemory>
     }))
 }
 
-/// An instruction that takes these and gives those, where there is a memory.
-fn memory_shape(
-    alloc: Global,
-    memory: bool,
-    params: &[ValType],
-    results: &[ValType],
-) -> Result<Shape, OutOfMemory>
-    ensures { IfOk result (λ shape. shape ≡ in_memory memory (to params.now results.now)) }
+/// An instruction of a local, where it is there.
+fn local_named(params: &[ValType], runs: &[LocalRun], op: u8, index: u32) -> Effect
+    ensures { shape_of result ≡ there (local op) (local_type params.now runs.now index) }
 {
-    if memory {
-        leads(alloc, params, results)
-    } else {
-        Ok(Shape::Untyped)
+    match local_at(params, runs, index) {
+        None => Effect::Untyped,
+        Some(of) => local_effect(op, of),
     }
 }
 
+/// An instruction of this effect, where there is a memory.
+fn in_memory(memory: bool, effect: Effect) -> Effect
+    ensures { shape_of result ≡ in_memory memory (shape_of effect) }
+{
+    if memory { effect } else { Effect::Untyped }
+}
+
 /// `select` with these types (Core 3.3.4).
-fn select_shape(alloc: Global, kinds: &[ValType]) -> Result<Shape, OutOfMemory>
-    ensures { IfOk result (λ shape. shape ≡ select_typed kinds.now) }
+fn select_effect(kinds: &[ValType]) -> Effect
+    ensures { shape_of result ≡ select_typed kinds.now }
 {
     match kinds {
-        [of] => leads(alloc, &[*of, *of, ValType::I32], &[*of]),
-        _ => Ok(Shape::Untyped),
+        [of] => Effect::Chooses(*of),
+        _ => Effect::Untyped,
     }
 }
 
@@ -156,11 +178,88 @@ fn called_indirectly(alloc: Global, meaning: Meaning) -> Result<Shape, OutOfMemo
 }
 
 /// An instruction of the global that is named.
-fn global_named(alloc: Global, op: u8, meaning: Meaning) -> Result<Shape, OutOfMemory>
-    ensures { IfOk result (λ shape. shape ≡ as_global (global op) meaning) }
+fn global_named(op: u8, meaning: Meaning) -> Effect
+    ensures { shape_of result ≡ as_global (global op) meaning }
 {
     match meaning {
-        Meaning::OfGlobal(of) => global_shape(alloc, op, of),
+        Meaning::OfGlobal(of) => global_effect(op, of),
+        _ => Effect::Untyped,
+    }
+}
+
+/// An instruction of the global of this index.
+fn global_at(context: &Context, op: u8, index: u32) -> Effect
+    ensures { shape_of result ≡ as_global (global op) (global_as (slice_get context.now.globals index)) }
+{
+    match context.globals.get(index as usize) {
+        None => Effect::Untyped,
+        Some(of) => global_effect(op, *of),
+    }
+}
+
+/// The effect of an instruction of a function of this type with these locals, where it has one whatever its index
+/// names. `memory` says whether there is one.
+pub fn effect_by(
+    memory: bool,
+    kind: &FuncType,
+    locals: &[LocalRun],
+    instr: &Instr,
+) -> Option<Effect>
+    ensures { MatchOption result (IsOther instr.now) (λ effect. (meaning : Meaning) → shape_of effect ≡ shape_as memory kind.now locals.now meaning instr.now) }
+{
+    match instr {
+        Instr::Plain(op) => plain_effect(*op),
+        Instr::Local { opcode, local } => Some(local_named(
+            kind.params.as_slice(),
+            locals,
+            *opcode,
+            *local,
+        )),
+        Instr::SelectTyped(kinds) => Some(select_effect(kinds.as_slice())),
+        Instr::Access { opcode, align, .. } => Some(access_effect(memory, *opcode, *align)),
+        Instr::MemorySize => Some(in_memory(memory, Effect::Gives(ValType::I32))),
+        Instr::MemoryGrow => Some(in_memory(memory, Effect::Turns(ValType::I32, ValType::I32))),
+        Instr::MemoryCopy | Instr::MemoryFill => Some(in_memory(memory, Effect::Fills)),
+        Instr::I32Const(_) => Some(Effect::Gives(ValType::I32)),
+        Instr::I64Const(_) => Some(Effect::Gives(ValType::I64)),
+        Instr::F32Const(_) => Some(Effect::Gives(ValType::F32)),
+        Instr::F64Const(_) => Some(Effect::Gives(ValType::F64)),
+        Instr::Truncate(number) => Some(truncation_effect(*number)),
+        Instr::Block { .. }
+        | Instr::Branch { .. }
+        | Instr::BranchTable { .. }
+        | Instr::Call(_)
+        | Instr::CallIndirect { .. }
+        | Instr::GlobalAt { .. } => None,
+    }
+}
+
+/// An instruction of a function of this type, whose typing hangs on more than its immediates.
+fn other_shape(
+    alloc: Global,
+    memory: bool,
+    kind: &FuncType,
+    locals: &[LocalRun],
+    meaning: Meaning,
+    instr: &Instr,
+) -> Result<Shape, OutOfMemory>
+    requires { IsOther instr.now }
+    ensures { IfOk result (λ found. found ≡ shape_as memory kind.now locals.now meaning instr.now) }
+{
+    match instr {
+        Instr::Plain(op) => plain_shape(alloc, kind.results.as_slice(), *op),
+        Instr::Block { opcode, .. } => Ok(opened(*opcode, meaning)),
+        Instr::Branch { opcode, label } => match *opcode {
+            opcodes::BR => Ok(Shape::Branches(*label)),
+            _ => Ok(Shape::BranchesIf(*label)),
+        },
+        Instr::BranchTable { labels, last } => Ok(Shape::BranchesBy {
+            labels: Seq::from_slice(alloc, labels.as_slice())?,
+            last: *last,
+        }),
+        Instr::Call(_) => Ok(called(meaning)),
+        Instr::CallIndirect { .. } => called_indirectly(alloc, meaning),
+        Instr::GlobalAt { opcode, .. } => with_effect(alloc, global_named(*opcode, meaning)),
         _ => Ok(Shape::Untyped),
     }
 }
@@ -180,39 +279,24 @@ pub fn shape_by(
 ) -> Result<Shape, OutOfMemory>
     ensures { IfOk result (λ found. found ≡ shape_as memory kind.now locals.now meaning instr.now) }
 {
+    let Some(effect) = effect_by(memory, kind, locals, instr) else {
+        return other_shape(alloc, memory, kind, locals, meaning, instr);
+    };
+    with_effect(alloc, effect)
+}
+
+/// The effect of an instruction of a function of this type with these locals, in its context, where it has one.
+pub fn effect_at(
+    context: &Context,
+    kind: &FuncType,
+    locals: &[LocalRun],
+    instr: &Instr,
+) -> Option<Effect>
+    ensures { IfSome result (λ effect. shape_of effect ≡ shape context.now kind.now locals.now instr.now) }
+{
     match instr {
-        Instr::Plain(op) => plain_shape(alloc, kind.results.as_slice(), *op),
-        Instr::Block { opcode, .. } => Ok(opened(*opcode, meaning)),
-        Instr::Branch { opcode, label } => match *opcode {
-            opcodes::BR => Ok(Shape::Branches(*label)),
-            _ => Ok(Shape::BranchesIf(*label)),
-        },
-        Instr::BranchTable { labels, last } => Ok(Shape::BranchesBy {
-            labels: Seq::from_slice(alloc, labels.as_slice())?,
-            last: *last,
-        }),
-        Instr::Call(_) => Ok(called(meaning)),
-        Instr::CallIndirect { .. } => called_indirectly(alloc, meaning),
-        Instr::Local { opcode, local } => match local_at(kind.params.as_slice(), locals, *local) {
-            None => Ok(Shape::Untyped),
-            Some(of) => local_shape(alloc, *opcode, of),
-        },
-        Instr::GlobalAt { opcode, .. } => global_named(alloc, *opcode, meaning),
-        Instr::SelectTyped(kinds) => select_shape(alloc, kinds.as_slice()),
-        Instr::Access { opcode, align, .. } => access_shape(alloc, memory, *opcode, *align),
-        Instr::MemorySize => memory_shape(alloc, memory, &[], &[ValType::I32]),
-        Instr::MemoryGrow => memory_shape(alloc, memory, &[ValType::I32], &[ValType::I32]),
-        Instr::MemoryCopy | Instr::MemoryFill => memory_shape(
-            alloc,
-            memory,
-            &[ValType::I32, ValType::I32, ValType::I32],
-            &[],
-        ),
-        Instr::I32Const(_) => leads(alloc, &[], &[ValType::I32]),
-        Instr::I64Const(_) => leads(alloc, &[], &[ValType::I64]),
-        Instr::F32Const(_) => leads(alloc, &[], &[ValType::F32]),
-        Instr::F64Const(_) => leads(alloc, &[], &[ValType::F64]),
-        Instr::Truncate(number) => truncation_shape(alloc, *number),
+        Instr::GlobalAt { opcode, global } => Some(global_at(context, *opcode, *global)),
+        _ => effect_by(context.memory, kind, locals, instr),
     }
 }
 

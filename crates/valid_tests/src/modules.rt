@@ -3,9 +3,11 @@
 
 use std::alloc::Global;
 use std::test::Fail;
+use std::thread::Threads;
 use wasm_module::{Module, read};
-use wasm_valid::{ValidError, validate};
-use wl_base::InvalidAt;
+use wasm_valid::{ValidError, validate, validate_by};
+use wl_base::{InvalidAt, OutOfMemory, Seq};
+use wl_fan::Workers;
 
 /// More functions than any case has.
 const MANY: usize = 1000;
@@ -37,34 +39,47 @@ fn fails_in(number: u32, text: &[u8]) -> Case<'_> {
     }
 }
 
-/// What is answered of a module of few functions.
+/// Whether a module of few functions has these bodies for its functions.
+fn is_small(m: &Module) -> bool
+    ensures { result ≡ true → (length m.now.bodies ≡ length m.now.functions) × (length m.now.imports ≤ 1000) × (length m.now.functions ≤ 1000) }
+{
+    m.bodies.len() == m.functions.len() && m.imports.len() <= MANY && m.functions.len() <= MANY
+}
+
+/// What is answered of a module of few functions, where no number of workers answers otherwise.
 #[tactic(auto, using(crate::proofs::Few::few))]
-fn judged(alloc: Global, m: &Module) -> Option<Result<(), ValidError>> {
-    if m.bodies.len() != m.functions.len() || m.imports.len() > MANY || m.functions.len() > MANY {
+fn judged<R: Threads + Sync>(rt: &R, alloc: Global, m: &Module) -> Option<Result<(), ValidError>> {
+    if !is_small(m) {
         return None;
     }
-    Some(validate(alloc, m))
+    let alone = validate(alloc, m);
+    for count in [1, 2, 5] {
+        if validate_by(rt, alloc, m, Workers::new(count)?) != alone {
+            return None;
+        }
+    }
+    Some(alone)
 }
 
 /// What is answered of the module that these bytes are.
-fn answer(alloc: Global, text: &[u8]) -> Option<Result<(), ValidError>> {
+fn answer<R: Threads + Sync>(rt: &R, alloc: Global, text: &[u8]) -> Option<Result<(), ValidError>> {
     match read(alloc, text) {
-        Ok(m) => judged(alloc, &m),
+        Ok(m) => judged(rt, alloc, &m),
         Err(_) => None,
     }
 }
 
-fn holds(alloc: Global, case: &Case<'_>) -> bool {
-    match answer(alloc, case.text) {
+fn holds<R: Threads + Sync>(rt: &R, alloc: Global, case: &Case<'_>) -> bool {
+    match answer(rt, alloc, case.text) {
         Some(Ok(())) => case.fault == None,
         Some(Err(ValidError::Invalid(at))) => case.fault == Some(at),
         Some(Err(ValidError::OutOfMemory)) | None => false,
     }
 }
 
-fn hold(alloc: Global, cases: &[Case<'_>]) -> bool {
+fn hold<R: Threads + Sync>(rt: &R, alloc: Global, cases: &[Case<'_>]) -> bool {
     for case in cases {
-        if !holds(alloc, case) {
+        if !holds(rt, alloc, case) {
             return false;
         }
     }
@@ -86,7 +101,7 @@ fn modules_with_a_part_of_each_kind_are_valid(rt: HostRuntime) -> Result<(), Fai
         // a table of at least 2 slots, at most 2
         valid(b"\0asm\x01\0\0\0\x04\x05\x01o\x01\x02\x02".as_slice()),
     ];
-    assert!(rt; hold(alloc, &cases));
+    assert!(rt; hold(&rt, alloc, &cases));
     Ok(())
 }
 
@@ -109,7 +124,7 @@ fn types_and_limits_are_in_range(rt: HostRuntime) -> Result<(), Fail> {
         // a table of at least 2 slots, at most 1
         fails(b"\0asm\x01\0\0\0\x04\x05\x01p\x01\x02\x01".as_slice()),
     ];
-    assert!(rt; hold(alloc, &cases));
+    assert!(rt; hold(&rt, alloc, &cases));
     Ok(())
 }
 
@@ -126,7 +141,7 @@ fn first_values_have_their_types(rt: HostRuntime) -> Result<(), Fail> {
             b"\0asm\x01\0\0\0\x02\x08\x01\x01m\x01g\x03\x7f\x01\x06\x06\x01\x7f\0\x23\0\x0b".as_slice(),
         ),
     ];
-    assert!(rt; hold(alloc, &cases));
+    assert!(rt; hold(&rt, alloc, &cases));
     Ok(())
 }
 
@@ -145,7 +160,7 @@ fn exports_are_there_under_names_that_differ(rt: HostRuntime) -> Result<(), Fail
             b"\0asm\x01\0\0\0\x04\x04\x01p\0\x01\x05\x03\x01\0\x01\x07\x0d\x03\x01a\x01\0\x01b\x02\0\x01a\x02\0".as_slice(),
         ),
     ];
-    assert!(rt; hold(alloc, &cases));
+    assert!(rt; hold(&rt, alloc, &cases));
     Ok(())
 }
 
@@ -174,7 +189,7 @@ fn segments_have_their_table_memory_and_functions(rt: HostRuntime) -> Result<(),
         // an i64 for the address
         fails(b"\0asm\x01\0\0\0\x05\x03\x01\0\x01\x0b\x06\x01\0B\0\x0b\0".as_slice()),
     ];
-    assert!(rt; hold(alloc, &cases));
+    assert!(rt; hold(&rt, alloc, &cases));
     Ok(())
 }
 
@@ -197,7 +212,7 @@ fn the_first_body_without_a_typing_is_told(rt: HostRuntime) -> Result<(), Fail> 
             b"\0asm\x01\0\0\0\x01\x04\x01\x60\0\0\x03\x02\x01\0\x05\x04\x01\x01\x02\x01\x0a\x06\x01\x04\0A\x01\x0b".as_slice(),
         ),
     ];
-    assert!(rt; hold(alloc, &cases));
+    assert!(rt; hold(&rt, alloc, &cases));
     Ok(())
 }
 
@@ -233,7 +248,7 @@ fn blocks_and_branches_are_typed(rt: HostRuntime) -> Result<(), Fail> {
             b"\0asm\x01\0\0\0\x01\x05\x01\x60\0\x01\x7e\x03\x02\x01\0\x0a\x06\x01\x04\0\0\x1b\x0b".as_slice(),
         ),
     ];
-    assert!(rt; hold(alloc, &cases));
+    assert!(rt; hold(&rt, alloc, &cases));
     Ok(())
 }
 
@@ -256,7 +271,7 @@ fn functions_that_are_called_are_there(rt: HostRuntime) -> Result<(), Fail> {
             b"\0asm\x01\0\0\0\x01\x06\x01\x60\x01\x7f\x01\x7f\x03\x02\x01\0\x04\x04\x01o\0\x01\x0a\x0b\x01\x09\0\x20\0\x20\0\x11\0\0\x0b".as_slice(),
         ),
     ];
-    assert!(rt; hold(alloc, &cases));
+    assert!(rt; hold(&rt, alloc, &cases));
     Ok(())
 }
 
@@ -289,6 +304,53 @@ fn names_in_bodies_are_there(rt: HostRuntime) -> Result<(), Fail> {
             b"\0asm\x01\0\0\0\x01\x06\x01\x60\x01\x7c\x01\x7c\x03\x02\x01\0\x0a\x09\x01\x07\0\x20\0\x20\0\x92\x0b".as_slice(),
         ),
     ];
-    assert!(rt; hold(alloc, &cases));
+    assert!(rt; hold(&rt, alloc, &cases));
+    Ok(())
+}
+
+/// The header, a type without parameters and results, three functions of it, and what stands before their bodies.
+const BEFORE: &[u8; 25] = b"\0asm\x01\0\0\0\x01\x04\x01\x60\0\0\x03\x04\x03\0\0\0\x0a\x96\x80\x03\x03";
+
+/// A body that does nothing, so often that it is worth a thread. A faulty one leaves a number.
+fn push_long_body(text: &mut Seq<u8>, is_faulty: bool) -> Result<(), OutOfMemory> {
+    text.extend_from_slice(b"\x84\x80\x01\0".as_slice())?;
+    for _ in 0..256 {
+        text.extend_from_slice(&[0x01; 64])?;
+    }
+    if is_faulty {
+        text.extend_from_slice(b"A\x01\x0b".as_slice())
+    } else {
+        text.extend_from_slice(b"\x01\x01\x0b".as_slice())
+    }
+}
+
+/// A module of three long bodies, of which these two are faulty.
+fn long_module(alloc: Global, first: usize, second: usize) -> Result<Seq<u8>, OutOfMemory> {
+    let mut text = Seq::from_slice(alloc, BEFORE.as_slice())?;
+    for at in 0..3usize {
+        push_long_body(&mut text, at == first || at == second)?;
+    }
+    Ok(text)
+}
+
+/// Whether the first of two faulty bodies is told of a long module. Behind the third there is none.
+fn tells_first<R: Threads + Sync>(rt: &R, alloc: Global, first: usize, second: usize) -> bool {
+    let Ok(text) = long_module(alloc, first, second) else {
+        return false;
+    };
+    let case = if first < 3 {
+        fails_in(first as u32, text.as_slice())
+    } else {
+        valid(text.as_slice())
+    };
+    holds(rt, alloc, &case)
+}
+
+#[test]
+fn several_workers_tell_the_first_body_of_all(rt: HostRuntime) -> Result<(), Fail> {
+    let alloc = rt.alloc();
+    for (first, second) in [(3, 3), (1, 2)] {
+        assert!(rt; tells_first(&rt, alloc, first, second));
+    }
     Ok(())
 }

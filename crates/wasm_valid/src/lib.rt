@@ -2,7 +2,7 @@
 //! exports, active segments.
 //!
 //! The rules outside the bodies are judged over the module's index spaces (`spaces`, `rules`), then
-//! each body is read once in the module's context (the crate valid_bodies).
+//! each body is read once in the module's context (the crate valid_bodies), by one worker or several.
 #![tactic(auto)]
 
 mod fault;
@@ -11,4 +11,4 @@ mod spaces;
 mod validating;
 
 pub use fault::ValidError;
-pub use validating::validate;
+pub use validating::{validate, validate_by};

@@ -1,6 +1,8 @@
-//! A module is judged: first the rules outside the bodies, then body by body.
-ghost use Rattle.std.specs.Prelude.{◌≡◌, ◌+◌, ◌<◌, ◌^◌, IfOk, length, map};
-ghost use Rattle.wasm_valid.specs.Spaces.{functions_of, context_with};
+//! A module is judged: first the rules outside the bodies, then body by body, by one worker or several.
+ghost use Rattle.std.specs.Prelude.{◌≡◌, ◌+◌, ◌<◌, ◌^◌, true, Err, IfOk, IfErr, length, map};
+ghost use Rattle.valid_bodies.specs.First.{IsFirst};
+ghost use Rattle.wasm_valid.specs.Rules.{stands};
+ghost use Rattle.wasm_valid.specs.Spaces.{functions_of, spaces_of, context_of, context_with};
 ghost use Rattle.wasm_valid.specs.Valid.{Judges};
 ghost use Rattle.wasm_valid.specs.Computed.{Tells, module_fault};
 
@@ -8,10 +10,12 @@ use crate::fault::ValidError;
 use crate::rules::stands;
 use crate::spaces::{Spaces, spaces_in};
 use std::alloc::Global;
-use valid_bodies::{Context, first_untyped};
+use std::thread::Threads;
+use valid_bodies::{Context, first_untyped, first_untyped_by};
 use wasm_module::Module;
 use wasm_types::{FuncType, TableType};
 use wl_base::{InvalidAt, OutOfMemory, Seq};
+use wl_fan::Workers;
 
 /// The same types once more.
 fn copies(alloc: Global, types: &[FuncType]) -> Result<Seq<FuncType>, OutOfMemory>
@@ -51,24 +55,62 @@ fn context(alloc: Global, s: &Spaces, m: &Module) -> Result<Context, OutOfMemory
     })
 }
 
-/// Judges a module by the rules outside its bodies, then by the first body that has no typing.
-fn judge(alloc: Global, m: &Module) -> Result<(), ValidError>
-    requires bodies { length m.now.bodies ≡ length m.now.functions }
-    requires few { length (functions_of m.now) < 2 ^ 32 }
-    ensures { Judges result m.now }
+/// What a body of the module may name, where the rules outside the bodies hold.
+fn context_in(alloc: Global, m: &Module) -> Result<Context, ValidError>
+    ensures ok { IfOk result (λ c. (stands (spaces_of m.now) m.now ≡ true) × (c ≡ context_of m.now)) }
+    ensures err { IfErr result (λ e. Judges (Err e) m.now) }
 {
     let s = spaces_in(alloc, m)?;
     if !stands(alloc, &s, m)? {
         return Err(ValidError::Invalid(InvalidAt::Module));
     }
-    let c = context(alloc, &s, m)?;
-    match first_untyped(alloc, &c, m.functions.as_slice(), m.bodies.as_slice())? {
+    Ok(context(alloc, &s, m)?)
+}
+
+/// The verdict where all rules outside the bodies hold, by the first body that has no typing.
+fn verdict(context: &Context, m: &Module, found: Option<usize>) -> Result<(), ValidError>
+    requires few { length (functions_of m.now) < 2 ^ 32 }
+    requires bodies { length m.now.bodies ≡ length m.now.functions }
+    requires stands { stands (spaces_of m.now) m.now ≡ true }
+    requires context { context.now ≡ context_of m.now }
+    requires first { IsFirst (context_of m.now) m.now.functions m.now.bodies found }
+    ensures { Judges result m.now }
+{
+    match found {
         None => Ok(()),
         Some(k) => {
-            let imported = s.functions.len() - m.functions.len();
+            let imported = context.functions.len() - m.functions.len();
             Err(ValidError::Invalid(InvalidAt::Body((imported + k) as u32)))
         }
     }
+}
+
+/// Judges a module, body by body.
+fn judge(alloc: Global, m: &Module) -> Result<(), ValidError>
+    requires bodies { length m.now.bodies ≡ length m.now.functions }
+    requires few { length (functions_of m.now) < 2 ^ 32 }
+    ensures { Judges result m.now }
+{
+    let c = context_in(alloc, m)?;
+    let found = first_untyped(alloc, &c, m.functions.as_slice(), m.bodies.as_slice())?;
+    verdict(&c, m, found)
+}
+
+/// Judges a module, its bodies by several workers.
+fn judge_by<R: Threads + Sync>(
+    rt: &R,
+    alloc: Global,
+    m: &Module,
+    workers: Workers,
+) -> Result<(), ValidError>
+    requires bodies { length m.now.bodies ≡ length m.now.functions }
+    requires few { length (functions_of m.now) < 2 ^ 32 }
+    ensures { Judges result m.now }
+{
+    let c = context_in(alloc, m)?;
+    let functions = m.functions.as_slice();
+    let found = first_untyped_by(rt, alloc, &c, functions, m.bodies.as_slice(), workers)?;
+    verdict(&c, m, found)
 }
 
 /// Whether a module is valid (Core 3): all rules outside its bodies hold, and each body has a typing.
@@ -90,4 +132,24 @@ pub fn validate(alloc: Global, m: &Module) -> Result<(), ValidError>
     ensures computed { Tells result (module_fault m.now) }
 {
     judge(alloc, m)
+}
+
+/// As `validate`, with the bodies read by several workers. The answer is the same however many they are; with
+/// one worker no thread is started.
+///
+/// # Errors
+/// Those of `validate`.
+#[tactic(auto, using(crate::proofs::Computed::judged_is_computed))]
+pub fn validate_by<R: Threads + Sync>(
+    rt: &R,
+    alloc: Global,
+    m: &Module,
+    workers: Workers,
+) -> Result<(), ValidError>
+    requires bodies { length m.now.bodies ≡ length m.now.functions }
+    requires few { length (functions_of m.now) < 2 ^ 32 }
+    ensures judges { Judges result m.now }
+    ensures computed { Tells result (module_fault m.now) }
+{
+    judge_by(rt, alloc, m, workers)
 }

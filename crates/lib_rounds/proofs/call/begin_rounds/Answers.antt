@@ -12,7 +12,7 @@ use Rattle.lib_rounds.proofs.call.begin_rounds.Goals as goal
 
 pub returns-in_err-start : goal.returns-in_err-start
 returns-in_err-start g c =
-    let p = err_from_is_err_and c.from_residual-in_err-start.result c.from_residual-in_err-start.ensures.1 in
+    let p = err_from_is_err_and c.from_residual.result c.from_residual.ensures.1 in
     let f = load_refused g.w.mode c.args.wanted.now g.w.all c.in_err-start.field-0.0 c.in_err-start.ensures in
     rw (p.1, p.2) f
 

@@ -1,6 +1,0 @@
-use Rattle.std.proofs.Common.{◌<◌, ℕ}
-use Rattle.valid_bodies.specs.First.{TypedAt}
-use Rattle.valid_bodies.proofs.bodies.first_untyped.Given as goal
-
-abbrev pub invariant-loop-at : goal.invariant-loop-at
-invariant-loop-at l = (j : ℕ) → j < l.at → TypedAt l.context l.functions l.bodies j
