@@ -17,7 +17,6 @@ use wl_fan::Workers;
 const MANY: usize = 1 << 31;
 
 // The first fault of a module. All bodies are judged.
-#[tactic(auto, using(crate::proofs::Few::few))]
 fn validated<R: Threads + Sync>(
     rt: &R,
     alloc: Global,
