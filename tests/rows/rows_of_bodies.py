@@ -90,5 +90,5 @@ def untyped():
 
 @row("the check of the output is the last to be told")
 def checked_last():
-    object = Object().function("f", [hexa("41 01")]).function("g", call("h"))
+    object = Object().needs("h").function("f", [hexa("41 01")]).function("g", call("h"))
     refused([object], "input 1: unresolved h", "--validate", "--export=f", "--no-gc-sections")
