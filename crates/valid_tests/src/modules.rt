@@ -309,7 +309,8 @@ fn names_in_bodies_are_there(rt: HostRuntime) -> Result<(), Fail> {
 }
 
 /// The header, a type without parameters and results, three functions of it, and what stands before their bodies.
-const BEFORE: &[u8; 25] = b"\0asm\x01\0\0\0\x01\x04\x01\x60\0\0\x03\x04\x03\0\0\0\x0a\x96\x80\x03\x03";
+const BEFORE: &[u8; 25] =
+    b"\0asm\x01\0\0\0\x01\x04\x01\x60\0\0\x03\x04\x03\0\0\0\x0a\x96\x80\x03\x03";
 
 /// A body that does nothing, so often that it is worth a thread. A faulty one leaves a number.
 fn push_long_body(text: &mut Seq<u8>, is_faulty: bool) -> Result<(), OutOfMemory> {
