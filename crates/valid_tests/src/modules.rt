@@ -1,5 +1,6 @@
 //! Modules that are judged: valid ones, and invalid ones for each kind of rule. Each is spelled by its
 //! bytes and read first, so that a case says what a file says.
+ghost use Rattle.std.specs.Prelude.{◌≡◌, ◌≤◌, true, length};
 
 use std::alloc::Global;
 use std::test::Fail;
