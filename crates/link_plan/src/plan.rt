@@ -54,7 +54,7 @@ pub struct Plan {
     pub shared: bool,
     /// A partial link: the output is one relocatable object. No word sets it yet.
     pub partial: bool,
-    /// The output is checked by the standard's rules of validation. No word sets it yet.
+    /// `--validate`: the output is checked by the standard's rules of validation.
     pub validate: bool,
     /// The objects' debug sections are joined behind the module. No word sets it yet.
     pub keep_debug: bool,
