@@ -47,15 +47,34 @@ fn is_small(m: &Module) -> bool
     m.bodies.len() == m.functions.len() && m.imports.len() <= MANY && m.functions.len() <= MANY
 }
 
-/// What is answered of a module of few functions, where no number of workers answers otherwise.
+/// What is answered of a module of few functions.
 #[tactic(auto, using(crate::proofs::Few::few))]
-fn judged<R: Threads + Sync>(rt: &R, alloc: Global, m: &Module) -> Option<Result<(), ValidError>> {
+fn told_alone(alloc: Global, m: &Module) -> Option<Result<(), ValidError>> {
     if !is_small(m) {
         return None;
     }
-    let alone = validate(alloc, m);
+    Some(validate(alloc, m))
+}
+
+/// What so many workers answer of it.
+fn told_by<R: Threads + Sync>(
+    rt: &R,
+    alloc: Global,
+    m: &Module,
+    workers: Workers,
+) -> Option<Result<(), ValidError>> {
+    if is_small(m) {
+        Some(validate_by(rt, alloc, m, workers))
+    } else {
+        None
+    }
+}
+
+/// What is answered of it, where no number of workers answers otherwise.
+fn judged<R: Threads + Sync>(rt: &R, alloc: Global, m: &Module) -> Option<Result<(), ValidError>> {
+    let alone = told_alone(alloc, m)?;
     for count in [1, 2, 5] {
-        if validate_by(rt, alloc, m, Workers::new(count)?) != alone {
+        if told_by(rt, alloc, m, Workers::new(count)?)? != alone {
             return None;
         }
     }
