@@ -1,0 +1,10 @@
+//! The joined debug sections of a link are custom sections, as the format spells them.
+#![tactic(auto)]
+
+ghost use Rattle.debug_customs.specs.Customs.{JoinedAreCustoms};
+
+/// Where the names of the objects' debug sections are UTF-8, which a reader of objects makes sure of,
+/// what the joined sections are is spelled as custom sections, one behind another (Core 5.5.3).
+pub fn sections_are_customs()
+    ensures { JoinedAreCustoms }
+{}
