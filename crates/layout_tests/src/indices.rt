@@ -7,10 +7,12 @@ use std::alloc::Global;
 
 /// Whether these keys have the numbers from 0 on.
 fn are_numbered(numbers: &Numbers, keys: &[u64]) -> bool {
-    for (at, key) in keys.iter().enumerate() {
-        if numbers.of(*key) != Some(at as u32) {
+    let mut place: u32 = 0;
+    for key in keys {
+        if numbers.of(*key) != Some(place) {
             return false;
         }
+        place = place.saturating_add(1);
     }
     true
 }
