@@ -1,0 +1,3 @@
+//! What stands behind the output of a link that keeps its debug sections: definitions alone, with a
+//! worked link.
+#![tactic(auto)]
