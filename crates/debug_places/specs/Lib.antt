@@ -1,0 +1,5 @@
+pub mod Found
+pub mod Seen
+pub mod Bodies
+pub mod Spans
+pub mod Tails
