@@ -3,8 +3,8 @@
 
 `rt check` builds all libraries below a crate anew. This takes those that an earlier climb (climb.py) proved: of the sources that stand here, or else the
 newest of that name. It asks nothing more of them: it is for proving, and `rt ci` is the judge. A library that was never kept, or that the variable OWN
-names (OWN=a,b), is taken from crates/NAME/out/built here, where --build leaves it. FLAGs are the compiler's: --only PATH, --allow-holes, --test,
---jobs N, --empty-contracts.
+names (OWN=a,b), is taken from crates/NAME/out/built here, where --build leaves it. BUILT=FOLDER names a checkout in which a plain `rt ci` runs or ran:
+its libraries are taken before those of climbs. FLAGs are the compiler's: --only PATH, --allow-holes, --test, --jobs N, --empty-contracts.
 """
 
 import glob
@@ -16,6 +16,7 @@ import build
 import climb
 
 OWN = set(filter(None, os.environ.get("OWN", "").split(",")))
+BUILT = os.environ.get("BUILT")
 
 
 def newest():
@@ -25,6 +26,9 @@ def newest():
         name = os.path.basename(path).split("-")[1]
         if name not in found or os.stat(path).st_mtime > os.stat(found[name]).st_mtime:
             found[name] = path
+    for path in glob.glob(f"{BUILT}/crates/*/out/rlib/stamp") if BUILT else []:
+        folder = os.path.dirname(os.path.dirname(path))
+        found[os.path.basename(os.path.dirname(folder))] = folder
     return found
 
 
