@@ -26,8 +26,8 @@ def newest():
         name = os.path.basename(path).split("-")[1]
         if name not in found or os.stat(path).st_mtime > os.stat(found[name]).st_mtime:
             found[name] = path
-    for path in glob.glob(f"{BUILT}/crates/*/out/rlib/stamp") if BUILT else []:
-        folder = os.path.dirname(os.path.dirname(path))
+    for path in glob.glob(f"{BUILT}/crates/*/out/rlib/*.rlib/format") if BUILT else []:
+        folder = os.path.dirname(os.path.dirname(os.path.dirname(path)))
         found[os.path.basename(os.path.dirname(folder))] = folder
     return found
 
