@@ -56,7 +56,7 @@ pub struct Plan {
     pub partial: bool,
     /// `--validate`: the output is checked by the standard's rules of validation.
     pub validate: bool,
-    /// The objects' debug sections are joined behind the module. No word sets it yet.
+    /// `--keep-debug`: the objects' debug sections are joined behind the module.
     pub keep_debug: bool,
     /// The link is a compiler driver's: one that would lose constructors is refused. No word sets it.
     pub like_lld: bool,

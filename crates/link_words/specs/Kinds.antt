@@ -1,7 +1,7 @@
 -- Kinds, told apart by their numbers.
 use Rattle.std.specs.Prelude.{ℕ, Bool, ◌==◌}
 use Rattle.link_words.specs.declared.kind.Kind.{Kind}
-use Rattle.link_words.specs.declared.kind.Kind.TheVariants.{Input, OnlyInputs, Output, Entry, NoEntry, Export, ExportTable, ExportIfDefined, ExportDynamic, AllowUndefined, Wanted, GlobalBase, StackFirst, StackSize, InitialMemory, MaxMemory, ImportMemory, GcSections, NoGcSections, WholeArchive, NoWholeArchive, StartLib, EndLib, Threads, MakeCase, Validate, Accepted}
+use Rattle.link_words.specs.declared.kind.Kind.TheVariants.{Input, OnlyInputs, Output, Entry, NoEntry, Export, ExportTable, ExportIfDefined, ExportDynamic, AllowUndefined, Wanted, GlobalBase, StackFirst, StackSize, InitialMemory, MaxMemory, ImportMemory, GcSections, NoGcSections, WholeArchive, NoWholeArchive, StartLib, EndLib, Threads, MakeCase, Validate, KeepDebug, Accepted}
 
 abbrev pub code : Kind → ℕ
 code Input = 0
@@ -30,7 +30,8 @@ code EndLib = 22
 code Threads = 23
 code MakeCase = 24
 code Validate = 25
-code Accepted = 26
+code KeepDebug = 26
+code Accepted = 27
 
 -- whether two kinds are one
 abbrev pub same : Kind → Kind → Bool

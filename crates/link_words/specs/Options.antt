@@ -1,9 +1,9 @@
--- The table of options. They have the names that LLVM's wasm-ld gives them; `--make-case` and `--validate` are our own.
+-- The table of options. They have the names that LLVM's wasm-ld gives them; `--make-case`, `--validate` and `--keep-debug` are our own.
 use Rattle.std.specs.Prelude.{ℕ, List, [], ◌∷◌, codes, if◌then◌else◌, Option, Some, None}
 use Rattle.std.specs.Str.{bytes_eq}
 use Rattle.link_words.specs.declared.range.Range.TheVariants.{Address, Memory, Workers, Cases}
 use Rattle.link_words.specs.declared.kind.Kind.{Kind}
-use Rattle.link_words.specs.declared.kind.Kind.TheVariants.{Output, Entry, NoEntry, Export, ExportTable, ExportIfDefined, ExportDynamic, AllowUndefined, Wanted, GlobalBase, StackFirst, StackSize, InitialMemory, MaxMemory, ImportMemory, GcSections, NoGcSections, WholeArchive, NoWholeArchive, StartLib, EndLib, Threads, MakeCase, Validate, Accepted}
+use Rattle.link_words.specs.declared.kind.Kind.TheVariants.{Output, Entry, NoEntry, Export, ExportTable, ExportIfDefined, ExportDynamic, AllowUndefined, Wanted, GlobalBase, StackFirst, StackSize, InitialMemory, MaxMemory, ImportMemory, GcSections, NoGcSections, WholeArchive, NoWholeArchive, StartLib, EndLib, Threads, MakeCase, Validate, KeepDebug, Accepted}
 use Rattle.link_words.specs.declared.options.Form.TheVariants.{Text, Machine, Number}
 use Rattle.link_words.specs.declared.options.Form.TheVariants as forms
 use Rattle.link_words.specs.declared.options.Takes.{Takes}
@@ -40,6 +40,7 @@ options =
     ∷ row (codes "--threads") Threads (Long (Number Workers))
     ∷ row (codes "--make-case") MakeCase (Long (Number Cases))
     ∷ row (codes "--validate") Validate Nothing
+    ∷ row (codes "--keep-debug") KeepDebug Nothing
     ∷ row (codes "-m") Accepted (Next Machine)
     ∷ row (codes "-s") Accepted Nothing
     ∷ row (codes "-S") Accepted Nothing

@@ -108,13 +108,13 @@ case : plan_of (codes "--export=g" ∷ codes "-z" ∷ codes "stack-size=0x20" �
 unfolding plan_of plan_from first_fault
 case = refl
 
--- a plan of inputs: of a repeated option the last counts, a library in a group is whole where the words before it say so
+-- a plan of inputs: of a repeated option the last counts, a library in a group is whole where the words before it say so, and debug sections are kept
 link : plan_of (codes "a.o" ∷ codes "--start-lib" ∷ codes "b.o" ∷ codes "--whole-archive" ∷ codes "c.a" ∷ codes "--end-lib" ∷ codes "-o" ∷ codes "x"
     ∷ codes "-o" ∷ codes "y" ∷ codes "--no-entry" ∷ codes "--entry" ∷ codes "main" ∷ codes "-u" ∷ codes "f" ∷ codes "--export-if-defined=" ∷ codes "--max-memory=0x100000000"
-    ∷ codes "--initial-memory=65536" ∷ codes "--global-base=4294967295" ∷ codes "--threads=64" ∷ codes "-m" ∷ codes "wasm32" ∷ codes "--" ∷ codes "--frob" ∷ [])
+    ∷ codes "--initial-memory=65536" ∷ codes "--global-base=4294967295" ∷ codes "--threads=64" ∷ codes "--keep-debug" ∷ codes "-m" ∷ codes "wasm32" ∷ codes "--" ∷ codes "--frob" ∷ [])
     ≡ Ok (record {
       inputs = record { place = 0; lazy = false; whole = false } ∷ record { place = 2; lazy = true; whole = false } ∷ record { place = 4; lazy = true; whole = true }
-          ∷ record { place = 23; lazy = false; whole = true } ∷ [];
+          ∷ record { place = 24; lazy = false; whole = true } ∷ [];
       output = Some (codes "y");
       entry = Some (codes "main");
       exports = [];
@@ -134,7 +134,7 @@ link : plan_of (codes "a.o" ∷ codes "--start-lib" ∷ codes "b.o" ∷ codes "-
       shared = false;
       partial = false;
       validate = false;
-      keep_debug = false;
+      keep_debug = true;
       like_lld = false;
       loose_calls = false;
     })

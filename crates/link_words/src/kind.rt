@@ -57,6 +57,8 @@ pub enum Kind {
     MakeCase,
     /// `--validate`.
     Validate,
+    /// `--keep-debug`.
+    KeepDebug,
     /// `-m wasm32` and the options to strip, which have no effect.
     Accepted,
 }

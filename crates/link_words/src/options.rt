@@ -75,6 +75,7 @@ pub fn option_of(word: &str) -> Option<Rule>
         "--threads" => found(Kind::Threads, Takes::Long(Form::Number(Range::Workers))),
         "--make-case" => found(Kind::MakeCase, Takes::Long(Form::Number(Range::Cases))),
         "--validate" => found(Kind::Validate, Takes::Nothing),
+        "--keep-debug" => found(Kind::KeepDebug, Takes::Nothing),
         "-m" => found(Kind::Accepted, Takes::Next(Form::Machine)),
         "-s" => found(Kind::Accepted, Takes::Nothing),
         "-S" => found(Kind::Accepted, Takes::Nothing),

@@ -73,7 +73,7 @@ fn plan(alloc: Global, items: &[Item<'_>]) -> Result<Plan, OutOfMemory>
         shared: false,
         partial: false,
         validate: has(items, Kind::Validate),
-        keep_debug: false,
+        keep_debug: has(items, Kind::KeepDebug),
         like_lld: false,
         loose_calls: false,
     })
