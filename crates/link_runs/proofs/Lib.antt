@@ -11,3 +11,5 @@ mod Names
 mod Given
 mod Ranged
 mod LinksRun
+pub use Rattle.link_facts.proofs as link_facts_lemmas
+pub use Rattle.link_facts.proofs.link_worlds_lemmas as link_worlds_lemmas

@@ -27,4 +27,5 @@ pub fn links_run()
     link_inputs::loaded_objects_are_sound();
 }
 
-pub use link_inputs::{Inputs, load_inputs};
+pub use link_facts::{bodies_take_references, facts_hold, values_and_segments_fit};
+pub use link_inputs::{Inputs, load_inputs, loaded_objects_are_sound};

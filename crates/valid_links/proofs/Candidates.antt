@@ -12,13 +12,13 @@ use Rattle.object_file.specs.wl_base.Choice.{unless, ◌>>=◌}
 use Rattle.object_file.specs.wl_base.declared.fault.Fault.{Fault}
 use Rattle.object_file.specs.wl_base.declared.span.Span.{Span}
 use Rattle.object_file.specs.ObjectOf.{object_of}
-use Rattle.link_facts.specs.link_worlds.link_rules.round_rules.Rounds.{Candidate}
+use Rattle.link_runs.specs.link_facts.link_worlds.link_rules.round_rules.Rounds.{Candidate}
 use Rattle.link_plan.specs.declared.plan.Plan.{Plan}
 use Rattle.link_plan.specs.declared.plan.InputWord.{InputWord}
-use Rattle.link_facts.specs.link_worlds.link_rules.Candidates.{Opened, object, library, opened, is_library, members_from, candidates_in, candidates_from, candidates_of, too_much_input, too_many_inputs, words_for}
-use Rattle.link_facts.specs.link_worlds.link_rules.LinkOf.{the_readers}
-use Rattle.link_facts.specs.Facts.{bytes_of}
-use Rattle.link_facts.proofs.Steps.{guard}
+use Rattle.link_runs.specs.link_facts.link_worlds.link_rules.Candidates.{Opened, object, library, opened, is_library, members_from, candidates_in, candidates_from, candidates_of, too_much_input, too_many_inputs, words_for}
+use Rattle.link_runs.specs.link_facts.link_worlds.link_rules.LinkOf.{the_readers}
+use Rattle.link_runs.specs.link_facts.Facts.{bytes_of}
+use Rattle.link_runs.proofs.link_facts_lemmas.Steps.{guard}
 
 pub guarded : {A F : Type 0} (t : Option F) (x y : A) → unless t x ≡ Ok y → (t ≡ None) × (x ≡ y)
 guarded None x y e = (refl, grind arith)

@@ -11,21 +11,21 @@ use Rattle.object_file.specs.linking_section.declared.symbol.SymbolKind.TheVaria
 use Rattle.object_file.specs.linking_section.Flags.{is_undefined}
 use Rattle.object_file.specs.declared.object.Object.{Object}
 use Rattle.object_file.specs.Sound.{NamesInRange}
-use Rattle.link_facts.specs.link_worlds.link_rules.round_rules.Rounds.{Candidate}
+use Rattle.link_runs.specs.link_facts.link_worlds.link_rules.round_rules.Rounds.{Candidate}
 use Rattle.link_plan.specs.declared.plan.Plan.{Plan}
 use Rattle.made_symbols.specs.Made.{MadeSymbol, made, stack_pointer}
 use Rattle.made_symbols.specs.declared.mode.Mode.TheVariants.{Plain}
-use Rattle.link_facts.specs.link_worlds.link_rules.name_rules.Entries.{InputSymbol, of_function, of_global, entries, type_in, index_in, made_type, in_kept_part}
-use Rattle.link_facts.specs.link_worlds.link_rules.name_rules.Cases.{clash_by}
-use Rattle.link_facts.specs.link_worlds.link_rules.Program.{Program, loosened, Part}
-use Rattle.link_facts.specs.link_worlds.link_rules.Marks.{live}
-use Rattle.link_facts.specs.link_worlds.link_rules.Keys.{linker_function, own, linker_global, own_global, function_of, global_of, type_of, part_type, content_type, is_function_at}
-use Rattle.link_facts.specs.link_worlds.Sound.{Sound}
-use Rattle.link_facts.proofs.link_worlds_lemmas.Live.{live_part}
-use Rattle.link_facts.proofs.link_worlds_lemmas.Functions.{find_part, live_apart, Stood}
-use Rattle.link_facts.proofs.link_worlds_lemmas.Start.{IfOwn}
-use Rattle.link_facts.specs.Loaded.{AreLoaded}
-use Rattle.link_facts.proofs.Symbols.{Known, OfObject, positive}
+use Rattle.link_runs.specs.link_facts.link_worlds.link_rules.name_rules.Entries.{InputSymbol, of_function, of_global, entries, type_in, index_in, made_type, in_kept_part}
+use Rattle.link_runs.specs.link_facts.link_worlds.link_rules.name_rules.Cases.{clash_by}
+use Rattle.link_runs.specs.link_facts.link_worlds.link_rules.Program.{Program, loosened, Part}
+use Rattle.link_runs.specs.link_facts.link_worlds.link_rules.Marks.{live}
+use Rattle.link_runs.specs.link_facts.link_worlds.link_rules.Keys.{linker_function, own, linker_global, own_global, function_of, global_of, type_of, part_type, content_type, is_function_at}
+use Rattle.link_runs.specs.link_facts.link_worlds.Sound.{Sound}
+use Rattle.link_runs.proofs.link_worlds_lemmas.Live.{live_part}
+use Rattle.link_runs.proofs.link_worlds_lemmas.Functions.{find_part, live_apart, Stood}
+use Rattle.link_runs.proofs.link_worlds_lemmas.Start.{IfOwn}
+use Rattle.link_runs.specs.link_facts.Loaded.{AreLoaded}
+use Rattle.link_runs.proofs.link_facts_lemmas.Symbols.{Known, OfObject, positive}
 use Rattle.output_types.specs.Types.{part_cell, content_cell, is_global_at, cell_type}
 use Rattle.valid_links.proofs.ObjectTypes.{defined_function, defined_global}
 use Rattle.valid_links.proofs.Parts.{strict, of_this_object, function_is, function_content, global_is}

@@ -15,30 +15,30 @@ use Rattle.object_file.specs.ObjectOf.{IsObject, object_of}
 use Rattle.object_file.specs.Sound.{Sound as ObjectSound}
 use Rattle.object_file.specs.Spellable.{IsSpellable}
 use Rattle.object_file.proofs.Read.{object_found}
-use Rattle.link_facts.specs.link_worlds.link_rules.round_rules.Rounds.{Candidate, load}
+use Rattle.link_runs.specs.link_facts.link_worlds.link_rules.round_rules.Rounds.{Candidate, load}
 use Rattle.link_plan.specs.declared.plan.Plan.{Plan}
 use Rattle.link_plan.specs.Plan.{IsPlan}
 use Rattle.made_symbols.specs.declared.mode.Mode.TheVariants.{Plain}
 use Rattle.live_mark.specs.Live.{ReachedLaw}
-use Rattle.link_facts.specs.link_worlds.link_rules.name_rules.Entries.{InputSymbol}
-use Rattle.link_facts.specs.link_worlds.link_rules.name_rules.Cases.{clash_by, duplicate}
-use Rattle.link_facts.specs.link_worlds.link_rules.Candidates.{candidates_of}
-use Rattle.link_facts.specs.link_worlds.link_rules.Program.{Program, program_of, Part}
-use Rattle.link_facts.specs.link_worlds.link_rules.Marks.{exported, repeated_export}
-use Rattle.link_facts.specs.link_worlds.link_rules.Values.{part_bytes}
-use Rattle.link_facts.specs.link_worlds.link_rules.LinkOf.{asked_names, the_readers, link_of, link_program, too_many_names}
-use Rattle.link_program.specs.Loaded.{home_of, IsLoaded, IsReadFrom}
-use Rattle.link_inputs.specs.Loaded.{LoadedAreSound}
-use Rattle.link_facts.specs.link_worlds.Sound.{IsConstant, IsShaped, Shaped, Takes}
-use Rattle.link_facts.specs.link_worlds.Worlds.{layout_of, linked_module}
-use Rattle.link_facts.specs.link_worlds.Statements.{LinkedBy}
-use Rattle.link_facts.proofs.link_worlds_lemmas.Live.{live_part}
-use Rattle.link_facts.specs.output_module.Filled.{Reads, TakenBody}
-use Rattle.link_facts.specs.output_module.Outputs.{IsCoded}
-use Rattle.link_facts.specs.Faults.{NoFault, ValuesFit}
-use Rattle.link_facts.specs.Facts.{IsFrom, IsReading, Facts, FactsHold, bytes_of}
-use Rattle.link_facts.proofs.Loads.{are_loaded}
-use Rattle.link_facts.proofs.Steps.{guard, is_link, is_linked, is_marked}
+use Rattle.link_runs.specs.link_facts.link_worlds.link_rules.name_rules.Entries.{InputSymbol}
+use Rattle.link_runs.specs.link_facts.link_worlds.link_rules.name_rules.Cases.{clash_by, duplicate}
+use Rattle.link_runs.specs.link_facts.link_worlds.link_rules.Candidates.{candidates_of}
+use Rattle.link_runs.specs.link_facts.link_worlds.link_rules.Program.{Program, program_of, Part}
+use Rattle.link_runs.specs.link_facts.link_worlds.link_rules.Marks.{exported, repeated_export}
+use Rattle.link_runs.specs.link_facts.link_worlds.link_rules.Values.{part_bytes}
+use Rattle.link_runs.specs.link_facts.link_worlds.link_rules.LinkOf.{asked_names, the_readers, link_of, link_program, too_many_names}
+use Rattle.link_runs.specs.link_program.Loaded.{home_of, IsLoaded, IsReadFrom}
+use Rattle.link_runs.specs.link_inputs.Loaded.{LoadedAreSound}
+use Rattle.link_runs.specs.link_facts.link_worlds.Sound.{IsConstant, IsShaped, Shaped, Takes}
+use Rattle.link_runs.specs.link_facts.link_worlds.Worlds.{layout_of, linked_module}
+use Rattle.link_runs.specs.link_facts.link_worlds.Statements.{LinkedBy}
+use Rattle.link_runs.proofs.link_worlds_lemmas.Live.{live_part}
+use Rattle.link_runs.specs.link_facts.output_module.Filled.{Reads, TakenBody}
+use Rattle.link_runs.specs.link_facts.output_module.Outputs.{IsCoded}
+use Rattle.link_runs.specs.link_facts.Faults.{NoFault, ValuesFit}
+use Rattle.link_runs.specs.link_facts.Facts.{IsFrom, IsReading, Facts, FactsHold, bytes_of}
+use Rattle.link_runs.proofs.link_facts_lemmas.Loads.{are_loaded}
+use Rattle.link_runs.proofs.link_facts_lemmas.Steps.{guard, is_link, is_linked, is_marked}
 use Rattle.link_runs.specs.Links.{LinksRun}
 use Rattle.output_types.specs.valid_objects.Objects.{IsValidObject}
 use Rattle.output_types.specs.wasm_valid.Rules.{has_type}

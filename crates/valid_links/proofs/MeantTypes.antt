@@ -8,12 +8,12 @@ use Rattle.object_file.specs.linking_section.declared.symbol.SymbolKind.TheVaria
 use Rattle.object_file.specs.linking_section.Flags.{is_explicit}
 use Rattle.object_file.specs.declared.object.Object.{Object}
 use Rattle.made_symbols.specs.declared.mode.Mode.TheVariants.{Plain}
-use Rattle.link_facts.specs.link_worlds.link_rules.name_rules.Entries.{InputSymbol, ImportKey, SymbolType, is_kind, is_entry, name_of, named, is_named, type_in, import_in, key_of, entries}
-use Rattle.link_facts.specs.link_worlds.link_rules.name_rules.Meanings.{Meaning, here, imported, null, nothing, lesser, least, references, least_import, may_import, may_be_null, where_given, by_rules, own_meaning, meaning, no_uses, entry_rank}
-use Rattle.link_facts.specs.link_worlds.link_rules.name_rules.Cases.{clash_by, first_entry, has_other_type}
-use Rattle.link_facts.proofs.link_worlds_lemmas.Keys.{bytes_equal, bytes_itself}
-use Rattle.link_facts.proofs.Meant.{MeansBy, Means, means}
-use Rattle.link_facts.proofs.Symbols.{Known, entry_known}
+use Rattle.link_runs.specs.link_facts.link_worlds.link_rules.name_rules.Entries.{InputSymbol, ImportKey, SymbolType, is_kind, is_entry, name_of, named, is_named, type_in, import_in, key_of, entries}
+use Rattle.link_runs.specs.link_facts.link_worlds.link_rules.name_rules.Meanings.{Meaning, here, imported, null, nothing, lesser, least, references, least_import, may_import, may_be_null, where_given, by_rules, own_meaning, meaning, no_uses, entry_rank}
+use Rattle.link_runs.specs.link_facts.link_worlds.link_rules.name_rules.Cases.{clash_by, first_entry, has_other_type}
+use Rattle.link_runs.proofs.link_worlds_lemmas.Keys.{bytes_equal, bytes_itself}
+use Rattle.link_runs.proofs.link_facts_lemmas.Meant.{MeansBy, Means, means}
+use Rattle.link_runs.proofs.link_facts_lemmas.Symbols.{Known, entry_known}
 use Rattle.valid_links.proofs.OneNames.{Settled, settled_definition, settled_other, settled_undefined, settled_call, one_type}
 
 -- ---- what isn't a definition is of a name that nothing defines

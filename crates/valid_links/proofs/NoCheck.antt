@@ -21,16 +21,16 @@ use Rattle.object_file.specs.ObjectOf.{section_fault, agreed, spelled_object, fr
 use Rattle.made_symbols.specs.declared.mode.Mode.TheVariants.{Plain}
 use Rattle.link_plan.specs.declared.plan.Plan.{Plan}
 use Rattle.link_plan.specs.declared.plan.InputWord.{InputWord}
-use Rattle.link_facts.specs.link_worlds.link_rules.name_rules.Entries.{InputSymbol, name_of}
-use Rattle.link_facts.specs.link_worlds.link_rules.name_rules.Cases.{first_entry, judge, breaks, differs, clashes, clash_of, clash, clash_beside, other_import, broken, loose_clash, clash_by, first_strong, is_duplicate, duplicate_of, duplicate}
-use Rattle.link_facts.specs.link_worlds.link_rules.round_rules.Rounds.{Candidate, Added, fault_in, object_fault, is_always_read, always_read_fault, wanted_names, objects_of, added_with, adds_any, added_fault_in, added_fault, inputs_of, go_on, next_adds, rounds, at_once, loaded_inputs, load}
-use Rattle.link_facts.specs.link_worlds.link_rules.Candidates.{opened_library, opened, is_library, candidates_in, candidates_from, too_much_input, too_many_inputs, words_for, candidates_of}
-use Rattle.link_facts.specs.link_worlds.link_rules.Program.{Program, Part, program_of}
-use Rattle.link_facts.specs.link_worlds.link_rules.Values.{Layout}
-use Rattle.link_facts.specs.link_worlds.link_rules.Output.{layout, image, source_windows}
-use Rattle.link_facts.specs.link_worlds.link_rules.image_emit.declared.tree.Image.{Image}
-use Rattle.link_facts.specs.link_worlds.link_rules.Marks.{Given, demanded, exported, given_names, repeated_by, first_repeat, repeated_export, live, pic_fault, missing, unresolved, uncalled}
-use Rattle.link_facts.specs.link_worlds.link_rules.LinkOf.{asked_names, too_many_names, passed_fault, memory_fault, table_fault, output_fault, reference_fault, output_bytes, written, laid_out, marked, link_program, link_by, the_readers, link_of}
+use Rattle.link_runs.specs.link_facts.link_worlds.link_rules.name_rules.Entries.{InputSymbol, name_of}
+use Rattle.link_runs.specs.link_facts.link_worlds.link_rules.name_rules.Cases.{first_entry, judge, breaks, differs, clashes, clash_of, clash, clash_beside, other_import, broken, loose_clash, clash_by, first_strong, is_duplicate, duplicate_of, duplicate}
+use Rattle.link_runs.specs.link_facts.link_worlds.link_rules.round_rules.Rounds.{Candidate, Added, fault_in, object_fault, is_always_read, always_read_fault, wanted_names, objects_of, added_with, adds_any, added_fault_in, added_fault, inputs_of, go_on, next_adds, rounds, at_once, loaded_inputs, load}
+use Rattle.link_runs.specs.link_facts.link_worlds.link_rules.Candidates.{opened_library, opened, is_library, candidates_in, candidates_from, too_much_input, too_many_inputs, words_for, candidates_of}
+use Rattle.link_runs.specs.link_facts.link_worlds.link_rules.Program.{Program, Part, program_of}
+use Rattle.link_runs.specs.link_facts.link_worlds.link_rules.Values.{Layout}
+use Rattle.link_runs.specs.link_facts.link_worlds.link_rules.Output.{layout, image, source_windows}
+use Rattle.link_runs.specs.link_facts.link_worlds.link_rules.image_emit.declared.tree.Image.{Image}
+use Rattle.link_runs.specs.link_facts.link_worlds.link_rules.Marks.{Given, demanded, exported, given_names, repeated_by, first_repeat, repeated_export, live, pic_fault, missing, unresolved, uncalled}
+use Rattle.link_runs.specs.link_facts.link_worlds.link_rules.LinkOf.{asked_names, too_many_names, passed_fault, memory_fault, table_fault, output_fault, reference_fault, output_bytes, written, laid_out, marked, link_program, link_by, the_readers, link_of}
 
 -- ---- what is looked at
 

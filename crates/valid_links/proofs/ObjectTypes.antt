@@ -14,8 +14,8 @@ use Rattle.object_file.specs.declared.object.Object.{Object}
 use Rattle.object_file.specs.Spaces.{no_type, function_imports, global_imports, imported_type, imported_global, defined_type, function_types, global_types}
 use Rattle.object_file.specs.Sound.{NamesInRange}
 use Rattle.object_file.proofs.Counted.{functions_counted, globals_counted}
-use Rattle.link_facts.specs.link_worlds.link_rules.name_rules.Entries.{of_function, of_global, type_in}
-use Rattle.link_facts.proofs.Parts.{there_is}
+use Rattle.link_runs.specs.link_facts.link_worlds.link_rules.name_rules.Entries.{of_function, of_global, type_in}
+use Rattle.link_runs.proofs.link_facts_lemmas.Parts.{there_is}
 use Rattle.output_types.specs.Functions.{IsTypeOf}
 
 -- what stands behind the first list

@@ -8,10 +8,10 @@ use Rattle.list_places.proofs.Lists.{has_filter, has_right, has_either, find_has
 use Rattle.object_file.specs.wl_base.Choice.{first_some}
 use Rattle.object_file.specs.wl_base.declared.fault.Fault.{Fault}
 use Rattle.object_file.specs.linking_section.declared.symbol.SymbolKind.TheVariants.{Function}
-use Rattle.link_facts.specs.link_worlds.link_rules.name_rules.Entries.{InputSymbol, SymbolType, of_function, of_global, untyped, is_kind, is_entry, name_of, named, is_named, same_symbol_type}
-use Rattle.link_facts.specs.link_worlds.link_rules.name_rules.Cases.{clash, loose_clash, clash_by, clash_of, clash_beside, clashes_with, other_import, broken, judge, breaks, may_differ, mismatches, has_other_type, first_entry, passes, differ, explicit_import}
-use Rattle.link_facts.proofs.link_worlds_lemmas.Keys.{bytes_equal, bytes_itself, type_equal, global_type_equal}
-use Rattle.link_facts.proofs.Meant.{find_none}
+use Rattle.link_runs.specs.link_facts.link_worlds.link_rules.name_rules.Entries.{InputSymbol, SymbolType, of_function, of_global, untyped, is_kind, is_entry, name_of, named, is_named, same_symbol_type}
+use Rattle.link_runs.specs.link_facts.link_worlds.link_rules.name_rules.Cases.{clash, loose_clash, clash_by, clash_of, clash_beside, clashes_with, other_import, broken, judge, breaks, may_differ, mismatches, has_other_type, first_entry, passes, differ, explicit_import}
+use Rattle.link_runs.proofs.link_worlds_lemmas.Keys.{bytes_equal, bytes_itself, type_equal, global_type_equal}
+use Rattle.link_runs.proofs.link_facts_lemmas.Meant.{find_none}
 
 -- ---- tests
 

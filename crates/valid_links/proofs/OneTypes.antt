@@ -9,33 +9,33 @@ use Rattle.object_file.specs.wasm_types.declared.table.GlobalType.{GlobalType}
 use Rattle.object_file.specs.linking_section.declared.symbol.SymbolKind.TheVariants.{Function, GlobalVar}
 use Rattle.object_file.specs.linking_section.Flags.{kind_code}
 use Rattle.object_file.specs.declared.object.Object.{Object}
-use Rattle.link_facts.specs.link_worlds.link_rules.round_rules.Rounds.{Candidate}
+use Rattle.link_runs.specs.link_facts.link_worlds.link_rules.round_rules.Rounds.{Candidate}
 use Rattle.link_plan.specs.declared.plan.Plan.{Plan}
 use Rattle.made_symbols.specs.declared.mode.Mode.TheVariants.{Plain}
 use Rattle.live_mark.specs.Live.{ReachedLaw}
-use Rattle.link_facts.specs.link_worlds.link_rules.name_rules.Entries.{InputSymbol, of_function, of_global, is_kind, is_entry, name_of, is_named, entries, type_in}
-use Rattle.link_facts.specs.link_worlds.link_rules.name_rules.Meanings.{Meaning, here, imported, null, nothing, is_nothing}
-use Rattle.link_facts.specs.link_worlds.link_rules.name_rules.Cases.{clash_by, first_entry, has_other_type}
-use Rattle.link_facts.specs.link_worlds.link_rules.Program.{Program, loosened, Part, Ref, refs, variant, is_mismatch}
-use Rattle.link_facts.specs.link_worlds.link_rules.Marks.{live}
-use Rattle.link_facts.specs.link_worlds.link_rules.Keys.{GlobalKey, outside_global, linker_global, own_global, got, exported_datum, same_global, functions, meant_function, meant_global, ref_function, ref_global, ref_got, type_of, entry_type, function_type_of, callable}
-use Rattle.link_facts.specs.link_worlds.link_rules.Values.{Layout}
-use Rattle.link_facts.specs.link_worlds.link_rules.Output.{layout}
-use Rattle.link_facts.specs.link_worlds.Names.{all_cells, renaming, CellGets}
-use Rattle.link_facts.specs.link_worlds.Sound.{SoundRef, SoundMeaning}
-use Rattle.link_facts.specs.link_worlds.Worlds.{layout_of}
-use Rattle.link_facts.specs.link_worlds.Statements.{LinkedBy}
-use Rattle.link_facts.proofs.link_worlds_lemmas.Keys.{bytes_itself, globals_same}
-use Rattle.link_facts.proofs.link_worlds_lemmas.Live.{live_part, ref_listed, resolved}
-use Rattle.link_facts.proofs.link_worlds_lemmas.Refs.{callee_pairs, cell_pairs}
-use Rattle.link_facts.proofs.link_worlds_lemmas.Functions.{Stood, stood}
-use Rattle.link_facts.proofs.link_worlds_lemmas.Start.{IfOwn, own_among}
-use Rattle.link_facts.specs.Loaded.{AreLoaded}
-use Rattle.link_facts.proofs.Symbols.{Known, symbol_listed}
-use Rattle.link_facts.proofs.Meant.{Means, means, code_kind, find_none}
-use Rattle.link_facts.proofs.Refs.{Names}
-use Rattle.link_facts.proofs.SoundPrograms.{stands_ref, means_known, names_symbol}
-use Rattle.link_facts.proofs.Loosened.{ref_by, IsChanged, changed_or_not, ref_came}
+use Rattle.link_runs.specs.link_facts.link_worlds.link_rules.name_rules.Entries.{InputSymbol, of_function, of_global, is_kind, is_entry, name_of, is_named, entries, type_in}
+use Rattle.link_runs.specs.link_facts.link_worlds.link_rules.name_rules.Meanings.{Meaning, here, imported, null, nothing, is_nothing}
+use Rattle.link_runs.specs.link_facts.link_worlds.link_rules.name_rules.Cases.{clash_by, first_entry, has_other_type}
+use Rattle.link_runs.specs.link_facts.link_worlds.link_rules.Program.{Program, loosened, Part, Ref, refs, variant, is_mismatch}
+use Rattle.link_runs.specs.link_facts.link_worlds.link_rules.Marks.{live}
+use Rattle.link_runs.specs.link_facts.link_worlds.link_rules.Keys.{GlobalKey, outside_global, linker_global, own_global, got, exported_datum, same_global, functions, meant_function, meant_global, ref_function, ref_global, ref_got, type_of, entry_type, function_type_of, callable}
+use Rattle.link_runs.specs.link_facts.link_worlds.link_rules.Values.{Layout}
+use Rattle.link_runs.specs.link_facts.link_worlds.link_rules.Output.{layout}
+use Rattle.link_runs.specs.link_facts.link_worlds.Names.{all_cells, renaming, CellGets}
+use Rattle.link_runs.specs.link_facts.link_worlds.Sound.{SoundRef, SoundMeaning}
+use Rattle.link_runs.specs.link_facts.link_worlds.Worlds.{layout_of}
+use Rattle.link_runs.specs.link_facts.link_worlds.Statements.{LinkedBy}
+use Rattle.link_runs.proofs.link_worlds_lemmas.Keys.{bytes_itself, globals_same}
+use Rattle.link_runs.proofs.link_worlds_lemmas.Live.{live_part, ref_listed, resolved}
+use Rattle.link_runs.proofs.link_worlds_lemmas.Refs.{callee_pairs, cell_pairs}
+use Rattle.link_runs.proofs.link_worlds_lemmas.Functions.{Stood, stood}
+use Rattle.link_runs.proofs.link_worlds_lemmas.Start.{IfOwn, own_among}
+use Rattle.link_runs.specs.link_facts.Loaded.{AreLoaded}
+use Rattle.link_runs.proofs.link_facts_lemmas.Symbols.{Known, symbol_listed}
+use Rattle.link_runs.proofs.link_facts_lemmas.Meant.{Means, means, code_kind, find_none}
+use Rattle.link_runs.proofs.link_facts_lemmas.Refs.{Names}
+use Rattle.link_runs.proofs.link_facts_lemmas.SoundPrograms.{stands_ref, means_known, names_symbol}
+use Rattle.link_runs.proofs.link_facts_lemmas.Loosened.{ref_by, IsChanged, changed_or_not, ref_came}
 use Rattle.output_types.specs.Types.{symbol_cell, cell_type, HasOneType, HaveOneType}
 use Rattle.output_types.proofs.Numbers.{callee_at}
 use Rattle.valid_links.proofs.MeantTypes.{MeantType, meant_type}

@@ -13,12 +13,12 @@ use Rattle.object_file.specs.declared.object.Object.{Object}
 use Rattle.object_file.specs.Spaces.{no_type, written_type}
 use Rattle.object_file.specs.Sound.{OperandNames, IsNamedBy, NamesInRange}
 use Rattle.made_symbols.specs.declared.mode.Mode.TheVariants.{Plain}
-use Rattle.link_facts.specs.link_worlds.link_rules.name_rules.Entries.{InputSymbol, entry_in, entries_from, symbols_of, entries, type_in}
-use Rattle.link_facts.specs.link_worlds.link_rules.name_rules.Meanings.{Meaning, Resolved, resolved_in, meaning, no_uses}
-use Rattle.link_facts.specs.link_worlds.link_rules.Program.{Ref, TypeWindow, Named, a_symbol, a_type, ref_to, ref_in, operand_named}
-use Rattle.link_facts.specs.link_worlds.Bodies.{place_of, named_at}
-use Rattle.link_facts.proofs.Parts.{there_is}
-use Rattle.link_facts.proofs.Loosened.{named_by, ref_by, changed_or_not}
+use Rattle.link_runs.specs.link_facts.link_worlds.link_rules.name_rules.Entries.{InputSymbol, entry_in, entries_from, symbols_of, entries, type_in}
+use Rattle.link_runs.specs.link_facts.link_worlds.link_rules.name_rules.Meanings.{Meaning, Resolved, resolved_in, meaning, no_uses}
+use Rattle.link_runs.specs.link_facts.link_worlds.link_rules.Program.{Ref, TypeWindow, Named, a_symbol, a_type, ref_to, ref_in, operand_named}
+use Rattle.link_runs.specs.link_facts.link_worlds.Bodies.{place_of, named_at}
+use Rattle.link_runs.proofs.link_facts_lemmas.Parts.{there_is}
+use Rattle.link_runs.proofs.link_facts_lemmas.Loosened.{named_by, ref_by, changed_or_not}
 use Rattle.output_types.specs.valid_objects.Objects.{operand_at}
 use Rattle.output_types.specs.Functions.{IsTypeOf, NamesSymbol, NamesSame}
 use Rattle.valid_links.proofs.ObjectTypes.{symbol_type}

@@ -18,24 +18,24 @@ use Rattle.object_file.specs.object_columns.declared.functions.FunctionDef.{Func
 use Rattle.object_file.specs.declared.object.Object.{Object}
 use Rattle.object_file.specs.Spaces.{no_type, defined_type, function_types}
 use Rattle.object_file.specs.Sound.{Sound as ObjectSound, OperandNames, NamesInRange, IsInit}
-use Rattle.link_facts.specs.link_worlds.link_rules.round_rules.Rounds.{Candidate}
+use Rattle.link_runs.specs.link_facts.link_worlds.link_rules.round_rules.Rounds.{Candidate}
 use Rattle.link_plan.specs.declared.plan.Plan.{Plan}
 use Rattle.made_symbols.specs.Made.{made}
 use Rattle.made_symbols.specs.declared.mode.Mode.TheVariants.{Plain}
 use Rattle.mark_bits.specs.declared.chunk.Chunk.{Chunk}
-use Rattle.link_facts.specs.link_worlds.link_rules.name_rules.Entries.{InputSymbol, of_function, entries, type_in}
-use Rattle.link_facts.specs.link_worlds.link_rules.name_rules.Meanings.{Resolved, resolved_in, no_uses}
-use Rattle.link_facts.specs.link_worlds.link_rules.name_rules.Cases.{clash_by}
-use Rattle.link_facts.specs.link_worlds.link_rules.image_emit.Bytes.{file_part}
-use Rattle.link_facts.specs.link_worlds.link_rules.Program.{Program, strict_program, loosened, Part, function, segment, global, linker_made, Ref, refs, a_symbol, function_part, parts_of, init_calls, init_calls_in, InitCall, init_call, ref_in, is_skipped, operand_named, span_in}
-use Rattle.link_facts.specs.link_worlds.link_rules.Values.{part_bytes}
-use Rattle.link_facts.specs.link_worlds.Bodies.{named_at}
-use Rattle.link_facts.specs.Loaded.{AreLoaded}
-use Rattle.link_facts.specs.Facts.{IsFrom, bytes_of}
-use Rattle.link_facts.proofs.Parts.{Stood, as_function, as_segment, as_global, stood, made_as, made_behind, made_by_input, object_by_input, made_or_object}
-use Rattle.link_facts.proofs.Refs.{ref_is, calls_are, refs_named}
-use Rattle.link_facts.proofs.SoundPrograms.{parts_are, names_symbol}
-use Rattle.link_facts.proofs.Loosened.{part_by, ref_by, named_by, came, ref_came, changed_or_not}
+use Rattle.link_runs.specs.link_facts.link_worlds.link_rules.name_rules.Entries.{InputSymbol, of_function, entries, type_in}
+use Rattle.link_runs.specs.link_facts.link_worlds.link_rules.name_rules.Meanings.{Resolved, resolved_in, no_uses}
+use Rattle.link_runs.specs.link_facts.link_worlds.link_rules.name_rules.Cases.{clash_by}
+use Rattle.link_runs.specs.link_facts.link_worlds.link_rules.image_emit.Bytes.{file_part}
+use Rattle.link_runs.specs.link_facts.link_worlds.link_rules.Program.{Program, strict_program, loosened, Part, function, segment, global, linker_made, Ref, refs, a_symbol, function_part, parts_of, init_calls, init_calls_in, InitCall, init_call, ref_in, is_skipped, operand_named, span_in}
+use Rattle.link_runs.specs.link_facts.link_worlds.link_rules.Values.{part_bytes}
+use Rattle.link_runs.specs.link_facts.link_worlds.Bodies.{named_at}
+use Rattle.link_runs.specs.link_facts.Loaded.{AreLoaded}
+use Rattle.link_runs.specs.link_facts.Facts.{IsFrom, bytes_of}
+use Rattle.link_runs.proofs.link_facts_lemmas.Parts.{Stood, as_function, as_segment, as_global, stood, made_as, made_behind, made_by_input, object_by_input, made_or_object}
+use Rattle.link_runs.proofs.link_facts_lemmas.Refs.{ref_is, calls_are, refs_named}
+use Rattle.link_runs.proofs.link_facts_lemmas.SoundPrograms.{parts_are, names_symbol}
+use Rattle.link_runs.proofs.link_facts_lemmas.Loosened.{part_by, ref_by, named_by, came, ref_came, changed_or_not}
 use Rattle.output_types.specs.valid_objects.Objects.{operand_at, body_bytes, HasTyping, TypedIn, IsValidObject}
 use Rattle.output_types.specs.Functions.{NamesSame, IsTypedFunction}
 use Rattle.valid_links.proofs.Bytes.{part_in}

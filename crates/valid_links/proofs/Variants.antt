@@ -12,19 +12,19 @@ use Rattle.object_file.specs.wasm_types.declared.function.FuncType.{FuncType}
 use Rattle.object_file.specs.wasm_types.Types.{val_byte}
 use Rattle.object_file.specs.declared.object.Object.{Object}
 use Rattle.object_file.specs.Spellable.{IsSpellable, IsSymbol}
-use Rattle.link_facts.specs.link_worlds.link_rules.round_rules.Rounds.{Candidate}
+use Rattle.link_runs.specs.link_facts.link_worlds.link_rules.round_rules.Rounds.{Candidate}
 use Rattle.link_plan.specs.declared.plan.Plan.{Plan}
 use Rattle.made_symbols.specs.Made.{MadeSymbol, made}
 use Rattle.made_symbols.specs.declared.mode.Mode.TheVariants.{Plain}
-use Rattle.link_facts.specs.link_worlds.link_rules.name_rules.Entries.{InputSymbol, SymbolType, of_function, of_global, untyped, name_of, is_named, entries}
-use Rattle.link_facts.specs.link_worlds.link_rules.name_rules.Meanings.{Meaning, Resolved, resolve}
-use Rattle.link_facts.specs.link_worlds.link_rules.name_rules.Cases.{clash_by, first_entry}
-use Rattle.link_facts.specs.link_worlds.link_rules.Program.{Program, loosened, Ref, is_mismatch, variant, variant_name, renamed, variants_among, variants_of, loose_variants}
-use Rattle.link_facts.specs.link_worlds.link_rules.Keys.{callable}
-use Rattle.link_facts.proofs.link_worlds_lemmas.Keys.{bytes_equal}
-use Rattle.link_facts.specs.Loaded.{AreLoaded}
-use Rattle.link_facts.proofs.Symbols.{Known, entry_known, is_symbol}
-use Rattle.link_facts.proofs.Loosened.{IsChanged}
+use Rattle.link_runs.specs.link_facts.link_worlds.link_rules.name_rules.Entries.{InputSymbol, SymbolType, of_function, of_global, untyped, name_of, is_named, entries}
+use Rattle.link_runs.specs.link_facts.link_worlds.link_rules.name_rules.Meanings.{Meaning, Resolved, resolve}
+use Rattle.link_runs.specs.link_facts.link_worlds.link_rules.name_rules.Cases.{clash_by, first_entry}
+use Rattle.link_runs.specs.link_facts.link_worlds.link_rules.Program.{Program, loosened, Ref, is_mismatch, variant, variant_name, renamed, variants_among, variants_of, loose_variants}
+use Rattle.link_runs.specs.link_facts.link_worlds.link_rules.Keys.{callable}
+use Rattle.link_runs.proofs.link_worlds_lemmas.Keys.{bytes_equal}
+use Rattle.link_runs.specs.link_facts.Loaded.{AreLoaded}
+use Rattle.link_runs.proofs.link_facts_lemmas.Symbols.{Known, entry_known, is_symbol}
+use Rattle.link_runs.proofs.link_facts_lemmas.Loosened.{IsChanged}
 use Rattle.valid_links.proofs.Parts.{strict, res}
 
 -- ---- text doesn't begin with the mark

@@ -4,13 +4,13 @@ use Rattle.list_places.specs.Has.{Has}
 use Rattle.object_file.specs.wl_base.declared.fault.InvalidAt.{InvalidAt}
 use Rattle.object_file.specs.wl_base.declared.fault.Fault.TheVariants.{Invalid}
 use Rattle.object_file.specs.declared.object.Object.{Object}
-use Rattle.link_facts.specs.link_worlds.link_rules.round_rules.Rounds.{Candidate, load}
+use Rattle.link_runs.specs.link_facts.link_worlds.link_rules.round_rules.Rounds.{Candidate, load}
 use Rattle.link_plan.specs.declared.plan.Plan.{Plan}
 use Rattle.link_plan.specs.Plan.{IsPlan}
 use Rattle.made_symbols.specs.declared.mode.Mode.TheVariants.{Plain}
-use Rattle.link_facts.specs.link_worlds.link_rules.Candidates.{candidates_of}
-use Rattle.link_facts.specs.link_worlds.link_rules.LinkOf.{asked_names, the_readers, link_of}
-use Rattle.link_facts.specs.Facts.{bytes_of}
+use Rattle.link_runs.specs.link_facts.link_worlds.link_rules.Candidates.{candidates_of}
+use Rattle.link_runs.specs.link_facts.link_worlds.link_rules.LinkOf.{asked_names, the_readers, link_of}
+use Rattle.link_runs.specs.link_facts.Facts.{bytes_of}
 use Rattle.output_check.specs.Check.{IsValidOutput}
 use Rattle.output_types.specs.valid_objects.Objects.{IsValidObject}
 

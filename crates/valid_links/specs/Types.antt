@@ -4,16 +4,16 @@ use Rattle.std.specs.Prelude.{◌≡◌, ℕ, List, None}
 use Rattle.list_places.specs.Has.{Has}
 use Rattle.object_file.specs.declared.object.Object.{Object}
 use Rattle.object_file.specs.Spellable.{IsSpellable}
-use Rattle.link_facts.specs.link_worlds.link_rules.round_rules.Rounds.{Candidate}
+use Rattle.link_runs.specs.link_facts.link_worlds.link_rules.round_rules.Rounds.{Candidate}
 use Rattle.link_plan.specs.declared.plan.Plan.{Plan}
 use Rattle.made_symbols.specs.declared.mode.Mode.TheVariants.{Plain}
-use Rattle.link_facts.specs.link_worlds.link_rules.name_rules.Entries.{InputSymbol}
-use Rattle.link_facts.specs.link_worlds.link_rules.name_rules.Cases.{clash_by}
-use Rattle.link_facts.specs.link_worlds.link_rules.Program.{program_of}
-use Rattle.link_facts.specs.link_worlds.link_rules.Marks.{live}
-use Rattle.link_facts.specs.link_worlds.Worlds.{layout_of}
-use Rattle.link_facts.specs.link_worlds.Statements.{LinkedBy}
-use Rattle.link_facts.specs.Loaded.{AreLoaded}
+use Rattle.link_runs.specs.link_facts.link_worlds.link_rules.name_rules.Entries.{InputSymbol}
+use Rattle.link_runs.specs.link_facts.link_worlds.link_rules.name_rules.Cases.{clash_by}
+use Rattle.link_runs.specs.link_facts.link_worlds.link_rules.Program.{program_of}
+use Rattle.link_runs.specs.link_facts.link_worlds.link_rules.Marks.{live}
+use Rattle.link_runs.specs.link_facts.link_worlds.Worlds.{layout_of}
+use Rattle.link_runs.specs.link_facts.link_worlds.Statements.{LinkedBy}
+use Rattle.link_runs.specs.link_facts.Loaded.{AreLoaded}
 use Rattle.output_types.specs.Types.{HaveOneType}
 
 abbrev pub NamesHaveOneType : Type 0

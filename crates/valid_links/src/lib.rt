@@ -23,12 +23,12 @@ pub fn links_are_valid()
     names_have_one_type();
     output_types::outputs_are_valid();
     output_types::places_dont_count();
-    link_facts::bodies_take_references();
+    link_runs::bodies_take_references();
     object_file::read_objects_are_sound();
     object_file::read_objects_are_spellable();
-    link_inputs::loaded_objects_are_sound();
-    link_facts::values_and_segments_fit();
-    link_facts::facts_hold();
+    link_runs::loaded_objects_are_sound();
+    link_runs::values_and_segments_fit();
+    link_runs::facts_hold();
     link_runs::links_run();
 }
 

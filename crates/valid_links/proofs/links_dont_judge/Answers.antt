@@ -1,5 +1,5 @@
-use Rattle.link_facts.specs.Facts.{bytes_of}
-use Rattle.link_facts.specs.link_worlds.link_rules.LinkOf.{link_of}
+use Rattle.link_runs.specs.link_facts.Facts.{bytes_of}
+use Rattle.link_runs.specs.link_facts.link_worlds.link_rules.LinkOf.{link_of}
 use Rattle.valid_links.proofs.Candidates.{candidates_read}
 use Rattle.valid_links.proofs.NoCheck.{link_free, not_check}
 use Rattle.valid_links.proofs.links_dont_judge.Goals as goal
