@@ -1,4 +1,7 @@
 //! Tables by hand: two functions of input 1, of which the first refers to the second and to a segment, and a segment with RETAIN.
+//!
+//! A function that makes a value lends it to the next one, and none has two of them where it may end early: each
+//! such end would be proved with all that is dropped there.
 ghost use Rattle.std.specs.Prelude.{◌≡◌, length, nat_lt};
 ghost use Rattle.std.specs.List.{list_all};
 
@@ -16,8 +19,7 @@ use live_mark::Edges;
 use made_symbols::Mode;
 use mark_bits::{Chunk, ChunkTable};
 use std::alloc::Global;
-use std::test::Fail;
-use wl_base::{Fault, FileSpan, Name, OutOfMemory, Seq, Span};
+use wl_base::{Fault, FileSpan, Name, Seq, Span};
 use wl_lists::Lists;
 use wl_rows::Rows;
 
@@ -26,20 +28,21 @@ const NOWHERE: FileSpan = FileSpan {
     span: Span { start: 0, len: 0 },
 };
 
-fn word(alloc: Global, name: &[u8]) -> Result<Name, OutOfMemory> {
-    Seq::from_slice(alloc, name)
+fn add_word(alloc: Global, words: &mut Seq<Name>, name: &[u8]) -> bool {
+    match Seq::from_slice(alloc, name) {
+        Ok(word) => words.push(word).is_ok(),
+        Err(_) => false,
+    }
 }
 
-/// `--entry main --export-if-defined extra`.
-fn plan(alloc: Global) -> Result<Plan, OutOfMemory> {
-    let mut exports_if = Seq::new(alloc);
-    exports_if.push(word(alloc, b"extra".as_slice())?)?;
-    Ok(Plan {
+/// A plan that asks for nothing.
+fn no_words(alloc: Global) -> Plan {
+    Plan {
         inputs: Seq::new(alloc),
         output: None,
-        entry: Some(word(alloc, b"main".as_slice())?),
+        entry: None,
         exports: Seq::new(alloc),
-        exports_if,
+        exports_if: Seq::new(alloc),
         wanted: Seq::new(alloc),
         export_dynamic: false,
         allow_undefined: false,
@@ -58,21 +61,45 @@ fn plan(alloc: Global) -> Result<Plan, OutOfMemory> {
         keep_debug: false,
         like_lld: false,
         loose_calls: false,
-    })
+    }
 }
 
-/// The linker-made names, and `main`, `extra`, `other`, `memory` as 12 to 15.
+/// `--entry main`.
+fn set_entry(alloc: Global, plan: &mut Plan) -> bool {
+    match Seq::from_slice(alloc, b"main".as_slice()) {
+        Ok(word) => {
+            plan.entry = Some(word);
+            true
+        }
+        Err(_) => false,
+    }
+}
+
+/// `--entry main --export-if-defined extra`.
+fn add_words(alloc: Global, plan: &mut Plan) -> bool {
+    set_entry(alloc, plan) && add_word(alloc, &mut plan.exports_if, b"extra".as_slice())
+}
+
+/// `main`, `extra`, `other`, `memory`: 12 to 15 behind the linker-made names.
+fn add_names(alloc: Global, words: &mut Seq<Name>) -> bool {
+    add_word(alloc, words, b"main".as_slice())
+        && add_word(alloc, words, b"extra".as_slice())
+        && add_word(alloc, words, b"other".as_slice())
+        && add_word(alloc, words, b"memory".as_slice())
+}
+
+fn names_of(alloc: Global, words: &[Name]) -> Option<Names> {
+    Names::new(alloc, Mode::Plain, words, &[], 100).ok()
+}
+
 fn names(alloc: Global) -> Option<Names> {
     let mut words = Seq::new(alloc);
-    for name in [
-        b"main".as_slice(),
-        b"extra".as_slice(),
-        b"other".as_slice(),
-        b"memory".as_slice(),
-    ] {
-        words.push(word(alloc, name).ok()?).ok()?;
-    }
-    Names::new(alloc, Mode::Plain, words.as_slice(), &[], 100).ok()
+    let names = if add_names(alloc, &mut words) {
+        names_of(alloc, words.as_slice())
+    } else {
+        None
+    };
+    names
 }
 
 fn function(input: u32, index: u32) -> Definition {
@@ -93,31 +120,56 @@ fn winner(input: u32, index: u32, name: u32, flags: u32) -> Winner {
     }
 }
 
-/// The names of the winners that are exported.
-fn exported(alloc: Global, dynamic: bool, winners: &[Winner]) -> Option<Seq<Winner>> {
-    let names = names(alloc)?;
-    let plan = plan(alloc).ok()?;
-    let asked = asked_names(alloc, &names, &plan).ok()?;
-    chosen(alloc, &asked, dynamic, winners).ok()
-}
+// ---- exports
 
-#[test]
-fn winners_are_exported_by_name_and_flags(rt: HostRuntime) -> Result<(), Fail> {
-    let winners = [
+fn candidates() -> [Winner; 5] {
+    [
         winner(0, 0, 0, HIDDEN),
         winner(1, 0, 12, HIDDEN),
         winner(1, 1, 14, 0),
         winner(2, 0, 13, HIDDEN),
         winner(2, 1, 15, EXPORTED | HIDDEN),
-    ];
-    let some = exported(rt.alloc(), false, &winners).ok_or("names")?;
-    assert_eq!(rt;
-        some.as_slice(),
-        [winners[1], winners[3], winners[4]].as_slice()
-    );
-    let most = exported(rt.alloc(), true, &winners).ok_or("names")?;
-    assert_eq!(rt; most.as_slice(), &winners[1..]);
-    Ok(())
+    ]
+}
+
+/// Whether just these are exported.
+fn are_chosen(alloc: Global, asked: &[bool], dynamic: bool, expected: &[Winner]) -> bool {
+    match chosen(alloc, asked, dynamic, &candidates()) {
+        Ok(found) => found.as_slice() == expected,
+        Err(_) => false,
+    }
+}
+
+/// Whether those that the words ask for are exported, and with `--export-dynamic` all but the linker's.
+fn both_are_chosen(alloc: Global, asked: &[bool]) -> bool {
+    let [_, first, second, third, last] = candidates();
+    are_chosen(alloc, asked, false, &[first, third, last])
+        && are_chosen(alloc, asked, true, &[first, second, third, last])
+}
+
+fn chosen_by(alloc: Global, names: &Names, plan: &Plan) -> bool {
+    match asked_names(alloc, names, plan) {
+        Ok(asked) => both_are_chosen(alloc, &asked),
+        Err(_) => false,
+    }
+}
+
+fn chosen_by_plan(alloc: Global, plan: &Plan) -> bool {
+    match names(alloc) {
+        Some(names) => chosen_by(alloc, &names, plan),
+        None => false,
+    }
+}
+
+fn winners_are_chosen(alloc: Global) -> bool {
+    let mut plan = no_words(alloc);
+    let holds = add_words(alloc, &mut plan) && chosen_by_plan(alloc, &plan);
+    holds
+}
+
+#[test]
+fn winners_are_exported_by_name_and_flags(rt: HostRuntime) {
+    assert!(rt; winners_are_chosen(rt.alloc()));
 }
 
 // ---- tables
@@ -127,25 +179,15 @@ fn chunk(input: u32, kind: u8, index: u32) -> Chunk {
 }
 
 /// Gives a chunk that isn't held the next number.
-fn put(table: &mut ChunkTable, c: Chunk) -> Option<u32> {
-    if table.count() < u32::MAX && table.find(c).is_none() {
-        table.add(c).ok()
-    } else {
-        None
-    }
+fn put(table: &mut ChunkTable, c: Chunk) -> bool {
+    table.count() < u32::MAX && table.find(c).is_none() && table.add(c).is_ok()
 }
 
-fn chunks(alloc: Global) -> Option<ChunkTable> {
-    let mut table = ChunkTable::new(alloc);
-    for c in [
-        chunk(0, 0, 0),
-        chunk(1, 0, 0),
-        chunk(1, 0, 1),
-        chunk(1, 1, 0),
-    ] {
-        put(&mut table, c)?;
-    }
-    Some(table)
+fn add_chunks(table: &mut ChunkTable) -> bool {
+    put(table, chunk(0, 0, 0))
+        && put(table, chunk(1, 0, 0))
+        && put(table, chunk(1, 0, 1))
+        && put(table, chunk(1, 1, 0))
 }
 
 fn symbol(kind: SymbolKind, lead: Lead) -> Symbol {
@@ -156,24 +198,51 @@ fn symbol(kind: SymbolKind, lead: Lead) -> Symbol {
     }
 }
 
+fn datum(input: u32, place: u32) -> Definition {
+    Definition {
+        kind: SymbolKind::Datum,
+        ..function(input, place)
+    }
+}
+
 /// Two functions, a datum of input 1, one of the linker, an import, and what means nothing.
-fn symbols(alloc: Global) -> Result<Seq<Symbol>, OutOfMemory> {
-    let datum = Definition {
-        kind: SymbolKind::Datum,
-        ..function(1, 0)
+fn add_symbols(to: &mut Seq<Symbol>) -> bool {
+    let first = symbol(SymbolKind::Function, Lead::Here(function(1, 0)));
+    let second = symbol(SymbolKind::Function, Lead::Here(function(1, 1)));
+    let own = symbol(SymbolKind::Datum, Lead::Here(datum(1, 0)));
+    let made = symbol(SymbolKind::Datum, Lead::Here(datum(0, 5)));
+    let import = symbol(SymbolKind::Function, Lead::Import(0));
+    let nothing = symbol(SymbolKind::Function, Lead::Nothing);
+    to.extend_from_slice(&[first, second, own, made, import, nothing])
+        .is_ok()
+}
+
+fn part(chunk: Chunk, content: Content) -> Part {
+    Part {
+        chunk,
+        content,
+        source: NOWHERE,
+    }
+}
+
+fn add_parts(to: &mut Seq<Part>) -> bool {
+    let retained = Content::Segment {
+        align: 0,
+        flags: RETAIN,
     };
-    let made = Definition {
-        kind: SymbolKind::Datum,
-        ..function(0, 5)
-    };
-    let mut symbols = Seq::new(alloc);
-    symbols.push(symbol(SymbolKind::Function, Lead::Here(function(1, 0))))?;
-    symbols.push(symbol(SymbolKind::Function, Lead::Here(function(1, 1))))?;
-    symbols.push(symbol(SymbolKind::Datum, Lead::Here(datum)))?;
-    symbols.push(symbol(SymbolKind::Datum, Lead::Here(made)))?;
-    symbols.push(symbol(SymbolKind::Function, Lead::Import(0)))?;
-    symbols.push(symbol(SymbolKind::Function, Lead::Nothing))?;
-    Ok(symbols)
+    let made = part(chunk(0, 0, 0), Content::Made);
+    let first = part(chunk(1, 0, 0), Content::Function(0));
+    let second = part(chunk(1, 0, 1), Content::Function(0));
+    let segment = part(chunk(1, 1, 0), retained);
+    to.extend_from_slice(&[made, first, second, segment])
+        .is_ok()
+}
+
+fn add_winners(to: &mut Seq<Winner>) -> bool {
+    let made = winner(0, 0, 0, NO_STRIP);
+    let first = winner(1, 0, 12, 0);
+    let second = winner(1, 1, 14, NO_STRIP);
+    to.extend_from_slice(&[made, first, second]).is_ok()
 }
 
 fn names_symbol(symbol: u32) -> Named {
@@ -185,32 +254,9 @@ fn names_symbol(symbol: u32) -> Named {
     }
 }
 
-fn part(chunk: Chunk, content: Content) -> Part {
-    Part {
-        chunk,
-        content,
-        source: NOWHERE,
-    }
-}
-
-fn parts(alloc: Global) -> Result<Seq<Part>, OutOfMemory> {
-    let retained = Content::Segment {
-        align: 0,
-        flags: RETAIN,
-    };
-    let mut parts = Seq::new(alloc);
-    parts.push(part(chunk(0, 0, 0), Content::Made))?;
-    parts.push(part(chunk(1, 0, 0), Content::Function(0)))?;
-    parts.push(part(chunk(1, 0, 1), Content::Function(0)))?;
-    parts.push(part(chunk(1, 1, 0), retained))?;
-    Ok(parts)
-}
-
 /// The first function names all symbols and a type, the second itself twice.
-fn named(alloc: Global) -> Result<Lists<Named>, OutOfMemory> {
-    let mut named = Lists::new(alloc);
-    named.push(&[])?;
-    named.push(&[
+fn add_named(to: &mut Lists<Named>) -> bool {
+    let all = [
         names_symbol(5),
         names_symbol(4),
         names_symbol(3),
@@ -220,85 +266,132 @@ fn named(alloc: Global) -> Result<Lists<Named>, OutOfMemory> {
             number: 0,
         },
         names_symbol(1),
-    ])?;
-    named.push(&[names_symbol(1), names_symbol(1)])?;
-    named.push(&[])?;
-    Ok(named)
+    ];
+    let twice = [names_symbol(1), names_symbol(1)];
+    to.push(&[]).is_ok() && to.push(&all).is_ok() && to.push(&twice).is_ok() && to.push(&[]).is_ok()
 }
 
-fn tables(alloc: Global) -> Option<Tables> {
-    let mut winners = Seq::new(alloc);
-    winners.push(winner(0, 0, 0, NO_STRIP)).ok()?;
-    winners.push(winner(1, 0, 12, 0)).ok()?;
-    winners.push(winner(1, 1, 14, NO_STRIP)).ok()?;
-    Some(Tables {
-        symbols: symbols(alloc).ok()?,
-        winners,
-        parts: parts(alloc).ok()?,
-        named: Rows::of(alloc, named(alloc).ok()?),
-        types: Seq::new(alloc),
-        chunks: chunks(alloc)?,
-        variants: Seq::new(alloc),
-    })
+fn rows(alloc: Global) -> Rows<Named> {
+    let mut named = Lists::new(alloc);
+    add_named(&mut named);
+    Rows::of(alloc, named)
 }
+
+/// Tables with the rows of what parts name, and nothing else.
+fn bare_tables(alloc: Global) -> Tables {
+    Tables {
+        symbols: Seq::new(alloc),
+        winners: Seq::new(alloc),
+        parts: Seq::new(alloc),
+        named: rows(alloc),
+        types: Seq::new(alloc),
+        chunks: ChunkTable::new(alloc),
+        variants: Seq::new(alloc),
+    }
+}
+
+fn fill(tables: &mut Tables) -> bool {
+    add_symbols(&mut tables.symbols)
+        && add_winners(&mut tables.winners)
+        && add_parts(&mut tables.parts)
+        && add_chunks(&mut tables.chunks)
+}
+
+/// What is looked at.
+#[derive(Clone, Copy)]
+enum Look {
+    Edges,
+    Roots,
+}
+
+fn look_at(alloc: Global, tables: &Tables, look: Look) -> bool {
+    match look {
+        Look::Edges => edges_are_told(alloc, tables),
+        Look::Roots => {
+            are_roots(alloc, tables, true, &[1, 2, 3])
+                && are_roots(alloc, tables, false, &[1, 2, 3, 1, 2, 3])
+        }
+    }
+}
+
+fn holds(alloc: Global, look: Look) -> bool {
+    let mut tables = bare_tables(alloc);
+    let holds = fill(&mut tables) && look_at(alloc, &tables, look);
+    holds
+}
+
+// ---- what parts refer to
 
 /// The numbers of the chunks to which the symbols lead.
-fn numbers(alloc: Global, tables: &Tables) -> Result<Vec<Option<u32>>, OutOfMemory> {
-    let mut numbers = Vec::new(alloc);
+fn add_numbers(to: &mut Seq<Option<u32>>, tables: &Tables) -> bool {
     for symbol in tables.symbols.as_slice() {
-        numbers.push(number_led(&tables.chunks, symbol.lead))?;
+        if to.push(number_led(&tables.chunks, symbol.lead)).is_err() {
+            return false;
+        }
     }
-    Ok(numbers)
+    true
+}
+
+fn add_targets(to: &mut Seq<u32>, edges: &PartEdges<'_>, chunk: u32) -> bool {
+    for item in edges.row(chunk) {
+        if push_some(to, edges.target(item)).is_err() {
+            return false;
+        }
+    }
+    true
 }
 
 /// Whether a part refers to just these chunks, in this order.
 fn refers_to(alloc: Global, edges: &PartEdges<'_>, chunk: u32, expected: &[u32]) -> bool {
     let mut targets = Seq::new(alloc);
-    for item in edges.row(chunk) {
-        if push_some(&mut targets, edges.target(item)).is_err() {
-            return false;
-        }
-    }
-    targets.as_slice() == expected
+    let holds = add_targets(&mut targets, edges, chunk) && targets.as_slice() == expected;
+    holds
 }
 
-#[test]
-fn parts_refer_to_chunks(rt: HostRuntime) -> Result<(), Fail> {
-    let tables = tables(rt.alloc()).ok_or("tables")?;
-    let led = numbers(rt.alloc(), &tables)?;
+fn all_refer(alloc: Global, edges: &PartEdges<'_>) -> bool {
+    edges.count() == 4
+        && refers_to(alloc, edges, 0, &[])
+        && refers_to(alloc, edges, 1, &[3, 2])
+        && refers_to(alloc, edges, 2, &[2, 2])
+        && refers_to(alloc, edges, 3, &[])
+        && refers_to(alloc, edges, 4, &[])
+}
+
+fn refer_by(alloc: Global, tables: &Tables, led: &[Option<u32>]) -> bool {
     let edges = PartEdges {
         rows: &tables.named,
-        led: &led,
+        led,
     };
-    assert_eq!(rt; edges.count(), 4);
-    for (chunk, expected) in [
-        (0u32, [].as_slice()),
-        (1, &[3, 2]),
-        (2, &[2, 2]),
-        (3, &[]),
-        (4, &[]),
-    ] {
-        assert!(rt; refers_to(rt.alloc(), &edges, chunk, expected));
-    }
-    Ok(())
+    all_refer(alloc, &edges)
 }
 
-/// The roots, where the tables are short.
-fn roots(alloc: Global, gc: bool) -> Option<Seq<u32>> {
-    let tables = tables(alloc)?;
-    if tables.parts.as_slice().len() >= 1 << 32 {
-        return None;
-    }
-    roots_of(alloc, &tables, gc, &[winner(1, 0, 12, 0)]).ok()
+fn edges_are_told(alloc: Global, tables: &Tables) -> bool {
+    let mut led = Seq::new(alloc);
+    let holds = add_numbers(&mut led, tables) && refer_by(alloc, tables, led.as_slice());
+    holds
 }
 
 #[test]
-fn roots_are_exports_and_what_is_kept(rt: HostRuntime) -> Result<(), Fail> {
-    let some = roots(rt.alloc(), true).ok_or("roots")?;
-    assert_eq!(rt; some.as_slice(), [1, 2, 3].as_slice());
-    let all = roots(rt.alloc(), false).ok_or("roots")?;
-    assert_eq!(rt; all.as_slice(), [1, 2, 3, 1, 2, 3].as_slice());
-    Ok(())
+fn parts_refer_to_chunks(rt: HostRuntime) {
+    assert!(rt; holds(rt.alloc(), Look::Edges));
+}
+
+// ---- roots
+
+/// Whether these are the roots, where the tables are short.
+fn are_roots(alloc: Global, tables: &Tables, gc: bool, expected: &[u32]) -> bool {
+    if tables.parts.as_slice().len() >= 1 << 32 {
+        return false;
+    }
+    match roots_of(alloc, tables, gc, &[winner(1, 0, 12, 0)]) {
+        Ok(roots) => roots.as_slice() == expected,
+        Err(_) => false,
+    }
+}
+
+#[test]
+fn roots_are_exports_and_what_is_kept(rt: HostRuntime) {
+    assert!(rt; holds(rt.alloc(), Look::Roots));
 }
 
 // ---- repeats
@@ -309,29 +402,53 @@ fn are_named(names: &Names, exports: &[Winner]) -> bool
     exports.iter().all(|export| export.name < names.count())
 }
 
-/// The name that is exported twice, and the inputs of both.
-#[tactic(auto, using(crate::proofs::Steps::all_below))]
-fn repeated(alloc: Global, imports_memory: bool, exports: &[Winner]) -> Option<Option<Fault>> {
-    let names = names(alloc)?;
-    let objects: [Object; 0] = [];
-    if !are_named(&names, exports) {
-        return None;
+/// Whether the fault is that `memory` is exported twice, by the linker first and then by this input.
+fn is_repeat(found: Option<&Fault>, other_input: u32) -> bool {
+    match found {
+        Some(Fault::Duplicate { name, first, other }) => {
+            name.as_slice() == b"memory".as_slice() && *first == 0 && *other == other_input
+        }
+        _ => false,
     }
-    first_repeat(alloc, &objects, &names, imports_memory, exports).ok()
+}
+
+/// Whether a name is exported twice, or none.
+#[tactic(auto, using(crate::proofs::Steps::all_below))]
+fn is_told(
+    alloc: Global,
+    names: &Names,
+    imports_memory: bool,
+    exports: &[Winner],
+    other_input: Option<u32>,
+) -> bool {
+    let objects: [Object; 0] = [];
+    if !are_named(names, exports) {
+        return false;
+    }
+    let found = first_repeat(alloc, &objects, names, imports_memory, exports);
+    match &found {
+        Ok(fault) => match other_input {
+            Some(input) => is_repeat(fault.as_ref(), input),
+            None => fault.is_none(),
+        },
+        Err(_) => false,
+    }
+}
+
+fn repeats_are_told(alloc: Global) -> bool {
+    let main = winner(1, 0, 12, 0);
+    let memory = winner(2, 0, 15, 0);
+    match names(alloc) {
+        Some(names) => {
+            is_told(alloc, &names, false, &[main], None)
+                && is_told(alloc, &names, true, &[main, memory], None)
+                && is_told(alloc, &names, false, &[main, memory], Some(2))
+        }
+        None => false,
+    }
 }
 
 #[test]
-fn the_second_export_of_a_name_is_told(rt: HostRuntime) -> Result<(), Fail> {
-    let alloc = rt.alloc();
-    let main = winner(1, 0, 12, 0);
-    let memory = winner(2, 0, 15, 0);
-    assert!(rt; repeated(alloc, false, &[main]) == Some(None));
-    assert!(rt; repeated(alloc, true, &[main, memory]) == Some(None));
-    let twice = Fault::Duplicate {
-        name: word(alloc, b"memory".as_slice())?,
-        first: 0,
-        other: 2,
-    };
-    assert!(rt; repeated(alloc, false, &[main, memory]) == Some(Some(twice)));
-    Ok(())
+fn the_second_export_of_a_name_is_told(rt: HostRuntime) {
+    assert!(rt; repeats_are_told(rt.alloc()));
 }
