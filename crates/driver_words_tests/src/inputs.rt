@@ -116,7 +116,11 @@ fn folders_and_libraries(rt: HostRuntime) -> Result<(), Fail> {
             "m.o -L-d -lx -o o",
             Want::Own("-o o --stack-first --keep-debug m.o ./-d/libx.a"),
         ),
-        (NONE, "- -o o", Want::Own("-o o --stack-first --keep-debug ./-")),
+        (
+            NONE,
+            "- -o o",
+            Want::Own("-o o --stack-first --keep-debug ./-"),
+        ),
     ];
     assert!(rt; all_stand_for(rt.alloc(), &cases));
     Ok(())
@@ -171,7 +175,9 @@ fn thin_libraries(rt: HostRuntime) -> Result<(), Fail> {
         (
             THIN_LIBRARY_OF_ONE,
             "m.o --whole-archive d/t.a --no-whole-archive -o o",
-            Want::Own("-o o --stack-first --keep-debug m.o --whole-archive d/a.o --no-whole-archive"),
+            Want::Own(
+                "-o o --stack-first --keep-debug m.o --whole-archive d/a.o --no-whole-archive",
+            ),
         ),
         (
             THIN_LIBRARY_OF_ONE,

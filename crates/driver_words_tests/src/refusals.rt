@@ -36,7 +36,9 @@ fn marks_and_words_that_are_told_of(rt: HostRuntime) -> Result<(), Fail> {
         (
             NONE,
             "m.o --whole-archive a.a --no-whole-archive b.a -o o",
-            Want::Own("-o o --stack-first --keep-debug m.o --whole-archive a.a --no-whole-archive b.a"),
+            Want::Own(
+                "-o o --stack-first --keep-debug m.o --whole-archive a.a --no-whole-archive b.a",
+            ),
         ),
         (
             NONE,

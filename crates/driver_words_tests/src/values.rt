@@ -49,7 +49,9 @@ fn names_and_switches(rt: HostRuntime) -> Result<(), Fail> {
         (
             NONE,
             "m.o --allow-undefined --export=f -o o",
-            Want::Own("-o o -u f --export-if-defined=f --allow-undefined --stack-first --keep-debug m.o"),
+            Want::Own(
+                "-o o -u f --export-if-defined=f --allow-undefined --stack-first --keep-debug m.o",
+            ),
         ),
         (
             NONE,
@@ -84,7 +86,11 @@ fn names_and_switches(rt: HostRuntime) -> Result<(), Fail> {
             "m.o --no-gc-sections -o o",
             Want::Own("-o o --no-gc-sections --stack-first --keep-debug m.o"),
         ),
-        (NONE, "m.o --no-stack-first -o o", Want::Own("-o o --keep-debug m.o")),
+        (
+            NONE,
+            "m.o --no-stack-first -o o",
+            Want::Own("-o o --keep-debug m.o"),
+        ),
         (
             NONE,
             "m.o --stack-first -o o",
@@ -141,7 +147,9 @@ fn numbers_and_the_memory(rt: HostRuntime) -> Result<(), Fail> {
         (
             NONE,
             "m.o --initial-memory=131072 --no-growable-memory -o o",
-            Want::Own("-o o --stack-first --initial-memory=131072 --max-memory=131072 --keep-debug m.o"),
+            Want::Own(
+                "-o o --stack-first --initial-memory=131072 --max-memory=131072 --keep-debug m.o",
+            ),
         ),
         (
             NONE,
@@ -166,7 +174,10 @@ fn numbers_and_the_memory(rt: HostRuntime) -> Result<(), Fail> {
         (
             NONE,
             "m.o -z now -o o",
-            Want::Warned("-o o --stack-first --keep-debug m.o", "unknown -z value: now\n"),
+            Want::Warned(
+                "-o o --stack-first --keep-debug m.o",
+                "unknown -z value: now\n",
+            ),
         ),
         (
             NONE,
@@ -263,11 +274,7 @@ fn words_that_strip(rt: HostRuntime) -> Result<(), Fail> {
             "m.o -o o --compress-relocations",
             Want::Own("-o o --stack-first --keep-debug m.o"),
         ),
-        (
-            NONE,
-            "m.o --s -o o",
-            Want::Line("unknown argument: --s"),
-        ),
+        (NONE, "m.o --s -o o", Want::Line("unknown argument: --s")),
     ];
     assert!(rt; all_stand_for(rt.alloc(), &cases));
     Ok(())
