@@ -33,6 +33,8 @@ Usage:
                              the memory and what stands where in it
   --whole-archive, --no-whole-archive, --start-lib, --end-lib
                              how what follows is loaded
+  -s, --strip-all, -S, --strip-debug
+                             leave out the debug sections, which else are kept
   --threads=N                so many workers, by default 4
   --fatal-warnings           a warning is an error
   --version, --help          this text, or the version

@@ -34,8 +34,8 @@ fn words_of(alloc: Global, line: &str) -> Result<Seq<Text>, OutOfMemory> {
     Ok(words)
 }
 
-// The exit status of a call by the words of a line.
-fn call<R: Threads + Sync>(
+/// The exit status of a call by the words of a line.
+pub fn call<R: Threads + Sync>(
     rt: &R,
     alloc: Global,
     line: &str,

@@ -1,11 +1,11 @@
 -- What items say together: each field is a filter of the items.
-use Rattle.std.specs.Prelude.{ℕ, min, Bool, true, false, ◌||◌, ◌==◌, List, [], codes, fold, if◌then◌else◌, unwrap_or, Option, Some, None}
+use Rattle.std.specs.Prelude.{ℕ, min, Bool, true, false, not, ◌||◌, ◌==◌, List, [], codes, fold, if◌then◌else◌, unwrap_or, Option, Some, None}
 use Rattle.std.specs.List.{list_any}
 use Rattle.std.specs.Option.{option_or}
 use Rattle.std.specs.Str.{bytes_eq}
 use Rattle.wl_base.specs.Choice.{given}
 use Rattle.driver_table.specs.declared.meaning.Meaning.{Meaning}
-use Rattle.driver_table.specs.declared.meaning.Meaning.TheVariants.{Input, Library, Entry, NoEntry, ImportMemory, ImportMemoryAs, ExportMemory, ExportMemoryAs, AllowUndefined, ImportUndefined, Unresolved, StackFirst, NoStackFirst, GlobalBase, StackSize, InitialMemory, MaxMemory, NoGrowableMemory, Threads, FatalWarnings, NoFatalWarnings}
+use Rattle.driver_table.specs.declared.meaning.Meaning.TheVariants.{Input, Library, Entry, NoEntry, ImportMemory, ImportMemoryAs, ExportMemory, ExportMemoryAs, AllowUndefined, ImportUndefined, Unresolved, StackFirst, NoStackFirst, GlobalBase, StackSize, InitialMemory, MaxMemory, NoGrowableMemory, Threads, FatalWarnings, NoFatalWarnings, Strip}
 use Rattle.driver_table.specs.Meanings.{same}
 use Rattle.driver_table.specs.Items.{Said}
 use Rattle.driver_table.specs.Texts.{line}
@@ -82,6 +82,10 @@ threads items = min (number Threads items) 64
 
 abbrev pub has_input : List Said → Bool
 has_input items = has Input items || has Library items
+
+-- debug sections are kept, as LLVM's wasm-ld keeps them, unless a word strips them
+abbrev pub keeps_debug : List Said → Bool
+keeps_debug items = not (has Strip items)
 
 -- warnings are errors
 abbrev pub fatal : List Said → Bool

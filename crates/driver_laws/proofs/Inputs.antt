@@ -242,6 +242,7 @@ of_item held folders inside whole meanings.Version value words e = nothing insid
 of_item held folders inside whole meanings.Help value words e = nothing inside whole words e
 of_item held folders inside whole meanings.Unresolved value words e = nothing inside whole words e
 of_item held folders inside whole meanings.Machine value words e = nothing inside whole words e
+of_item held folders inside whole meanings.Strip value words e = nothing inside whole words e
 
 -- ---- what all items give
 

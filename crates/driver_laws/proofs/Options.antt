@@ -19,10 +19,10 @@ use Rattle.driver_table.specs.Meanings.{same}
 use Rattle.driver_table.specs.Items.{Said}
 use Rattle.driver_table.specs.Texts.{line}
 use Rattle.driver_table.specs.Numbers.{amount}
-use Rattle.driver_fields.specs.Fields.{has, is_on, saying, latest, text, number, entry_said, entry, imported, allows_undefined, lenient, stack_first, stack_size, max_memory, threads, has_input}
+use Rattle.driver_fields.specs.Fields.{has, is_on, saying, latest, text, number, entry_said, entry, imported, allows_undefined, lenient, stack_first, stack_size, max_memory, threads, has_input, keeps_debug}
 use Rattle.driver_fields.specs.Own.{wanted, exported_if, undefined_words, export_of, export_words, export_if_words, name_words, name_switches, memory_switches, switch_words, numbered, stack_words, memory_numbers, number_words, output_words, own_words}
 use Rattle.driver_fields.specs.Lacking.{output_fault, memory_fault, range_fault, ranges_fault, within_stack, lacking}
-use Rattle.driver_laws.proofs.Pieces.{is_plain, AreOptions, none, both, when_so, each, flag, next_text, next_text_has, long_text, long_number, next_size, HaveKind, and_more}
+use Rattle.driver_laws.proofs.Pieces.{is_quiet, AreOptions, none, both, when_so, each, flag, next_text, next_text_has, long_text, long_number, next_size, HaveKind, and_more, Keep, and_debug}
 use Rattle.driver_laws.proofs.Numbers.{number_in_range}
 
 -- ---- faults that don't apply
@@ -160,14 +160,14 @@ switches_are items =
 -- ---- numbers
 
 number_are : (kind : Kind) (range : Range) (name : List ℕ) (n : ℕ) → row_of options name ≡ Some (record { kind = kind; takes = takes.Long (forms.Number range) }) → same_kind kind kinds.OnlyInputs ≡ false
-    → is_plain kind ≡ true → n < 2 ^ 64 → (nat_eq n 0 ≡ false → is_in range n ≡ true) → AreOptions (numbered (name ++ 61 ∷ []) n)
-number_are kind range name n row more plain small is = by (nat_eq n 0) refl
+    → is_quiet kind ≡ true → n < 2 ^ 64 → (nat_eq n 0 ≡ false → is_in range n ≡ true) → AreOptions (numbered (name ++ 61 ∷ []) n)
+number_are kind range name n row more quiet small is = by (nat_eq n 0) refl
   where
     by : (t : Bool) → nat_eq n 0 ≡ t → AreOptions (cond (not t) (line (name ++ 61 ∷ []) (decimal n) [] [] ∷ []) [])
     by true zero = none
     by false some =
         as_named (name ++ 61 ∷ []) (decimal n) (subst (λ (w : List ℕ). AreOptions (w ∷ [])) (sym (append_assoc name (61 ∷ []) (decimal n)))
-        (long_number kind range name (decimal n) row (number_in_range range n small (is some)) more plain))
+        (long_number kind range name (decimal n) row (number_in_range range n small (is some)) more quiet))
 
 -- a number of a range, where the text is in it
 number_fits : (name spelled : List ℕ) (most unit : ℕ) (t : Option (List ℕ)) → 0 % unit ≡ 0 → range_fault name most unit spelled t ≡ None → (amount_or t ≤ most) × (amount_or t % unit ≡ 0)
@@ -294,11 +294,13 @@ stands items e =
     five None None (Some line) d f e = absurd cc
 
 -- The words before the inputs.
-pub own_have : (items : List Said) → lacking items ≡ None → HaveKind kinds.Output (own_words items)
+pub own_have : (items : List Said) → lacking items ≡ None → Keep (keeps_debug items) (own_words items)
 unfolding own_words
 own_have items e =
     let s = stands items e in
     let f = fit items s.1 in
+    and_debug (keeps_debug items) ((((output_words (text Output items) ++ option_to_list (entry items)) ++ name_words items) ++ switch_words items) ++ number_words items)
+    (
     and_more kinds.Output (((output_words (text Output items) ++ option_to_list (entry items)) ++ name_words items) ++ switch_words items) (number_words items)
     (
     and_more kinds.Output ((output_words (text Output items) ++ option_to_list (entry items)) ++ name_words items) (switch_words items)
@@ -310,3 +312,4 @@ own_have items e =
     (switches_are items)
     )
     (numbers_are items f)
+    )

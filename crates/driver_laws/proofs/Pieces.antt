@@ -1,5 +1,5 @@
 -- Words as they are spelled, an option or an input at a time.
-use Rattle.std.proofs.Common.{◌≡◌, inr, ℕ, ◌+◌, Bool, true, false, not, ◌||◌, cond, List, [], ◌∷◌, ◌++◌, length, flat_map, Some, refl, sym, ap, subst, ◌∙◌, append_assoc, append-nil}
+use Rattle.std.proofs.Common.{◌≡◌, inr, ℕ, ◌+◌, Bool, true, false, not, ◌&&◌, ◌||◌, cond, List, [], ◌∷◌, ◌++◌, length, flat_map, Some, refl, sym, ap, subst, ◌∙◌, append_assoc, append-nil}
 use Rattle.std.specs.List.{list_any}
 use Rattle.std.specs.Prelude.{IsSome, codes}
 use Rattle.link_words.specs.declared.kind.Kind.{Kind}
@@ -59,23 +59,32 @@ all_both P (p ∷ ps) b x y = (x.0, all_both P ps b x.1 y)
 abbrev pub is_plain : Kind → Bool
 is_plain kind = not (same kind kinds.Input || (same kind kinds.StartLib || (same kind kinds.EndLib || (same kind kinds.WholeArchive || (same kind kinds.NoWholeArchive || same kind kinds.MakeCase)))))
 
+-- of these all but the one that keeps debug sections
+abbrev pub is_quiet : Kind → Bool
+is_quiet kind = is_plain kind && not (same kind kinds.KeepDebug)
+
 pub record IsOption (p : Piece) : Type 0 where
   pub spelled : IsSpelled p
   pub plain : is_plain p.kind ≡ true
+
+abbrev pub IsQuiet : Piece → Type 0
+IsQuiet p = is_quiet p.kind ≡ true
 
 pub record AreOptions (words : List (List ℕ)) : Type 0 where
   pub pieces : List Piece
   pub words_are : words ≡ words_of pieces
   pub all : Every IsOption pieces
+  pub quiet : Every IsQuiet pieces
 
 pub none : AreOptions []
-none = record { pieces = []; words_are = refl; all = tt }
+none = record { pieces = []; words_are = refl; all = tt; quiet = tt }
 
 pub both : (a b : List (List ℕ)) → AreOptions a → AreOptions b → AreOptions (a ++ b)
 both a b x y = record {
   pieces = x.pieces ++ y.pieces;
   words_are = (λ i. x.words_are i ++ y.words_are i) ∙ sym (words_both x.pieces y.pieces);
   all = all_both IsOption x.pieces y.pieces x.all y.all;
+  quiet = all_both IsQuiet x.pieces y.pieces x.quiet y.quiet;
 }
 
 pub when_so : (test : Bool) (words : List (List ℕ)) → AreOptions words → AreOptions (cond test words [])
@@ -86,40 +95,48 @@ pub each : {A : Type 0} (f : A → List (List ℕ)) → ((x : A) → AreOptions 
 each f h [] = none
 each f h (x ∷ xs) = both (f x) (flat_map f xs) (h x) (each f h xs)
 
+is_option : (kind : Kind) (name value : List ℕ) (t : Takes) (own : List (List ℕ)) → row_of options name ≡ Some (record { kind = kind; takes = t }) → SpellsValue t name value own
+    → same kind kinds.OnlyInputs ≡ false → is_plain kind ≡ true → IsOption (record { kind = kind; value = value; own = own })
+is_option kind name value t own row spelled more plain = record {
+  spelled = record { spells = λ at. inr (inr (record { name = name; takes = t; is_option = row; spelled = spelled })); more = more };
+  plain = plain;
+}
+
+and_first : (a b : Bool) → (a && b) ≡ true → a ≡ true
+and_first true b h = refl
+and_first false b h = absurd cc
+
 option : (kind : Kind) (name value : List ℕ) (t : Takes) (own : List (List ℕ)) → row_of options name ≡ Some (record { kind = kind; takes = t }) → SpellsValue t name value own
-    → same kind kinds.OnlyInputs ≡ false → is_plain kind ≡ true → AreOptions own
-option kind name value t own row spelled more plain =
+    → same kind kinds.OnlyInputs ≡ false → is_quiet kind ≡ true → AreOptions own
+option kind name value t own row spelled more quiet =
     let piece : Piece = record { kind = kind; value = value; own = own } in
-    let one : IsOption piece = record {
-      spelled = record { spells = λ at. inr (inr (record { name = name; takes = t; is_option = row; spelled = spelled })); more = more };
-      plain = plain;
-    } in
-    record { pieces = piece ∷ []; words_are = sym (append-nil own); all = (one, tt) }
+    let one = is_option kind name value t own row spelled more (and_first (is_plain kind) (not (same kind kinds.KeepDebug)) quiet) in
+    record { pieces = piece ∷ []; words_are = sym (append-nil own); all = (one, tt); quiet = (quiet, tt) }
 
 -- an option without a value
-pub flag : (kind : Kind) (name : List ℕ) → row_of options name ≡ Some (record { kind = kind; takes = takes.Nothing }) → same kind kinds.OnlyInputs ≡ false → is_plain kind ≡ true → AreOptions (name ∷ [])
-flag kind name row more plain = option kind name [] takes.Nothing (name ∷ []) row (refl, refl) more plain
+pub flag : (kind : Kind) (name : List ℕ) → row_of options name ≡ Some (record { kind = kind; takes = takes.Nothing }) → same kind kinds.OnlyInputs ≡ false → is_quiet kind ≡ true → AreOptions (name ∷ [])
+flag kind name row more quiet = option kind name [] takes.Nothing (name ∷ []) row (refl, refl) more quiet
 
 -- an option with a text in the next word
-pub next_text : (kind : Kind) (name text : List ℕ) → row_of options name ≡ Some (record { kind = kind; takes = takes.Next forms.Text }) → same kind kinds.OnlyInputs ≡ false → is_plain kind ≡ true
+pub next_text : (kind : Kind) (name text : List ℕ) → row_of options name ≡ Some (record { kind = kind; takes = takes.Next forms.Text }) → same kind kinds.OnlyInputs ≡ false → is_quiet kind ≡ true
     → AreOptions (name ∷ text ∷ [])
-next_text kind name text row more plain = option kind name text (takes.Next forms.Text) (name ∷ text ∷ []) row (text, refl, refl) more plain
+next_text kind name text row more quiet = option kind name text (takes.Next forms.Text) (name ∷ text ∷ []) row (text, refl, refl) more quiet
 
 -- an option with a text behind `=`
-pub long_text : (kind : Kind) (name text : List ℕ) → row_of options name ≡ Some (record { kind = kind; takes = takes.Long forms.Text }) → same kind kinds.OnlyInputs ≡ false → is_plain kind ≡ true
+pub long_text : (kind : Kind) (name text : List ℕ) → row_of options name ≡ Some (record { kind = kind; takes = takes.Long forms.Text }) → same kind kinds.OnlyInputs ≡ false → is_quiet kind ≡ true
     → AreOptions ((name ++ 61 ∷ text) ∷ [])
-long_text kind name text row more plain = option kind name text (takes.Long forms.Text) ((name ++ 61 ∷ text) ∷ []) row (text, refl, inr refl) more plain
+long_text kind name text row more quiet = option kind name text (takes.Long forms.Text) ((name ++ 61 ∷ text) ∷ []) row (text, refl, inr refl) more quiet
 
 -- an option with a number behind `=`
 pub long_number : (kind : Kind) (range : Range) (name text : List ℕ) → row_of options name ≡ Some (record { kind = kind; takes = takes.Long (forms.Number range) }) → IsSome (number_in range text)
-    → same kind kinds.OnlyInputs ≡ false → is_plain kind ≡ true → AreOptions ((name ++ 61 ∷ text) ∷ [])
-long_number kind range name text row number more plain = option kind name text (takes.Long (forms.Number range)) ((name ++ 61 ∷ text) ∷ []) row (text, (refl, number), inr refl) more plain
+    → same kind kinds.OnlyInputs ≡ false → is_quiet kind ≡ true → AreOptions ((name ++ 61 ∷ text) ∷ [])
+long_number kind range name text row number more quiet = option kind name text (takes.Long (forms.Number range)) ((name ++ 61 ∷ text) ∷ []) row (text, (refl, number), inr refl) more quiet
 
 -- the size of the stack
 pub next_size : (kind : Kind) (name front value : List ℕ) → row_of options name ≡ Some (record { kind = kind; takes = takes.Next forms.StackSize }) → front ≡ codes "stack-size" → IsSome (number_in Stack value)
-    → same kind kinds.OnlyInputs ≡ false → is_plain kind ≡ true → AreOptions (name ∷ (front ++ 61 ∷ value) ∷ [])
-next_size kind name front value row is number more plain =
-    option kind name value (takes.Next forms.StackSize) (name ∷ (front ++ 61 ∷ value) ∷ []) row (front ++ 61 ∷ value, (ap (λ (f : List ℕ). f ++ 61 ∷ value) is, number), refl) more plain
+    → same kind kinds.OnlyInputs ≡ false → is_quiet kind ≡ true → AreOptions (name ∷ (front ++ 61 ∷ value) ∷ [])
+next_size kind name front value row is number more quiet =
+    option kind name value (takes.Next forms.StackSize) (name ∷ (front ++ 61 ∷ value) ∷ []) row (front ++ 61 ∷ value, (ap (λ (f : List ℕ). f ++ 61 ∷ value) is, number), refl) more quiet
 
 -- ---- a kind among options
 
@@ -131,10 +148,10 @@ pub record HaveKind (kind : Kind) (words : List (List ℕ)) : Type 0 where
   pub has : has_kind kind options.pieces ≡ true
 
 -- an option with a text in the next word has its kind
-pub next_text_has : (kind : Kind) (name text : List ℕ) → row_of options name ≡ Some (record { kind = kind; takes = takes.Next forms.Text }) → same kind kinds.OnlyInputs ≡ false → is_plain kind ≡ true
+pub next_text_has : (kind : Kind) (name text : List ℕ) → row_of options name ≡ Some (record { kind = kind; takes = takes.Next forms.Text }) → same kind kinds.OnlyInputs ≡ false → is_quiet kind ≡ true
     → same kind kind ≡ true → HaveKind kind (name ∷ text ∷ [])
 unfolding next_text option
-next_text_has kind name text row more plain itself = record { options = next_text kind name text row more plain; has = (λ i. itself i || false) }
+next_text_has kind name text row more quiet itself = record { options = next_text kind name text row more quiet; has = (λ i. itself i || false) }
 
 or_left : (a b c : Bool) → (b ≡ true → c ≡ true) → (a || b) ≡ true → (a || c) ≡ true
 or_left true b c rest h = refl
@@ -147,3 +164,51 @@ any_left kind (p ∷ ps) b h = or_left (same p.kind kind) (has_kind kind ps) (ha
 pub and_more : (kind : Kind) (a b : List (List ℕ)) → HaveKind kind a → AreOptions b → HaveKind kind (a ++ b)
 unfolding both
 and_more kind a b x y = record { options = both a b x.options y; has = any_left kind x.options.pieces y.pieces x.has }
+
+-- ---- the word that keeps debug sections
+
+not_second : (a b : Bool) → (a && not b) ≡ true → b ≡ false
+not_second true true h = absurd cc
+not_second true false h = refl
+not_second false b h = absurd cc
+
+quiet_kind : (kind : Kind) → is_quiet kind ≡ true → same kind kinds.KeepDebug ≡ false
+quiet_kind kind h = not_second (is_plain kind) (same kind kinds.KeepDebug) h
+
+behind_quiet : (ps more : List Piece) (keeps : Bool) → Every IsQuiet ps → has_kind kinds.KeepDebug more ≡ keeps → has_kind kinds.KeepDebug (ps ++ more) ≡ keeps
+behind_quiet [] more keeps all h = h
+behind_quiet (p ∷ ps) more keeps all h = (λ i. quiet_kind p.kind all.0 i || has_kind kinds.KeepDebug (ps ++ more)) ∙ behind_quiet ps more keeps all.1 h
+
+debug_pieces : Bool → List Piece
+debug_pieces true = record { kind = kinds.KeepDebug; value = []; own = codes "--keep-debug" ∷ [] } ∷ []
+debug_pieces false = []
+
+-- options with an output, which keep debug sections or don't
+pub record Keep (keeps : Bool) (words : List (List ℕ)) : Type 0 where
+  pub pieces : List Piece
+  pub words_are : words ≡ words_of pieces
+  pub all : Every IsOption pieces
+  pub output : has_kind kinds.Output pieces ≡ true
+  pub debug : has_kind kinds.KeepDebug pieces ≡ keeps
+
+pub and_debug : (keeps : Bool) (words : List (List ℕ)) → HaveKind kinds.Output words → Keep keeps (words ++ cond keeps (codes "--keep-debug" ∷ []) [])
+unfolding debug_pieces
+and_debug keeps words x = record {
+  pieces = x.options.pieces ++ debug_pieces keeps;
+  words_are = (λ i. x.options.words_are i ++ are_words keeps i) ∙ sym (words_both x.options.pieces (debug_pieces keeps));
+  all = all_both IsOption x.options.pieces (debug_pieces keeps) x.options.all (are_options keeps);
+  output = any_left kinds.Output x.options.pieces (debug_pieces keeps) x.has;
+  debug = behind_quiet x.options.pieces (debug_pieces keeps) keeps x.options.quiet (have_word keeps);
+}
+  where
+    are_words : (keeps : Bool) → cond keeps (codes "--keep-debug" ∷ []) [] ≡ words_of (debug_pieces keeps)
+    are_words true = refl
+    are_words false = refl
+
+    are_options : (keeps : Bool) → Every IsOption (debug_pieces keeps)
+    are_options true = (is_option kinds.KeepDebug (codes "--keep-debug") [] takes.Nothing (codes "--keep-debug" ∷ []) refl (refl, refl) refl refl, tt)
+    are_options false = tt
+
+    have_word : (keeps : Bool) → has_kind kinds.KeepDebug (debug_pieces keeps) ≡ keeps
+    have_word true = refl
+    have_word false = refl

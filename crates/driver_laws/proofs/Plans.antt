@@ -1,4 +1,4 @@
--- The linker's own words have a plan, whose inputs are the files that are named.
+-- The linker's own words have a plan, whose inputs are the files that are named, and which keeps debug sections or doesn't.
 use Rattle.std.proofs.Common.{◌≡◌, ℕ, ◌+◌, Bool, true, false, not, ◌&&◌, ◌||◌, cond, List, [], ◌∷◌, ◌++◌, length, drop, map, unwrap_or, Option, Some, None, is_some, Result, Ok, Err, IsOk, refl, sym, ap, subst, ◌∙◌, append_assoc, length-append}
 use Rattle.std.specs.Prelude.{codes}
 use Rattle.std.specs.Option.{option_or, option_map}
@@ -23,14 +23,14 @@ use Rattle.driver_table.specs.Texts.{line}
 use Rattle.driver_table.specs.Cut.{behind, cut_of}
 use Rattle.driver_fields.specs.Values.{values_fault}
 use Rattle.driver_fields.specs.Lacking.{lacking}
-use Rattle.driver_fields.specs.Fields.{fatal}
+use Rattle.driver_fields.specs.Fields.{fatal, keeps_debug}
 use Rattle.driver_fields.specs.Own.{own_words, warnings}
 use Rattle.driver_words.specs.Expand.{expanded_to}
 use Rattle.driver_words.specs.Inputs.{folders_of, inputs_of}
 use Rattle.driver_words.specs.declared.answer.What.{What}
 use Rattle.driver_words.specs.declared.answer.Answer.TheVariants.{Links, Refuses}
 use Rattle.driver_words.specs.Translated.{World, then_answer, unless_refused, unless_said, links, asked, has_path, with_path, linked, answered, not_deeper, cut_and_answered, translated_words, is_flavor, under_flavor, first_and_rest, flavored_by, behind_flavor, translated_by}
-use Rattle.driver_laws.specs.Laws.{File, file, named_files, planned_files, OwnWordsHavePlans, PlansNameTheFiles}
+use Rattle.driver_laws.specs.Laws.{File, file, named_files, planned_files, OwnWordsHavePlans, PlansNameTheFiles, PlansKeepDebug}
 use Rattle.driver_laws.proofs.Pieces.{Every, Piece, IsSpelled, IsOption, is_plain, has_kind, words_of, words_both, placed, cuts, any_left}
 use Rattle.driver_laws.proofs.Options.{own_have}
 use Rattle.driver_laws.proofs.Inputs.{Mark, input, opens, closes, wholes, parts, piece_of, IsPlain, mark_spelled, nested, files_in, inputs_are}
@@ -265,12 +265,27 @@ linked_by held items own told f (Ok words) is e = by (has_path (drop (length (ow
       some = ap has_path (sym (drop_front (own_words items) words)) ∙ some;
     }
 
+-- ---- options alone keep debug sections
+
+marks_quiet : (ms : List Mark) (at : ℕ) → has kinds.KeepDebug (placed at (marked ms)) ≡ false
+marks_quiet [] at = refl
+marks_quiet (input p ∷ ms) at = marks_quiet ms (at + 1)
+marks_quiet (opens ∷ ms) at = marks_quiet ms (at + 1)
+marks_quiet (closes ∷ ms) at = marks_quiet ms (at + 1)
+marks_quiet (wholes ∷ ms) at = marks_quiet ms (at + 1)
+marks_quiet (parts ∷ ms) at = marks_quiet ms (at + 1)
+
+options_debug : (ps more : List Piece) (at : ℕ) → ((at : ℕ) → has kinds.KeepDebug (placed at more) ≡ false) → has kinds.KeepDebug (placed at (ps ++ more)) ≡ has_kind kinds.KeepDebug ps
+options_debug [] more at h = h at
+options_debug (p ∷ ps) more at h = ap (λ (t : Bool). same p.kind kinds.KeepDebug || t) (options_debug ps more (at + length p.own) h)
+
 -- ---- the plan
 
 record Planned (held : World) (items : List Said) (own : List (List ℕ)) : Type 0 where
   plan : Plan
   is : plan_of own ≡ Ok plan
   names : planned_files own plan ≡ named_files held items
+  debug : plan.keep_debug ≡ keeps_debug items
 
 all_spelled : (ps : List Piece) (ms : List Mark) → Every IsOption ps → Every IsPlain ms → Every IsSpelled (ps ++ marked ms)
 all_spelled [] [] a b = tt
@@ -282,18 +297,19 @@ unfolding plan_from
 planned laws held items own lacks l =
     let o = own_have items lacks in
     let i = inputs_are held (folders_of items) items false false l.words l.inputs_are in
-    let ps = o.options.pieces in
+    let ps = o.pieces in
     let all = ps ++ marked i.marks in
-    let own_is : own ≡ words_of all = sym l.own_is ∙ (λ j. o.options.words_are j ++ i.words_are j) ∙ sym (words_both ps (marked i.marks)) in
-    let whole : Whole ps i.marks = record { all = o.options.all; output = o.has; nests = i.nests; some = ap has_path (sym i.words_are) ∙ l.some } in
-    let cut = subst (λ (ws : List (List ℕ)). Cuts false 0 (placed 0 all) ws) (sym own_is) (cuts all 0 (all_spelled ps i.marks o.options.all i.plain)) in
+    let own_is : own ≡ words_of all = sym l.own_is ∙ (λ j. o.words_are j ++ i.words_are j) ∙ sym (words_both ps (marked i.marks)) in
+    let whole : Whole ps i.marks = record { all = o.all; output = o.output; nests = i.nests; some = ap has_path (sym i.words_are) ∙ l.some } in
+    let cut = subst (λ (ws : List (List ℕ)). Cuts false 0 (placed 0 all) ws) (sym own_is) (cuts all 0 (all_spelled ps i.marks o.all i.plain)) in
     record {
       plan = plan_from (placed 0 all);
       is = (laws own (plan_from (placed 0 all))).1 (placed 0 all, cut, no_fault ps i.marks whole, refl);
       names =
           ap (λ (ws : List (List ℕ)). map (look ws) (inputs (placed 0 all))) own_is
-          ∙ options_look ps (marked i.marks) (files_in false false i.marks) o.options.all (λ front. marks_look i.marks front false false) []
+          ∙ options_look ps (marked i.marks) (files_in false false i.marks) o.all (λ front. marks_look i.marks front false false) []
           ∙ i.lists;
+      debug = options_debug ps (marked i.marks) 0 (marks_quiet i.marks) ∙ o.debug;
     }
 
 of_answer : PlansAreCuts → (held : World) (items : List Said) (own told : List (List ℕ)) (f : Bool) → answered held items ≡ Links own told f → Planned held items own
@@ -312,6 +328,11 @@ pub name_files : PlansAreCuts → PlansNameTheFiles
 name_files laws held items own told f plan e is =
     let p = of_answer laws held items own told f e in
     ap (planned_files own) (same_plan own plan p.plan is p.is) ∙ p.names
+
+pub keep_debug : PlansAreCuts → PlansKeepDebug
+keep_debug laws held items own told f plan e is =
+    let p = of_answer laws held items own told f e in
+    ap (λ (q : Plan). q.keep_debug) (same_plan own plan p.plan is p.is) ∙ p.debug
 
 -- ---- from the words
 

@@ -1,14 +1,16 @@
-//! What holds of the words that drivers' words stand for: the linker has a plan of them, and its inputs are the files that drivers' words
-//! name.
+//! What holds of the words that drivers' words stand for: the linker has a plan of them, its inputs are the files that drivers' words
+//! name, and it keeps debug sections unless a word strips them.
 #![tactic(auto)]
 
-ghost use Rattle.driver_laws.specs.Laws.{OwnWordsHavePlans, PlansNameTheFiles};
+ghost use Rattle.driver_laws.specs.Laws.{OwnWordsHavePlans, PlansNameTheFiles, PlansKeepDebug};
 
 /// The linker's own words that a translation gives have a plan, so that no line speaks of words that nobody wrote. Its inputs are the files
-/// that were named and found, in their order and with their modes.
+/// that were named and found, in their order and with their modes. It keeps debug sections, unless one of the words `-s`, `-S`,
+/// `--strip-all` and `--strip-debug` was there.
 pub fn own_words_have_plans()
     ensures plans { OwnWordsHavePlans }
     ensures files { PlansNameTheFiles }
+    ensures debug { PlansKeepDebug }
 {
     link_words::laws::words_are_cut();
 }

@@ -1,7 +1,7 @@
 -- Meanings, told apart by their numbers.
 use Rattle.std.specs.Prelude.{ℕ, Bool, ◌==◌}
 use Rattle.driver_table.specs.declared.meaning.Meaning.{Meaning}
-use Rattle.driver_table.specs.declared.meaning.Meaning.TheVariants.{Input, Drop, Warn, Refuse, Output, Entry, NoEntry, Export, ExportIfDefined, Undefined, ExportDynamic, NoExportDynamic, ExportTable, AllowUndefined, ImportUndefined, GcSections, NoGcSections, StackFirst, NoStackFirst, GlobalBase, InitialMemory, MaxMemory, NoGrowableMemory, ImportMemory, ImportMemoryAs, ExportMemory, ExportMemoryAs, StackSize, Threads, Quoting, WholeArchive, NoWholeArchive, StartLib, EndLib, Library, Folder, Shared, Relocatable, FatalWarnings, NoFatalWarnings, TableBase, PageSize, InitialHeap, Version, Help, Unresolved, Machine, Z}
+use Rattle.driver_table.specs.declared.meaning.Meaning.TheVariants.{Input, Drop, Warn, Refuse, Output, Entry, NoEntry, Export, ExportIfDefined, Undefined, ExportDynamic, NoExportDynamic, ExportTable, AllowUndefined, ImportUndefined, GcSections, NoGcSections, StackFirst, NoStackFirst, GlobalBase, InitialMemory, MaxMemory, NoGrowableMemory, ImportMemory, ImportMemoryAs, ExportMemory, ExportMemoryAs, StackSize, Threads, Quoting, WholeArchive, NoWholeArchive, StartLib, EndLib, Library, Folder, Shared, Relocatable, FatalWarnings, NoFatalWarnings, TableBase, PageSize, InitialHeap, Version, Help, Unresolved, Machine, Z, Strip}
 
 abbrev pub code : Meaning → ℕ
 code Input = 0
@@ -52,6 +52,7 @@ code Help = 44
 code Unresolved = 45
 code Machine = 46
 code Z = 47
+code Strip = 48
 
 -- whether two meanings are one
 abbrev pub same : Meaning → Meaning → Bool

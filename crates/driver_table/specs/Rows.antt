@@ -5,7 +5,7 @@ use Rattle.std.specs.Prelude.{ℕ, Bool, true, false, not, List, [], ◌∷◌, 
 use Rattle.std.specs.Str.{bytes_eq}
 use Rattle.std.specs.Option.{option_or}
 use Rattle.driver_table.specs.declared.meaning.Meaning.{Meaning}
-use Rattle.driver_table.specs.declared.meaning.Meaning.TheVariants.{Drop, Warn, Refuse, Output, Entry, NoEntry, Export, ExportIfDefined, Undefined, ExportDynamic, NoExportDynamic, ExportTable, AllowUndefined, ImportUndefined, GcSections, NoGcSections, StackFirst, NoStackFirst, GlobalBase, InitialMemory, MaxMemory, NoGrowableMemory, ImportMemory, ImportMemoryAs, ExportMemory, ExportMemoryAs, Threads, Quoting, WholeArchive, NoWholeArchive, StartLib, EndLib, Library, Folder, Shared, Relocatable, FatalWarnings, NoFatalWarnings, TableBase, PageSize, InitialHeap, Version, Help, Unresolved, Machine, Z}
+use Rattle.driver_table.specs.declared.meaning.Meaning.TheVariants.{Drop, Warn, Refuse, Output, Entry, NoEntry, Export, ExportIfDefined, Undefined, ExportDynamic, NoExportDynamic, ExportTable, AllowUndefined, ImportUndefined, GcSections, NoGcSections, StackFirst, NoStackFirst, GlobalBase, InitialMemory, MaxMemory, NoGrowableMemory, ImportMemory, ImportMemoryAs, ExportMemory, ExportMemoryAs, Threads, Quoting, WholeArchive, NoWholeArchive, StartLib, EndLib, Library, Folder, Shared, Relocatable, FatalWarnings, NoFatalWarnings, TableBase, PageSize, InitialHeap, Version, Help, Unresolved, Machine, Z, Strip}
 use Rattle.driver_table.specs.declared.rows.Dashes.{Dashes}
 use Rattle.driver_table.specs.declared.rows.Dashes.TheVariants.{One, Two, Any}
 use Rattle.driver_table.specs.declared.rows.Row.{Row}
@@ -36,7 +36,7 @@ switches =
     ∷ row (codes "no-fatal-warnings") Any NoFatalWarnings
     ∷ []
 
--- words whose place counts, the other outputs, what is said in place of a link, and what is stripped: no debug section is kept
+-- words whose place counts, the other outputs, what is said in place of a link, and words that strip debug sections
 abbrev pub marks : List (List ℕ × Row)
 marks =
     row (codes "whole-archive") Any WholeArchive
@@ -50,10 +50,10 @@ marks =
     ∷ row (codes "v") One Version
     ∷ row (codes "V") One Version
     ∷ row (codes "help") Any Help
-    ∷ row (codes "strip-all") Any Drop
-    ∷ row (codes "s") One Drop
-    ∷ row (codes "strip-debug") Any Drop
-    ∷ row (codes "S") One Drop
+    ∷ row (codes "strip-all") Any Strip
+    ∷ row (codes "s") One Strip
+    ∷ row (codes "strip-debug") Any Strip
+    ∷ row (codes "S") One Strip
     ∷ []
 
 -- words that are dropped: what they ask for is so, or concerns bitcode or text alone

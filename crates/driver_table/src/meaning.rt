@@ -101,6 +101,8 @@ pub enum Meaning {
     Machine,
     /// A value of `-z` that isn't known.
     Z,
+    /// Debug sections are left out.
+    Strip,
 }
 
 impl Meaning {

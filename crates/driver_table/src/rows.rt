@@ -56,7 +56,7 @@ fn switches(name: &str) -> Option<Row>
     }
 }
 
-// Words whose place counts, the other outputs, and what is said in place of a link.
+// Words whose place counts, the other outputs, what is said in place of a link, and words that strip.
 fn marks(name: &str) -> Option<Row>
     ensures { result ≡ row_of rows_of_marks name.now }
 {
@@ -72,10 +72,10 @@ fn marks(name: &str) -> Option<Row>
         "v" => found(Dashes::One, Meaning::Version),
         "V" => found(Dashes::One, Meaning::Version),
         "help" => found(Dashes::Any, Meaning::Help),
-        "strip-all" => found(Dashes::Any, Meaning::Drop),
-        "s" => found(Dashes::One, Meaning::Drop),
-        "strip-debug" => found(Dashes::Any, Meaning::Drop),
-        "S" => found(Dashes::One, Meaning::Drop),
+        "strip-all" => found(Dashes::Any, Meaning::Strip),
+        "s" => found(Dashes::One, Meaning::Strip),
+        "strip-debug" => found(Dashes::Any, Meaning::Strip),
+        "S" => found(Dashes::One, Meaning::Strip),
         _ => None,
     }
 }

@@ -69,28 +69,28 @@ fn words_of_clang(rt: HostRuntime) -> Result<(), Fail> {
             SYSROOT,
             "-m wasm32 -LSR SR/crt1-command.o m-1.o -lc RT/libclang_rt.builtins-wasm32.a -o m",
             Want::Own(
-                "-o m --stack-first SR/crt1.o m-1.o SR/libc.a RT/libclang_rt.builtins-wasm32.a",
+                "-o m --stack-first --keep-debug SR/crt1.o m-1.o SR/libc.a RT/libclang_rt.builtins-wasm32.a",
             ),
         ),
         (
             SYSROOT,
             "-m wasm32 -LSR SR/crt1-command.o m-1.o -lc++ -lc++abi -lc RT/libclang_rt.builtins-wasm32.a -o m",
             Want::Own(
-                "-o m --stack-first SR/crt1.o m-1.o SR/libc++.a SR/libc++abi.a SR/libc.a RT/libclang_rt.builtins-wasm32.a",
+                "-o m --stack-first --keep-debug SR/crt1.o m-1.o SR/libc++.a SR/libc++abi.a SR/libc.a RT/libclang_rt.builtins-wasm32.a",
             ),
         ),
         (
             SYSROOT,
             "-m wasm32 -LSR SR/crt1-command.o m-1.o -lc RT/libclang_rt.builtins-wasm32.a -o m --keep-section=target_features",
             Want::Own(
-                "-o m --stack-first SR/crt1.o m-1.o SR/libc.a RT/libclang_rt.builtins-wasm32.a",
+                "-o m --stack-first --keep-debug SR/crt1.o m-1.o SR/libc.a RT/libclang_rt.builtins-wasm32.a",
             ),
         ),
         (
             SYSROOT,
             "-m wasm32 -LSR SR/crt1-reactor.o --entry _initialize m-1.o -lc RT/libclang_rt.builtins-wasm32.a -o m",
             Want::Own(
-                "-o m --entry=_initialize --stack-first SR/crt1-reactor.o m-1.o SR/libc.a RT/libclang_rt.builtins-wasm32.a",
+                "-o m --entry=_initialize --stack-first --keep-debug SR/crt1-reactor.o m-1.o SR/libc.a RT/libclang_rt.builtins-wasm32.a",
             ),
         ),
         (
@@ -104,25 +104,25 @@ fn words_of_clang(rt: HostRuntime) -> Result<(), Fail> {
             SYSROOT,
             "-m wasm32 -LSR/llvm-lto/22.1.8 -LSR SR/crt1-command.o m-1.o -lc RT/libclang_rt.builtins-wasm32.a -o m --keep-section=target_features",
             Want::Own(
-                "-o m --stack-first SR/crt1.o m-1.o SR/libc.a RT/libclang_rt.builtins-wasm32.a",
+                "-o m --stack-first --keep-debug SR/crt1.o m-1.o SR/libc.a RT/libclang_rt.builtins-wasm32.a",
             ),
         ),
         (
             SYSROOT,
             "-m wasm32 -Lfoo -u g -LSR SR/crt1-command.o -lm --export=f -z stack-size=65536 m-1.o -lc RT/libclang_rt.builtins-wasm32.a -o m",
             Want::Own(
-                "-o m -u g --export=f --stack-first -z stack-size=65536 SR/crt1.o SR/libm.a m-1.o SR/libc.a RT/libclang_rt.builtins-wasm32.a",
+                "-o m -u g --export=f --stack-first -z stack-size=65536 --keep-debug SR/crt1.o SR/libm.a m-1.o SR/libc.a RT/libclang_rt.builtins-wasm32.a",
             ),
         ),
         (
             SYSROOT,
             "-m wasm32 -Llib --no-entry m-1.o -o m",
-            Want::Own("-o m --no-entry --stack-first m-1.o"),
+            Want::Own("-o m --no-entry --stack-first --keep-debug m-1.o"),
         ),
         (
             SYSROOT,
             "-m wasm32 -LSR m-1.o -o m",
-            Want::Own("-o m --stack-first m-1.o"),
+            Want::Own("-o m --stack-first --keep-debug m-1.o"),
         ),
         (
             SYSROOT,
@@ -173,7 +173,7 @@ fn words_of_rustc_with_std(rt: HostRuntime) -> Result<(), Fail> {
             RUST_AND_SYSROOT,
             "-flavor wasm --rsp-quoting=posix --export main -z stack-size=1048576 --stack-first --allow-undefined --fatal-warnings --no-demangle RS/self-contained/crt1-command.o out.0.rcgu.o -L RS -l c -L RS/self-contained -LSR -o out.wasm --gc-sections -O2",
             Want::Strict(
-                "-o out.wasm -u main --export-if-defined=main --allow-undefined --stack-first -z stack-size=1048576 SR/crt1.o out.0.rcgu.o RS/self-contained/libc.a",
+                "-o out.wasm -u main --export-if-defined=main --allow-undefined --stack-first -z stack-size=1048576 --keep-debug SR/crt1.o out.0.rcgu.o RS/self-contained/libc.a",
             ),
         ),
         (
@@ -195,14 +195,14 @@ fn words_of_rustc_without(rt: HostRuntime) -> Result<(), Fail> {
             LATER_START_FILE,
             "-flavor wasm --export main -z stack-size=1048576 --stack-first --allow-undefined --no-demangle crt1-command.o o.rcgu.o -L r/self-contained -o o.wasm --gc-sections -O3",
             Want::Own(
-                "-o o.wasm -u main --export-if-defined=main --allow-undefined --stack-first -z stack-size=1048576 crt1-command.o o.rcgu.o",
+                "-o o.wasm -u main --export-if-defined=main --allow-undefined --stack-first -z stack-size=1048576 --keep-debug crt1-command.o o.rcgu.o",
             ),
         ),
         (
             NONE,
             "-flavor wasm --export main --export=__heap_base --export=__data_end -z stack-size=1048576 --stack-first --allow-undefined --no-demangle --no-entry o.rcgu.o -L r/self-contained -o o.wasm --gc-sections --no-entry -O3",
             Want::Own(
-                "-o o.wasm --no-entry -u main --export-if-defined=main -u __heap_base --export-if-defined=__heap_base -u __data_end --export-if-defined=__data_end --allow-undefined --stack-first -z stack-size=1048576 o.rcgu.o",
+                "-o o.wasm --no-entry -u main --export-if-defined=main -u __heap_base --export-if-defined=__heap_base -u __data_end --export-if-defined=__data_end --allow-undefined --stack-first -z stack-size=1048576 --keep-debug o.rcgu.o",
             ),
         ),
         (
@@ -227,14 +227,14 @@ fn words_of_build_systems(rt: HostRuntime) -> Result<(), Fail> {
             CMAKE_FILES,
             "-m wasm32 -LSR SR/crt1-command.o CMakeFiles/demo.dir/main.cpp.obj libcore.a -lm -lc++ -lc++abi -lc RT/libclang_rt.builtins-wasm32.a -o demo.wasm --keep-section=target_features",
             Want::Own(
-                "-o demo.wasm --stack-first SR/crt1.o CMakeFiles/demo.dir/main.cpp.obj libcore.a SR/libm.a SR/libc++.a SR/libc++abi.a SR/libc.a RT/libclang_rt.builtins-wasm32.a",
+                "-o demo.wasm --stack-first --keep-debug SR/crt1.o CMakeFiles/demo.dir/main.cpp.obj libcore.a SR/libm.a SR/libc++.a SR/libc++abi.a SR/libc.a RT/libclang_rt.builtins-wasm32.a",
             ),
         ),
         (
             MESON_FILES,
             "-m wasm32 -LSR SR/crt1-command.o demo.p/main.cpp.o --as-needed --no-undefined --start-group libcore.a -lm --end-group -lc++ -lc++abi -lc RT/libclang_rt.builtins-wasm32.a -o demo",
             Want::Own(
-                "-o demo --stack-first SR/crt1.o demo.p/main.cpp.o --start-lib libcore.a.p/a.c.o libcore.a.p/b.c.o --end-lib SR/libm.a SR/libc++.a SR/libc++abi.a SR/libc.a RT/libclang_rt.builtins-wasm32.a",
+                "-o demo --stack-first --keep-debug SR/crt1.o demo.p/main.cpp.o --start-lib libcore.a.p/a.c.o libcore.a.p/b.c.o --end-lib SR/libm.a SR/libc++.a SR/libc++abi.a SR/libc.a RT/libclang_rt.builtins-wasm32.a",
             ),
         ),
     ];

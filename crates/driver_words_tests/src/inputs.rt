@@ -63,37 +63,37 @@ fn folders_and_libraries(rt: HostRuntime) -> Result<(), Fail> {
         (
             TWO_FOLDERS,
             "m.o -lx -La -Lb -o o",
-            Want::Own("-o o --stack-first m.o a/libx.a"),
+            Want::Own("-o o --stack-first --keep-debug m.o a/libx.a"),
         ),
         (
             TWO_FOLDERS,
             "m.o -Lb -La -lx -o o",
-            Want::Own("-o o --stack-first m.o b/libx.a"),
+            Want::Own("-o o --stack-first --keep-debug m.o b/libx.a"),
         ),
         (
             TWO_FOLDERS,
             "m.o -l x -L a/ -o o",
-            Want::Own("-o o --stack-first m.o a/libx.a"),
+            Want::Own("-o o --stack-first --keep-debug m.o a/libx.a"),
         ),
         (
             TWO_FOLDERS,
             "m.o --library=y --library-path=a --library-path b -o o",
-            Want::Own("-o o --stack-first m.o b/liby.a"),
+            Want::Own("-o o --stack-first --keep-debug m.o b/liby.a"),
         ),
         (
             TWO_FOLDERS,
             "m.o -l:z.o -Lb -La -o o",
-            Want::Own("-o o --stack-first m.o a/z.o"),
+            Want::Own("-o o --stack-first --keep-debug m.o a/z.o"),
         ),
         (
             TWO_FOLDERS,
             "m.o -l:libx.so -La -o o",
-            Want::Own("-o o --stack-first m.o a/libx.so"),
+            Want::Own("-o o --stack-first --keep-debug m.o a/libx.so"),
         ),
         (
             TWO_FOLDERS,
             "m.o -Bdynamic -lx -La -o o",
-            Want::Own("-o o --stack-first m.o a/libx.a"),
+            Want::Own("-o o --stack-first --keep-debug m.o a/libx.a"),
         ),
         (
             TWO_FOLDERS,
@@ -114,9 +114,13 @@ fn folders_and_libraries(rt: HostRuntime) -> Result<(), Fail> {
         (
             FOLDER_WITH_DASH,
             "m.o -L-d -lx -o o",
-            Want::Own("-o o --stack-first m.o ./-d/libx.a"),
+            Want::Own("-o o --stack-first --keep-debug m.o ./-d/libx.a"),
         ),
-        (NONE, "- -o o", Want::Own("-o o --stack-first ./-")),
+        (
+            NONE,
+            "- -o o",
+            Want::Own("-o o --stack-first --keep-debug ./-"),
+        ),
     ];
     assert!(rt; all_stand_for(rt.alloc(), &cases));
     Ok(())
@@ -128,12 +132,12 @@ fn response_files(rt: HostRuntime) -> Result<(), Fail> {
         (
             RESPONSE_FILES,
             "@a -o o",
-            Want::Own("-o o --stack-first m.o 'x y.o' 'qr s.o' n.o"),
+            Want::Own("-o o --stack-first --keep-debug m.o 'x y.o' 'qr s.o' n.o"),
         ),
         (
             NONE,
             "@nosuch -o o",
-            Want::Own("-o o --stack-first @nosuch"),
+            Want::Own("-o o --stack-first --keep-debug @nosuch"),
         ),
         (
             NONE,
@@ -156,7 +160,7 @@ fn thin_libraries(rt: HostRuntime) -> Result<(), Fail> {
         (
             THIN_LIBRARY_OF_NONE,
             "m.o d/t.a -o o",
-            Want::Own("-o o --stack-first m.o --start-lib --end-lib"),
+            Want::Own("-o o --stack-first --keep-debug m.o --start-lib --end-lib"),
         ),
         (
             THIN_LIBRARY_OF_NONE,
@@ -166,17 +170,19 @@ fn thin_libraries(rt: HostRuntime) -> Result<(), Fail> {
         (
             THIN_LIBRARY,
             "m.o d/t.a -o o",
-            Want::Own("-o o --stack-first m.o --start-lib d/a.o /abs/b.o --end-lib"),
+            Want::Own("-o o --stack-first --keep-debug m.o --start-lib d/a.o /abs/b.o --end-lib"),
         ),
         (
             THIN_LIBRARY_OF_ONE,
             "m.o --whole-archive d/t.a --no-whole-archive -o o",
-            Want::Own("-o o --stack-first m.o --whole-archive d/a.o --no-whole-archive"),
+            Want::Own(
+                "-o o --stack-first --keep-debug m.o --whole-archive d/a.o --no-whole-archive",
+            ),
         ),
         (
             THIN_LIBRARY_OF_ONE,
             "m.o --start-lib d/t.a --end-lib -o o",
-            Want::Own("-o o --stack-first m.o --start-lib d/a.o --end-lib"),
+            Want::Own("-o o --stack-first --keep-debug m.o --start-lib d/a.o --end-lib"),
         ),
     ];
     assert!(rt; all_stand_for(rt.alloc(), &cases));
@@ -189,17 +195,17 @@ fn start_files(rt: HostRuntime) -> Result<(), Fail> {
         (
             CRT1_BESIDE,
             "d/crt1-command.o m.o -o o",
-            Want::Own("-o o --stack-first d/crt1.o m.o"),
+            Want::Own("-o o --stack-first --keep-debug d/crt1.o m.o"),
         ),
         (
             CRT1_HERE,
             "crt1-command.o m.o -o o",
-            Want::Own("-o o --stack-first ./crt1.o m.o"),
+            Want::Own("-o o --stack-first --keep-debug ./crt1.o m.o"),
         ),
         (
             CRT1_IN_LIBRARIES,
             "d/crt1-command.o m.o -Ls -o o",
-            Want::Own("-o o --stack-first s/crt1.o m.o"),
+            Want::Own("-o o --stack-first --keep-debug s/crt1.o m.o"),
         ),
         (
             NO_CRT1,
@@ -211,17 +217,17 @@ fn start_files(rt: HostRuntime) -> Result<(), Fail> {
         (
             CALLS_CONSTRUCTORS,
             "d/crt1-command.o m.o -o o",
-            Want::Own("-o o --stack-first d/crt1-command.o m.o"),
+            Want::Own("-o o --stack-first --keep-debug d/crt1-command.o m.o"),
         ),
         (
             NONE,
             "d/crt1-command.o m.o -o o",
-            Want::Own("-o o --stack-first d/crt1-command.o m.o"),
+            Want::Own("-o o --stack-first --keep-debug d/crt1-command.o m.o"),
         ),
         (
             NONE,
             "crt1-reactor.o m.o --entry _initialize -o o",
-            Want::Own("-o o --entry=_initialize --stack-first crt1-reactor.o m.o"),
+            Want::Own("-o o --entry=_initialize --stack-first --keep-debug crt1-reactor.o m.o"),
         ),
     ];
     assert!(rt; all_stand_for(rt.alloc(), &cases));

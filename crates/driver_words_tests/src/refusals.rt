@@ -10,7 +10,7 @@ fn marks_and_words_that_are_told_of(rt: HostRuntime) -> Result<(), Fail> {
         (
             NONE,
             "m.o --export-memory=memory -o o",
-            Want::Own("-o o --stack-first m.o"),
+            Want::Own("-o o --stack-first --keep-debug m.o"),
         ),
         (
             NONE,
@@ -20,12 +20,12 @@ fn marks_and_words_that_are_told_of(rt: HostRuntime) -> Result<(), Fail> {
         (
             NONE,
             "m.o --export-table -o o",
-            Want::Own("-o o --export-table --stack-first m.o"),
+            Want::Own("-o o --export-table --stack-first --keep-debug m.o"),
         ),
         (
             NONE,
             "m.o --start-lib a.o -o o",
-            Want::Own("-o o --stack-first m.o --start-lib a.o --end-lib"),
+            Want::Own("-o o --stack-first --keep-debug m.o --start-lib a.o --end-lib"),
         ),
         (NONE, "m.o --end-lib -o o", Want::Line("stray --end-lib")),
         (
@@ -36,12 +36,14 @@ fn marks_and_words_that_are_told_of(rt: HostRuntime) -> Result<(), Fail> {
         (
             NONE,
             "m.o --whole-archive a.a --no-whole-archive b.a -o o",
-            Want::Own("-o o --stack-first m.o --whole-archive a.a --no-whole-archive b.a"),
+            Want::Own(
+                "-o o --stack-first --keep-debug m.o --whole-archive a.a --no-whole-archive b.a",
+            ),
         ),
         (
             NONE,
             "m.o --table-base=1 -o o",
-            Want::Own("-o o --stack-first m.o"),
+            Want::Own("-o o --stack-first --keep-debug m.o"),
         ),
         (
             NONE,
@@ -51,7 +53,7 @@ fn marks_and_words_that_are_told_of(rt: HostRuntime) -> Result<(), Fail> {
         (
             NONE,
             "m.o --initial-heap=0 -o o",
-            Want::Own("-o o --stack-first m.o"),
+            Want::Own("-o o --stack-first --keep-debug m.o"),
         ),
         (
             NONE,
@@ -61,7 +63,7 @@ fn marks_and_words_that_are_told_of(rt: HostRuntime) -> Result<(), Fail> {
         (
             NONE,
             "m.o --page-size=65536 -o o",
-            Want::Own("-o o --stack-first m.o"),
+            Want::Own("-o o --stack-first --keep-debug m.o"),
         ),
         (
             NONE,
@@ -72,7 +74,7 @@ fn marks_and_words_that_are_told_of(rt: HostRuntime) -> Result<(), Fail> {
             NONE,
             "m.o --Map=m.txt -M -t -y f --trace-symbol=g --build-id=sha1 --why-extract=w --reproduce=r.tar --print-gc-sections -o o",
             Want::Warned(
-                "-o o --stack-first m.o",
+                "-o o --stack-first --keep-debug m.o",
                 "ignored: --Map=m.txt\nignored: -M\nignored: -t\nignored: -y\nignored: --trace-symbol=g\nignored: --build-id=sha1\nignored: --why-extract=w\nignored: --reproduce=r.tar\nignored: --print-gc-sections\n",
             ),
         ),
@@ -80,7 +82,7 @@ fn marks_and_words_that_are_told_of(rt: HostRuntime) -> Result<(), Fail> {
             NONE,
             "m.o --allow-undefined-file=syms.txt -o o",
             Want::Warned(
-                "-o o --stack-first m.o",
+                "-o o --stack-first --keep-debug m.o",
                 "ignored: --allow-undefined-file=syms.txt\n",
             ),
         ),

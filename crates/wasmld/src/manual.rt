@@ -47,6 +47,7 @@ Numbers are decimal, or 0x and hexadecimal digits.
                              what became of them
   --validate                 check the module by the standard's rules of
                              validation, and refuse it where it breaks one
+  --keep-debug               keep the objects' debug sections, joined
   -m wasm32, -s, -S, --strip-all, --strip-debug
                              have no effect
 

@@ -1,8 +1,11 @@
 use Rattle.driver_laws.proofs.own_words_have_plans.Goals as goal
-use Rattle.driver_laws.proofs.Plans.{have_plans, name_files}
+use Rattle.driver_laws.proofs.Plans.{have_plans, name_files, keep_debug}
 
 pub returns-clause-plans : goal.returns-clause-plans
 returns-clause-plans c = have_plans c.words_are_cut.ensures.plans
 
 pub returns-clause-files : goal.returns-clause-files
 returns-clause-files c = name_files c.words_are_cut.ensures.plans
+
+pub returns-clause-debug : goal.returns-clause-debug
+returns-clause-debug c = keep_debug c.words_are_cut.ensures.plans

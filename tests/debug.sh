@@ -1,0 +1,175 @@
+#!/usr/bin/env bash
+# Links objects that clang makes with -g, and compares what LLVM's tools read of the module's debug sections with what they read of wasm-ld's module: of C
+# with a library and dead functions, and of C++ with functions that two objects define, as DWARF 4 and 5. Then a trap's place under node, what drivers' words
+# do, and the faults of debug sections. Skipped where a tool isn't installed. The linker is $WASMLD, or else bin/wasmld, and under its other name bin/wasm-ld.
+# The last line is 'N passed, M failed'.
+set -u
+top=$(cd "$(dirname "${BASH_SOURCE[0]}")/.." && pwd)
+. "$top/tests/common/expect.bash"
+wasmld=${WASMLD:-$top/bin/wasmld}
+sources=$top/tests/debug
+libc=/usr/lib/wasm32-wasi
+export PYTHONDONTWRITEBYTECODE=1
+
+skip() {
+  echo "skipped: $1"
+}
+
+skip_all() {
+  skip "debug sections ($1)"
+  finish
+  exit
+}
+
+for tool in clang llvm-ar llvm-dwarfdump llvm-symbolizer wasm-ld python3; do
+  command -v "$tool" >/dev/null || skip_all "no $tool"
+done
+clang --print-targets | grep -q wasm32 || skip_all "clang has no wasm32"
+
+folder=$(mktemp -d)
+trap 'rm -rf "$folder"' EXIT
+cd "$folder" || exit 2
+mkdir names
+ln -s "$(readlink -f "${WASMLD:-$top/bin/wasm-ld}")" names/wasm-ld
+driver=$folder/names/wasm-ld
+
+# Takes a compiler, and sources of the folder; each becomes an object of its name.
+compile() {
+  local compiler=$1 source
+  shift
+  for source in "$@"; do
+    "$compiler" --target=wasm32-unknown-unknown -fno-exceptions -fno-rtti "$level" "-gdwarf-$version" -c "$sources/$source" -o "${source%.*}.o" || return 1
+  done
+}
+
+# Takes a module, the one without debug sections, and a link's words: it is linked with 1 and with 64 workers to the same bytes, and to those of the
+# module without debug sections with sections behind them.
+keeps() {
+  local module=$1 plain=$2
+  shift 2
+  "$wasmld" --threads=1 -o "$plain" "$@" || return 1
+  "$wasmld" --threads=1 --keep-debug -o "$module" "$@" || return 1
+  "$wasmld" --threads=64 --keep-debug -o "$module.64" "$@" || return 1
+  "$wasmld" --validate --keep-debug -o "$module.checked" "$@" || return 1
+  cmp "$module" "$module.64" && cmp "$module" "$module.checked" && python3 "$sources/sections.py" tail "$plain" "$module" >names.txt || return 1
+  grep -qw '.debug_info' names.txt && grep -qw '.debug_line' names.txt && ! grep -qwv '\.debug_[a-z_]*' names.txt
+}
+
+# What the verifier finds wrong with a module, without places.
+found_wrong() {
+  llvm-dwarfdump --verify "$1" 2>&1 | grep -iE '^(error|warning)' | sed -E 's/0x[0-9a-f]+/N/g' | sort
+}
+
+# Takes our module and wasm-ld's: the verifier finds nothing in ours that it doesn't find in theirs.
+is_sound() {
+  [ -z "$(comm -23 <(found_wrong "$1") <(found_wrong "$2"))" ] || {
+    llvm-dwarfdump --verify "$1"
+    return 1
+  }
+}
+
+# Takes a name and a link's words, which both linkers know.
+compare() {
+  local name=$1
+  shift
+  expect "$name, DWARF $version $level, keeps debug sections" keeps "$name.wasm" "$name.plain" --no-entry "$@"
+  expect "wasm-ld links it" wasm-ld --no-entry "$@" -o "$name.theirs"
+  expect "the verifier finds nothing of its own in it" is_sound "$name.wasm" "$name.theirs"
+  expect "each function has the lines that it has in wasm-ld's" python3 "$sources/lines.py" same "$name.wasm" "$name.theirs"
+}
+
+# Takes the module without debug sections by own words, and drivers' words: debug sections are kept, but where a word strips them.
+drivers_keep() {
+  local word
+  expect "own words keep them where they say so" keeps own.wasm stripped.wasm --stack-first "$@"
+  expect "drivers' words keep them" "$driver" "$@" -o driver.wasm
+  expect "to the same bytes" cmp driver.wasm own.wasm
+  for word in -s -S --strip-all --strip-debug -strip-all -strip-debug; do
+    expect "$word strips them" "$driver" "$@" "$word" -o short.wasm
+    expect "to the bytes without the word that keeps them" cmp short.wasm stripped.wasm
+  done
+}
+
+# Takes a module, an export, and the file and line where a call of it with 9 traps.
+traps_at() {
+  local module=$1 export=$2 code place
+  code=$(python3 "$sources/sections.py" code "$module") && place=$(node "$sources/trap.mjs" "$module" "$export" 9) || return 1
+  llvm-symbolizer "--obj=$module" "$(printf '%#x' $((place - code)))" | grep -q "/$3:"
+}
+
+# Takes the line of the refusal, and the words.
+is_refused_as() {
+  local line=$1
+  shift
+  rm -f refused.wasm
+  "$wasmld" -o refused.wasm "$@" >got.txt
+  [ $? -eq 1 ] && [ "$(cat got.txt)" = "$line" ] && [ ! -e refused.wasm ] || {
+    cat got.txt
+    return 1
+  }
+}
+
+# The same of drivers' words, on standard error.
+is_refused_to_drivers_as() {
+  local line=$1
+  shift
+  rm -f refused.wasm
+  "$driver" -o refused.wasm "$@" 2>got.txt
+  [ $? -eq 1 ] && [ "$(cat got.txt)" = "$line" ] && [ ! -e refused.wasm ] || {
+    cat got.txt
+    return 1
+  }
+}
+
+# An object with a relocation of no known type, and more than 2 GiB of debug sections.
+faults() {
+  local section
+  section=$(python3 "$sources/sections.py" spoil program.o bad.o)
+  expect "a bad relocation for a debug section is refused" is_refused_as "wasmld: input 1: bad debug section $section" --no-entry --keep-debug bad.o lib.a
+  expect "and to drivers" is_refused_to_drivers_as "wasm-ld: error: bad.o: malformed debug section $section" --no-entry bad.o lib.a
+  expect "without the word it is linked" "$wasmld" --no-entry bad.o lib.a -o good.wasm
+  expect "to the same module" cmp good.wasm c.plain
+  expect "and so it is to drivers that strip" "$driver" --no-entry -S bad.o lib.a -o good.wasm
+  [ "$(awk '/^MemAvailable/ { print int($2 / 1048576) }' /proc/meminfo)" -ge 6 ] || {
+    skip "debug sections that are too long (less than 6 GiB of memory)"
+    return
+  }
+  python3 "$sources/sections.py" long long.o 720000000
+  expect "debug sections that are too long are refused" is_refused_as "wasmld: debug sections need 2160000047 bytes" \
+    --no-entry --keep-debug long.o long.o long.o
+  expect "and to drivers" is_refused_to_drivers_as "wasm-ld: error: output too large with debug sections, 2160000047 bytes needed" \
+    --no-entry long.o long.o long.o
+  rm long.o
+}
+
+# A program with wasi-libc, whose objects have debug sections too.
+with_libc() {
+  local builtins
+  builtins=$(clang --target=wasm32-wasi --print-libgcc-file-name)
+  [ -e "$libc/crt1.o" ] && [ -e "$builtins" ] || {
+    skip "debug sections of a C library (no wasi-libc)"
+    return
+  }
+  clang --target=wasm32-wasi -g -O2 -c "$top/tests/real/hello.c" -o hello.o
+  expect "a program with wasi-libc keeps debug sections" keeps hello.wasm hello.plain "$libc/crt1.o" hello.o "$libc/libc.a" "$builtins"
+  expect "wasm-ld links it" wasm-ld "$libc/crt1.o" hello.o "$libc/libc.a" "$builtins" -o hello.theirs
+  expect "the verifier finds nothing of its own in it" is_sound hello.wasm hello.theirs
+  expect "each function has the lines that it has in wasm-ld's" python3 "$sources/lines.py" same hello.wasm hello.theirs
+}
+
+for level in -O0 -O2; do
+  for version in 4 5; do
+    compile clang program.c scaled.c counted.c unneeded.c
+    compile clang++ shapes.cpp shapes_other.cpp
+    rm -f lib.a
+    llvm-ar rcs lib.a scaled.o counted.o unneeded.o
+    compare c program.o lib.a
+    compare cpp shapes.o shapes_other.o
+    command -v node >/dev/null && expect "a trap's place is a line" traps_at c.wasm look program.c:9
+  done
+done
+drivers_keep --no-entry program.o lib.a
+faults
+with_libc
+
+finish
