@@ -6,6 +6,7 @@ pub mod Linking
 pub mod Chosen
 pub mod Prepared
 pub mod Making
+pub mod Tails
 pub mod Telling
 pub use Rattle.valid_links.specs as valid_links
 pub use Rattle.valid_links.specs.link_runs as link_runs
