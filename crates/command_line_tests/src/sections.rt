@@ -52,9 +52,11 @@ fn holds<R: Threads + Sync>(rt: &R, alloc: Global, case: Case<'_>) -> Result<boo
         "--keep-debug",
         "--validate",
     ];
-    Ok(ends(rt, alloc, &plain, object, b"", Some(module))?
-        && ends(rt, alloc, &kept, object, line, saved(line, whole))?
-        && ends(rt, alloc, &both, object, checked, saved(checked, whole))?)
+    Ok(
+        ends(rt, alloc, &plain, object, b"", Some(module))?
+            && ends(rt, alloc, &kept, object, line, saved(line, whole))?
+            && ends(rt, alloc, &both, object, checked, saved(checked, whole))?,
+    )
 }
 
 // The section names f, and g, which f calls.

@@ -81,10 +81,10 @@ record Stands (len : ℕ) (r : Result (List ℕ) Fault) : Type 0 where
 joined_stands : (len : ℕ) (inputs : List Input) (p : Places) → Stands len (joined len inputs p)
 unfolding joined
 joined_stands len inputs p = record {
-    never = never_by (debugs 0 inputs) (λ (all : List Debug). unless (length_fault (len + length (tail_of all p))) (tail_of all p)) (all_judged 0 inputs)
-    (λ all. long_judged (nat_lt (2 ^ 31 - 1) (len + length (tail_of all p))) (len + length (tail_of all p)) (tail_of all p));
-    within = λ short. by (debugs 0 inputs);
-  }
+  never = never_by (debugs 0 inputs) (λ (all : List Debug). unless (length_fault (len + length (tail_of all p))) (tail_of all p)) (all_judged 0 inputs)
+      (λ all. long_judged (nat_lt (2 ^ 31 - 1) (len + length (tail_of all p))) (len + length (tail_of all p)) (tail_of all p));
+  within = λ short. by (debugs 0 inputs);
+}
   where
     by : (r : Result (List Debug) Fault) → Within len (r >>= λ all. unless (length_fault (len + length (tail_of all p))) (tail_of all p))
     by (Ok all) = if_short (nat_lt (2 ^ 31 - 1) (len + length (tail_of all p))) len (tail_of all p) refl

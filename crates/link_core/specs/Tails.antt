@@ -17,9 +17,9 @@ TellsTail (Refused fault) said = said ≡ Err fault
 
 -- A module with what is said to stand behind it.
 abbrev pub behind : List ℕ → Result (List ℕ) Fault → Result (List ℕ) Fault
-behind module said = do
+behind bytes said = do
   tail ← said
-  Ok (module ++ tail)
+  Ok (bytes ++ tail)
 
 -- the debug sections of a stage, behind so many bytes
 abbrev pub stage_tail : LoadedStage → ℕ → Result (List ℕ) Fault
@@ -27,5 +27,5 @@ stage_tail s len = laid_tail (mode_of s.stage.program.plan) s.stage.program s.al
 
 -- the module, or the error before it
 abbrev pub modules : Result Whole LinkError → Result (List ℕ) LinkError
-modules (Ok w) = Ok w.module
+modules (Ok w) = Ok w.bytes
 modules (Err e) = Err e

@@ -148,7 +148,7 @@ fn link_checked<R: Threads + Sync, G: Gate>(
         rt,
         alloc,
         plan,
-        whole.module.as_slice(),
+        whole.bytes.as_slice(),
         workers_of(plan, files, gate),
     )?;
     let answer = with_tail(whole);
@@ -185,7 +185,7 @@ fn link_files<R: Threads + Sync, G: Gate>(
     requires plan { IsPlan plan.now }
     requires files { length files.now ≡ unwrap_or plan.now.make_case (length plan.now.inputs) }
     ensures exact { Answers (modules result) (link_of plan.now files.now) }
-    ensures tail { IfOk result (λ w. TellsTail w.tail (told_tail plan.now files.now (length w.module))) }
+    ensures tail { IfOk result (λ w. TellsTail w.tail (told_tail plan.now files.now (length w.bytes))) }
     ensures short { IsShort (modules result) }
     ensures told { told.old ≡ [] → Tells result told.new (calls_told_of plan.now files.now) }
 {
@@ -194,7 +194,7 @@ fn link_files<R: Threads + Sync, G: Gate>(
     let prepared = prepare(rt, alloc, plan, files, &inputs, workers, gate, told);
     forget(inputs);
     let ready = prepared?;
-    let module = write(
+    let bytes = write(
         rt,
         alloc,
         files,
@@ -206,7 +206,7 @@ fn link_files<R: Threads + Sync, G: Gate>(
         gate,
     )?;
     let Prepared { tail, .. } = ready;
-    Ok(Whole { module, tail })
+    Ok(Whole { bytes, tail })
 }
 
 // Prepares the output of the loaded objects. What was found of them is given back at the end, before the output's buffer is reserved; but not

@@ -19,7 +19,7 @@ pub enum Tail {
 /// A module, and what is to stand behind it.
 #[derive(Drop)]
 pub struct Whole {
-    pub module: Seq<u8>,
+    pub bytes: Seq<u8>,
     pub tail: Tail,
 }
 
@@ -44,13 +44,13 @@ pub(crate) fn kept(joined: Result<Seq<u8>, LinkError>) -> Result<Tail, OutOfMemo
 
 /// The module with its sections, or their fault.
 pub(crate) fn with_tail(whole: Whole) -> Result<Seq<u8>, LinkError>
-    ensures { (said : Result (List ℕ) Refusal) → TellsTail whole.tail said → Answers result (behind whole.module said) }
+    ensures { (said : Result (List ℕ) Refusal) → TellsTail whole.tail said → Answers result (behind whole.bytes said) }
 {
-    let Whole { mut module, tail } = whole;
+    let Whole { mut bytes, tail } = whole;
     match tail {
-        Tail::Bytes(bytes) => {
-            module.extend_from_slice(bytes.as_slice())?;
-            Ok(module)
+        Tail::Bytes(sections) => {
+            bytes.extend_from_slice(sections.as_slice())?;
+            Ok(bytes)
         }
         Tail::Refused(fault) => Err(LinkError::Refused(fault)),
     }

@@ -23,7 +23,7 @@ pub returns-in_err-check-clause-exact : goal.returns-in_err-check-clause-exact
 returns-in_err-check-clause-exact g c =
     let p = err_from_is_err_and c.from_residual-in_err-check.result c.from_residual-in_err-check.ensures.1 in
     rw (p.1)
-    (not_valid c.args.plan.now c.args.files.now c.in_ok-whole.whole.module c.in_err-check.field-0.0 p.0 p.2 c.in_ok-whole.ensures.exact
+    (not_valid c.args.plan.now c.args.files.now c.in_ok-whole.whole.bytes c.in_err-check.field-0.0 p.0 p.2 c.in_ok-whole.ensures.exact
     (subst (λ (bs : List ℕ). Stops c.in_err-check.field-0.0 (invalid_fault c.args.plan.now bs)) c.as_slice.ensures c.in_err-check.ensures.exact))
 
 pub returns-in_err-check-clause-told : goal.returns-in_err-check-clause-told
@@ -33,21 +33,21 @@ returns-in_err-check-clause-told g c = λ none.
 
 pub returns-clause-exact : goal.returns-clause-exact
 returns-clause-exact g c =
-    let module = c.in_ok-whole.whole.module in
-    passes_check c.args.plan.now c.args.files.now module c.with_tail-answer.result c.in_ok-whole.ensures.exact (ap (invalid_fault c.args.plan.now) (sym c.as_slice.ensures) ∙ c.in_ok-check.ensures.exact)
-    (c.with_tail-answer.ensures (debug_tail c.args.plan.now c.args.files.now (length module)) c.in_ok-whole.ensures.tail)
+    let bytes = c.in_ok-whole.whole.bytes in
+    passes_check c.args.plan.now c.args.files.now bytes c.with_tail-answer.result c.in_ok-whole.ensures.exact (ap (invalid_fault c.args.plan.now) (sym c.as_slice.ensures) ∙ c.in_ok-check.ensures.exact)
+    (c.with_tail-answer.ensures (debug_tail c.args.plan.now c.args.files.now (length bytes)) c.in_ok-whole.ensures.tail)
 
 pub returns-clause-checked : goal.returns-clause-checked
 returns-clause-checked g c = λ asked.
-    let module = c.in_ok-whole.whole.module in
-    valid_whole c.args.plan.now c.args.files.now c.valid_stays.ensures module c.with_tail-answer.result (subst IsValidOutput c.as_slice.ensures (c.in_ok-check.ensures.valid asked))
-    (c.with_tail-answer.ensures (debug_tail c.args.plan.now c.args.files.now (length module)) c.in_ok-whole.ensures.tail)
+    let bytes = c.in_ok-whole.whole.bytes in
+    valid_whole c.args.plan.now c.args.files.now c.valid_stays.ensures bytes c.with_tail-answer.result (subst IsValidOutput c.as_slice.ensures (c.in_ok-check.ensures.valid asked))
+    (c.with_tail-answer.ensures (debug_tail c.args.plan.now c.args.files.now (length bytes)) c.in_ok-whole.ensures.tail)
 
 pub returns-clause-short : goal.returns-clause-short
 returns-clause-short g c =
-    let module = c.in_ok-whole.whole.module in
-    whole_is_short c.args.plan.now c.args.files.now module c.in_ok-whole.ensures.exact c.in_ok-whole.ensures.short c.with_tail-answer.result
-    (c.with_tail-answer.ensures (debug_tail c.args.plan.now c.args.files.now (length module)) c.in_ok-whole.ensures.tail)
+    let bytes = c.in_ok-whole.whole.bytes in
+    whole_is_short c.args.plan.now c.args.files.now bytes c.in_ok-whole.ensures.exact c.in_ok-whole.ensures.short c.with_tail-answer.result
+    (c.with_tail-answer.ensures (debug_tail c.args.plan.now c.args.files.now (length bytes)) c.in_ok-whole.ensures.tail)
 
 pub returns-clause-told : goal.returns-clause-told
 returns-clause-told g c = λ none. tells_all c.with_tail-answer.result c.link_files.new.told (calls_told_of c.args.plan.now c.args.files.now) (c.in_ok-whole.ensures.told none)

@@ -26,16 +26,16 @@ returns-in_err-ready-clause-exact g c =
     (goes_on_loaded c.args.plan.now c.args.files.now all c.in_ok-inputs.inputs.loaded (Err p.0) c.in_ok-inputs.ensures.found.candidates c.in_ok-inputs.ensures.found.objects
     (fails_by (link_program Plain (program_in l)) c.in_err-ready.field-0.0 p.0 p.2 c.in_err-ready.ensures.exact))
 
-pub returns-in_err-module-clause-exact : goal.returns-in_err-module-clause-exact
-returns-in_err-module-clause-exact g c =
-    let p = err_from_is_err_and c.from_residual-in_err-module.result c.from_residual-in_err-module.ensures.1 in
+pub returns-in_err-bytes-clause-exact : goal.returns-in_err-bytes-clause-exact
+returns-in_err-bytes-clause-exact g c =
+    let p = err_from_is_err_and c.from_residual-in_err-bytes.result c.from_residual-in_err-bytes.ensures.1 in
     rw (p.1, p.2) tt
 
 pub returns-clause-exact : goal.returns-clause-exact
 returns-clause-exact g c =
     goes_on_loaded c.args.plan.now c.args.files.now (the_candidates c.args.plan.now c.args.files.now) c.in_ok-inputs.inputs.loaded (Ok (output_of c.args.files.now c.in_ok-ready.ready))
     c.in_ok-inputs.ensures.found.candidates c.in_ok-inputs.ensures.found.objects c.in_ok-ready.ensures.exact
-    ∙ ap (λ bs. Ok bs) (sym c.in_ok-module.ensures.is)
+    ∙ ap (λ bs. Ok bs) (sym c.in_ok-bytes.ensures.is)
 
 pub returns-clause-tail : goal.returns-clause-tail
 returns-clause-tail g c =
@@ -43,7 +43,7 @@ returns-clause-tail g c =
     let files = c.args.files.now in
     subst (TellsTail c.in_ok-ready.ready.tail)
     (sym (loaded_tail plan files c.in_ok-ready.ready.measured.len (the_candidates plan files) c.in_ok-inputs.inputs.loaded c.in_ok-inputs.ensures.found.candidates c.in_ok-inputs.ensures.found.objects)
-    ∙ ap (debug_tail plan files) (sym c.in_ok-module.ensures.len))
+    ∙ ap (debug_tail plan files) (sym c.in_ok-bytes.ensures.len))
     c.in_ok-ready.ensures.tail
 
 -- ---- what is told
@@ -61,9 +61,9 @@ returns-in_err-ready-clause-told g c = λ none.
     (tells_on c.args.plan.now c.args.files.now all c.in_ok-inputs.inputs.loaded c.in_ok-inputs.ensures.found.candidates c.in_ok-inputs.ensures.found.objects c.in_err-ready.field-0.0 p.0
     c.prepare-prepared.new.told p.2 (c.in_err-ready.ensures.told none))
 
-pub returns-in_err-module-clause-told : goal.returns-in_err-module-clause-told
-returns-in_err-module-clause-told g c = λ none.
-    let p = err_from_is_err_and c.from_residual-in_err-module.result c.from_residual-in_err-module.ensures.1 in
+pub returns-in_err-bytes-clause-told : goal.returns-in_err-bytes-clause-told
+returns-in_err-bytes-clause-told g c = λ none.
+    let p = err_from_is_err_and c.from_residual-in_err-bytes.result c.from_residual-in_err-bytes.ensures.1 in
     rw (p.1, p.2) tt
 
 pub returns-clause-told : goal.returns-clause-told
