@@ -1,0 +1,36 @@
+//! What the debug sections behind the output of a link leave as it was: the module, its runs and that it
+//! is valid, since they are custom sections (Core 5.5.3). Laws alone.
+#![tactic(auto)]
+
+ghost use Rattle.debug_links.specs.Keeps.{TailIsCustoms, ValidStays, RunsStay, NoWord};
+
+/// What stands behind an output of any length are custom sections: the names of an object's sections are
+/// UTF-8, or it isn't loaded.
+pub fn tail_is_customs()
+    ensures { TailIsCustoms }
+{
+    debug_customs::objects_are_named();
+    debug_customs::sections_are_customs();
+}
+
+/// An output that spells a valid module spells it with its debug sections behind it, and is read as it.
+pub fn valid_stays()
+    ensures { ValidStays }
+{
+    tail_is_customs();
+    module_tails::customs_say_nothing();
+}
+
+/// An output that runs as the plan and the files tell runs so with its debug sections behind it.
+pub fn runs_stay()
+    ensures { RunsStay }
+{
+    tail_is_customs();
+    module_tails::customs_say_nothing();
+    wasm_module::module_is_unambiguous();
+}
+
+/// Where the words don't ask for debug sections, an output is what it was.
+pub fn no_word()
+    ensures { NoWord }
+{}
