@@ -26,7 +26,7 @@ bind_ok (Err d) f y e = absurd cc
 pub ok_is : {A : Type 0} {x y : A} → (let r : Result A Fault = Ok x in r ≡ Ok y) → x ≡ y
 ok_is e = cc
 
-unless_ok : {A : Type 0} (t : Option Fault) (x y : A) → unless t x ≡ Ok y → x ≡ y
+pub unless_ok : {A : Type 0} (t : Option Fault) (x y : A) → unless t x ≡ Ok y → x ≡ y
 unless_ok None x y e = ok_is e
 unless_ok (Some f) x y e = absurd cc
 
@@ -89,9 +89,9 @@ module _ (files : List (List ℕ)) where
 
   -- ---- loaded objects
 
-  -- the candidate of an object's number is there, and its bytes are that object
+  -- the candidate of an object's number is there, and its bytes are that object; numbers count from 1
   abbrev pub IsRead : List Candidate → Object → Type 0
-  IsRead all o = (c : Candidate) × (find (λ d. d.input == o.input) all ≡ Some c) × (object_of o.input (bytes_of files c) ≡ Ok o)
+  IsRead all o = (c : Candidate) × (find (λ d. d.input == o.input) all ≡ Some c) × (object_of o.input (bytes_of files c) ≡ Ok o) × (1 ≤ o.input)
 
   number_of : (input : ℕ) (bytes : List ℕ) (o : Object) → object_of input bytes ≡ Ok o → o.input ≡ input
   number_of input bytes o e = input_is input bytes o (object_found input bytes o e)
@@ -121,4 +121,4 @@ module _ (files : List (List ℕ)) where
       let picked : Has (objects_of all loaded.0) o = subst (λ os. Has os o) (sym (ok_is loaded.2)) h in
       let c = has_pick (λ (c : Candidate). object_in c.object) (filter (is_loaded loaded.0) all) o picked in
       let r = read_in 1 all c.0 o (candidates_read plan all e) (has_filter (is_loaded loaded.0) all c.0 c.1).0 (object_is c.0.object o c.2) in
-      (c.0, r.0, r.1)
+      (c.0, r.0, r.1, r.2)

@@ -1,8 +1,14 @@
 //! What the debug sections behind the output of a link leave as it was: the module, its runs and that it
-//! is valid, since they are custom sections (Core 5.5.3). Laws alone.
+//! is valid, since they are custom sections (Core 5.5.3); and what they say of places in functions. Laws
+//! alone.
 #![tactic(auto)]
 
 ghost use Rattle.debug_links.specs.Keeps.{TailIsCustoms, ValidStays, RunsStay, NoWord};
+ghost use Rattle.debug_links.specs.Offsets.{OffsetsStay};
+
+pub use valid_links::{
+    Inputs, ValidError, check_output, links_are_valid, links_dont_judge, links_run, load_inputs,
+};
 
 /// What stands behind an output of any length are custom sections: the names of an object's sections are
 /// UTF-8, or it isn't loaded.
@@ -34,3 +40,15 @@ pub fn runs_stay()
 pub fn no_word()
     ensures { NoWord }
 {}
+
+/// Each window for a place in a function (FUNCTION_OFFSET_I32) in the debug sections of the loaded objects:
+/// where the function that the symbol's own object defines is live, the four bytes of the window in the
+/// output name the same instruction of it; where it isn't, they hold the dead word.
+pub fn offsets_stay()
+    ensures { OffsetsStay }
+{
+    object_file::read_objects_are_spellable();
+    valid_links::loaded_objects_are_sound();
+    valid_links::facts_hold();
+    debug_tails::offsets_name_instructions();
+}
