@@ -18,7 +18,7 @@ use Rattle.valid_links.specs.link_runs.link_program.link_rules.LinkOf.{asked_nam
 use Rattle.valid_links.specs.link_runs.Links.{Runs}
 use Rattle.valid_links.specs.output_check.Check.{IsValidOutput}
 use Rattle.debug_tails.specs.Tails.{laid_tail, program_tail, debug_tail_by, debug_tail, with_debug}
-use Rattle.debug_links.specs.Keeps.{TailIsCustoms, ValidStays, RunsStay, NoWord}
+use Rattle.debug_links.specs.Keeps.{TailIsCustoms, ValidStays, TailsRun, RunsStay, NoWord}
 use Rattle.debug_links.proofs.Candidates.{bind_ok, ok_is}
 
 -- ---- behind an output
@@ -34,9 +34,8 @@ valid_with nothing bytes tail customs v =
     let still = nothing v.is bytes tail v.spelled customs in
     record { is = v.is; read = still.1; spelled = still.0; valid = v.valid; no_fault = v.no_fault }
 
-runs_with : CustomsSayNothing → ((a b : Module) (bytes : List ℕ) → IsModule a bytes → IsModule b bytes → a ≡ b)
-    → (plan : Plan) (files : List (List ℕ)) (bytes tail : List ℕ) → AreCustoms tail → Runs plan files bytes → Runs plan files (bytes ++ tail)
-runs_with nothing one plan files bytes tail customs r =
+pub tails_law : CustomsSayNothing → ((a b : Module) (bytes : List ℕ) → IsModule a bytes → IsModule b bytes → a ≡ b) → TailsRun
+tails_law nothing one plan files bytes tail r customs =
     let g = r.gives in
     let still = nothing g.is bytes tail g.spelled customs in
     record {
@@ -61,10 +60,10 @@ valid_law tails nothing plan files bytes whole v e =
     let t = tail_of plan files bytes whole e in
     subst IsValidOutput t.2 (valid_with nothing bytes t.0 (tails plan files (length bytes) t.0 t.1) v)
 
-pub runs_law : TailIsCustoms → CustomsSayNothing → ((a b : Module) (bytes : List ℕ) → IsModule a bytes → IsModule b bytes → a ≡ b) → RunsStay
-runs_law tails nothing one plan files bytes whole r e =
+pub runs_law : TailIsCustoms → TailsRun → RunsStay
+runs_law tails run plan files bytes whole r e =
     let t = tail_of plan files bytes whole e in
-    subst (Runs plan files) t.2 (runs_with nothing one plan files bytes t.0 (tails plan files (length bytes) t.0 t.1) r)
+    subst (Runs plan files) t.2 (run plan files bytes t.0 r (tails plan files (length bytes) t.0 t.1))
 
 -- ---- without the word
 

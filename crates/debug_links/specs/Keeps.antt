@@ -1,5 +1,5 @@
 -- What the debug sections behind the output of a link leave as it was (WebAssembly Core 2.0, 5.5.3).
-use Rattle.std.specs.Prelude.{◌≡◌, ℕ, false, List, Ok}
+use Rattle.std.specs.Prelude.{◌≡◌, ℕ, false, List, ◌++◌, Ok}
 use Rattle.valid_links.specs.link_runs.link_program.wasm_module.Sections.{AreCustoms}
 use Rattle.valid_links.specs.link_runs.link_program.link_plan.declared.plan.Plan.{Plan}
 use Rattle.valid_links.specs.link_runs.Links.{Runs}
@@ -15,7 +15,12 @@ TailIsCustoms = (plan : Plan) (files : List (List ℕ)) (len : ℕ) (tail : List
 abbrev pub ValidStays : Type 0
 ValidStays = (plan : Plan) (files : List (List ℕ)) (bytes whole : List ℕ) → IsValidOutput bytes → with_debug plan files bytes ≡ Ok whole → IsValidOutput whole
 
--- With them an output runs as it did.
+-- Bytes with custom sections behind them, whatever these are, are read as a module that runs as the plan and the files tell, where those
+-- without are.
+abbrev pub TailsRun : Type 0
+TailsRun = (plan : Plan) (files : List (List ℕ)) (bytes tail : List ℕ) → Runs plan files bytes → AreCustoms tail → Runs plan files (bytes ++ tail)
+
+-- With its debug sections an output runs as it did.
 abbrev pub RunsStay : Type 0
 RunsStay = (plan : Plan) (files : List (List ℕ)) (bytes whole : List ℕ) → Runs plan files bytes → with_debug plan files bytes ≡ Ok whole → Runs plan files whole
 

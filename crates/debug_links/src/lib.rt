@@ -3,7 +3,7 @@
 //! alone.
 #![tactic(auto)]
 
-ghost use Rattle.debug_links.specs.Keeps.{TailIsCustoms, ValidStays, RunsStay, NoWord};
+ghost use Rattle.debug_links.specs.Keeps.{TailIsCustoms, ValidStays, TailsRun, RunsStay, NoWord};
 ghost use Rattle.debug_links.specs.Offsets.{OffsetsStay};
 
 pub use valid_links::{
@@ -27,13 +27,21 @@ pub fn valid_stays()
     module_tails::customs_say_nothing();
 }
 
+/// Where bytes are read as a module that runs as the plan and the files tell, so are the bytes with
+/// custom sections behind them: it is the same module (Core 5.5.3).
+pub fn tails_run()
+    ensures { TailsRun }
+{
+    module_tails::customs_say_nothing();
+    wasm_module::module_is_unambiguous();
+}
+
 /// An output that runs as the plan and the files tell runs so with its debug sections behind it.
 pub fn runs_stay()
     ensures { RunsStay }
 {
     tail_is_customs();
-    module_tails::customs_say_nothing();
-    wasm_module::module_is_unambiguous();
+    tails_run();
 }
 
 /// Where the words don't ask for debug sections, an output is what it was.
