@@ -137,9 +137,11 @@ module _ (spell_law : (input : ℕ) (bytes : List ℕ) (object : Object) → IsO
         by (Some part) is =
             let n = placed p x are e part some is in
             let same = name p x are e n.0 n.1 in
-            let one = some_is same.0 part (sym same.1 ∙ is) in
-            (n.0, subst (λ q. IsSameFrom p x q n.0) one same.2,
-            holds_place bytes sections places d r (Some n.0) (all_stand 0 (link_inputs files all objects) sections judged) at in_d kind (body ∙ n.1))
+            let one = some_is same.0 part (sym same.1 ∙ is) in (
+              n.0,
+              subst (λ q. IsSameFrom p x q n.0) one same.2,
+              holds_place bytes sections places d r (Some n.0) (all_stand 0 (link_inputs files all objects) sections judged) at in_d kind (body ∙ n.1),
+            )
         by None is = holds_place bytes sections places d r None (all_stand 0 (link_inputs files all objects) sections judged) at in_d kind (body ∙ dropped p x are e is)
 
 -- ---- the tail

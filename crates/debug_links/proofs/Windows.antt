@@ -69,11 +69,12 @@ module _ (bytes : List ℕ) (all : List Debug) (p : Places) where
       let inner : flat_map (content_of all p) (filter (is_named name) all) ≡ flat_map (content_of all p) before ++ (content_of all p d ++ flat_map (content_of all p) after) =
       ap (flat_map (content_of all p)) own ∙ flat_both (content_of all p) before d after in
       let outer : flat_map (section_of all p) (names_of all) ≡ flat_map (section_of all p) earlier ++ (section_of all p name ++ flat_map (section_of all p) later) =
-      ap (flat_map (section_of all p)) names ∙ flat_both (section_of all p) earlier name later in
-      (flat_map (content_of all p) after ++ flat_map (section_of all p) later,
-      ap (λ z. bytes ++ z) outer
-      ∙ (ap (λ z. bytes ++ (flat_map (section_of all p) earlier ++ ((0 ∷ (size ++ (sized name ++ z))) ++ flat_map (section_of all p) later))) inner
-      ∙ regrouped bytes (flat_map (section_of all p) earlier) size (sized name) (flat_map (content_of all p) before) (content_of all p d) (flat_map (content_of all p) after) (flat_map (section_of all p) later)))
+      ap (flat_map (section_of all p)) names ∙ flat_both (section_of all p) earlier name later in (
+        flat_map (content_of all p) after ++ flat_map (section_of all p) later,
+        ap (λ z. bytes ++ z) outer
+            ∙ (ap (λ z. bytes ++ (flat_map (section_of all p) earlier ++ ((0 ∷ (size ++ (sized name ++ z))) ++ flat_map (section_of all p) later))) inner
+            ∙ regrouped bytes (flat_map (section_of all p) earlier) size (sized name) (flat_map (content_of all p) before) (content_of all p d) (flat_map (content_of all p) after) (flat_map (section_of all p) later)),
+      )
 
   lies_in : (d : Debug) (r : Reloc) → Stands d → Contains d.relocs r → r.offset + 4 ≤ length d.section.content
   lies_in d r is at =

@@ -241,6 +241,7 @@ module _ (filled_body : FilledBody) (stands : (t : Tree) (s : Span) → code_pla
       let there = subst (λ ks. Has ks key) (sym defined_is) (own_there e.input e.index part some h.0 h.1) in
       let k = placed (same_function key) fs key there (functions_same.itself key) in
       let q = position-Some (same_function key) fs k.0 (stub []) k.1 in
-      let s = code_there k.0 q.0 in
-      (slice_index_or (source_places t) k.0 0 - s.0.start,
-      ap (λ b. if b then function_place Plain p parts exports lay key else None) b.0 ∙ (ap (place_of t) k.1 ∙ ap (place_in t k.0) s.1))
+      let s = code_there k.0 q.0 in (
+        slice_index_or (source_places t) k.0 0 - s.0.start,
+        ap (λ b. if b then function_place Plain p parts exports lay key else None) b.0 ∙ (ap (place_of t) k.1 ∙ ap (place_in t k.0) s.1),
+      )
