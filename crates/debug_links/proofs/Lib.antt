@@ -1,0 +1,5 @@
+pub mod Candidates
+pub mod Customs
+pub mod Keeps
+pub mod Windows
+pub mod Offsets
