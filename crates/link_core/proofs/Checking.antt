@@ -11,9 +11,9 @@ use Rattle.link_output.specs.link_program.link_rules.LinkOf.{link_of}
 use Rattle.link_output.specs.link_program.declared.error.LinkError.{LinkError}
 use Rattle.link_output.specs.link_program.declared.error.LinkError.TheVariants.{Refused, OutOfMemory}
 use Rattle.link_output.specs.link_program.Answers.{Stops}
-use Rattle.valid_links.specs.Links.{AllValid, LinksAreValid, LinksDontJudge}
-use Rattle.valid_links.specs.output_check.Check.{invalid_fault, IsValidOutput}
-use Rattle.valid_links.proofs.output_check_lemmas.Passed.{passes}
+use Rattle.debug_links.specs.valid_links.Links.{AllValid, LinksAreValid, LinksDontJudge}
+use Rattle.debug_links.specs.valid_links.output_check.Check.{invalid_fault, IsValidOutput}
+use Rattle.debug_links.proofs.output_check_lemmas.Passed.{passes}
 use Rattle.debug_links.specs.debug_tails.Tails.{with_debug}
 use Rattle.debug_links.specs.Keeps.{ValidStays}
 use Rattle.link_core.specs.Answers.{Answers}

@@ -4,7 +4,7 @@ use Rattle.std.specs.Prelude.{Result, Ok, Err, unwrap_or, IfOk}
 use Rattle.link_plan.specs.declared.plan.Plan.{Plan}
 use Rattle.link_plan.specs.Plan.{IsPlan}
 use Rattle.link_output.specs.link_program.declared.error.LinkError.{LinkError}
-use Rattle.valid_links.specs.link_runs.Links.{Runs, LinksRun}
+use Rattle.debug_links.specs.valid_links.link_runs.Links.{Runs, LinksRun}
 use Rattle.debug_links.specs.Keeps.{RunsStay}
 use Rattle.link_core.specs.Answers.{Answers}
 use Rattle.link_core.specs.Linked.{linked}

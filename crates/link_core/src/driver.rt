@@ -27,15 +27,18 @@ ghost use Rattle.link_core.specs.Tails.{modules, stage_tail, TellsTail};
 ghost use Rattle.link_core.specs.Telling.{Tells};
 ghost use Rattle.mismatch_rules.specs.Mismatches.{standing};
 ghost use Rattle.called_variants.specs.Called.{calls_told_of, told_of};
-ghost use Rattle.valid_links.specs.link_runs.Links.{Runs};
-ghost use Rattle.valid_links.specs.output_check.Check.{invalid_fault, IsValidOutput};
-ghost use Rattle.valid_links.specs.Links.{AllValid};
+ghost use Rattle.debug_links.specs.valid_links.link_runs.Links.{Runs};
+ghost use Rattle.debug_links.specs.valid_links.output_check.Check.{invalid_fault, IsValidOutput};
+ghost use Rattle.debug_links.specs.valid_links.Links.{AllValid};
 
 use crate::chosen::Chosen;
 use crate::prepared::Prepared;
 use crate::tail::{Whole, kept, room_for, with_tail};
 use crate::telling::find_telling;
-use debug_links::{runs_stay, valid_stays};
+use debug_links::{
+    Inputs, ValidError, check_output, links_are_valid, links_dont_judge, links_run, load_inputs,
+    runs_stay, valid_stays,
+};
 use debug_places::debug_tail;
 use link_image::{Layout, image, number, place_segments};
 use link_output::laws::{
@@ -50,9 +53,6 @@ use program_build::laws::parts_stand;
 use std::alloc::Global;
 use std::mem::forget;
 use std::thread::Threads;
-use valid_links::{
-    Inputs, ValidError, check_output, links_are_valid, links_dont_judge, links_run, load_inputs,
-};
 use wl_base::{Fault, Seq};
 use wl_fan::Workers;
 use wl_outside::Gate;
