@@ -2,7 +2,7 @@
 //! mark, unresolved, place, number, image, measure, patches, write. Each gives what the next ones need, or a fault that ends the link. Behind
 //! them stand the check of the output and the debug sections of the objects, where the plan asks for these (`linked` in specs/Linked.antt). The
 //! sections are joined before the output is written, while what was found of the program is still there.
-ghost use Rattle.std.specs.Prelude.{◌≡◌, [], length, unwrap_or, IfOk, IsTrue};
+ghost use Rattle.std.specs.Prelude.{◌≡◌, ◌<◌, ◌^◌, [], length, unwrap_or, IfOk, IsTrue};
 ghost use Rattle.link_output.specs.link_program.link_plan.Plan.{IsPlan};
 ghost use Rattle.link_output.specs.link_program.link_rules.ModeOf.{mode_of};
 ghost use Rattle.link_output.specs.link_program.link_rules.Program as rules;
@@ -186,7 +186,7 @@ fn link_files<R: Threads + Sync, G: Gate>(
     requires files { length files.now ≡ unwrap_or plan.now.make_case (length plan.now.inputs) }
     ensures exact { Answers (modules result) (link_of plan.now files.now) }
     ensures tail { IfOk result (λ w. TellsTail w.tail (told_tail plan.now files.now (length w.bytes))) }
-    ensures short { IsShort (modules result) }
+    ensures short { IfOk result (λ w. length w.bytes < 2 ^ 31) }
     ensures told { told.old ≡ [] → Tells result told.new (calls_told_of plan.now files.now) }
 {
     let workers = workers_of(plan, files, gate);
