@@ -7,6 +7,7 @@ pub mod Chosen
 pub mod Prepared
 pub mod Making
 pub mod Tails
+pub mod Places
 pub mod Telling
 pub use Rattle.debug_links.specs.valid_links as valid_links
 pub use Rattle.debug_links.specs.valid_links.link_runs as link_runs

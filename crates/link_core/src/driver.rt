@@ -2,7 +2,7 @@
 //! mark, unresolved, place, number, image, measure, patches, write. Each gives what the next ones need, or a fault that ends the link. Behind
 //! them stand the check of the output and the debug sections of the objects, where the plan asks for these (`linked` in specs/Linked.antt). The
 //! sections are joined before the output is written, while what was found of the program is still there.
-ghost use Rattle.std.specs.Prelude.{◌≡◌, ◌<◌, ◌^◌, [], length, unwrap_or, IfOk, IsTrue};
+ghost use Rattle.std.specs.Prelude.{◌≡◌, ◌<◌, ◌^◌, true, [], length, unwrap_or, IfOk, IsTrue};
 ghost use Rattle.link_output.specs.link_program.link_plan.Plan.{IsPlan};
 ghost use Rattle.link_output.specs.link_program.link_rules.ModeOf.{mode_of};
 ghost use Rattle.link_output.specs.link_program.link_rules.Program as rules;
@@ -22,6 +22,7 @@ ghost use Rattle.link_core.specs.Linked.{linked};
 ghost use Rattle.link_core.specs.Linking.{IsLinking};
 ghost use Rattle.link_core.specs.Loading.{Loading, program_in};
 ghost use Rattle.link_core.specs.Making.{the_image, the_windows};
+ghost use Rattle.link_core.specs.Places.{SaysPlaces};
 ghost use Rattle.link_core.specs.Prepared.{outputs, IsReady};
 ghost use Rattle.link_core.specs.Tails.{modules, stage_tail, TellsTail};
 ghost use Rattle.link_core.specs.Telling.{Tells};
@@ -37,7 +38,7 @@ use crate::tail::{Whole, kept, room_for, with_tail};
 use crate::telling::find_telling;
 use debug_links::{
     Inputs, ValidError, check_output, links_are_valid, links_dont_judge, links_run, load_inputs,
-    runs_stay, valid_stays,
+    offsets_stay, runs_stay, valid_stays,
 };
 use debug_places::debug_tail;
 use link_image::{Layout, image, number, place_segments};
@@ -90,7 +91,10 @@ pub fn link<R: Threads + Sync, G: Gate>(
     ensures valid { AllValid plan.now files.now → KeepsValid plan.now files.now result }
     // Where the plan asks for the check, the module is valid whatever the objects are.
     ensures checked { IsTrue plan.now.validate → IfOk result IsValidOutput }
-    // The module has fewer than 2^31 bytes.
+    // Where the plan keeps debug sections, each place in a live function that they name is that of the same instruction in the module, and the
+    // dead word stands for each that isn't live.
+    ensures places { plan.now.keep_debug ≡ true → IfOk result (SaysPlaces plan.now files.now) }
+    // The bytes are fewer than 2^31.
     ensures short { IsShort result }
 {
     let mut told = Seq::new(alloc);
@@ -114,6 +118,7 @@ pub fn link_telling<R: Threads + Sync, G: Gate>(
     ensures runs { IfOk result (λ bytes. Runs plan.now files.now bytes) }
     ensures valid { AllValid plan.now files.now → KeepsValid plan.now files.now result }
     ensures checked { IsTrue plan.now.validate → IfOk result IsValidOutput }
+    ensures places { plan.now.keep_debug ≡ true → IfOk result (SaysPlaces plan.now files.now) }
     ensures short { IsShort result }
     ensures told { told.old ≡ [] → Tells result told.new (calls_told_of plan.now files.now) }
 {
@@ -122,6 +127,7 @@ pub fn link_telling<R: Threads + Sync, G: Gate>(
     links_dont_judge();
     runs_stay();
     valid_stays();
+    offsets_stay();
     let answer = link_checked(rt, alloc, plan, files, gate, told);
     answer
 }
