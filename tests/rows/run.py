@@ -19,6 +19,7 @@ SUBJECTS = (
     "words",
     "cases",
     "sections",
+    "debug",
     "bodies",
     "validity",
     "agreement",

@@ -19,7 +19,7 @@ struct Case<'a> {
 }
 
 // How a run over the object ends: whether it has this exit status and line, and saves these bytes or nothing.
-fn ends<R: Threads + Sync>(
+pub(crate) fn ends<R: Threads + Sync>(
     rt: &R,
     alloc: Global,
     words: &[&str],

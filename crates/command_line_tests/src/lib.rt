@@ -7,3 +7,5 @@ mod checks;
 mod gates;
 #[cfg(test)]
 mod runs;
+#[cfg(test)]
+mod sections;

@@ -1,1 +1,2 @@
 pub mod Customs
+pub mod Objects

@@ -1,17 +1,17 @@
 mod Begins
-mod Bounds
+pub mod Bounds
 mod ByPlace
 mod Grouped
 mod Judged
 mod Lent
 mod Live
-mod Long
+pub mod Long
 mod Members
 mod Names
 mod Onto
 mod Parts
 mod Placed
 mod Spelled
-mod Stands
+pub mod Stands
 mod Tail
-mod Within
+pub mod Within

@@ -1,2 +1,3 @@
 pub mod Tails
 pub mod Rows
+pub use Rattle.link_debug.specs as link_debug

@@ -25,13 +25,13 @@ use Rattle.link_output.specs.link_program.link_rules.Keys.{numbers}
 use Rattle.link_output.specs.link_program.link_rules.Values.{rules_of, shapes}
 use Rattle.link_output.specs.link_program.link_rules.Output.{layout, image, source_windows}
 use Rattle.link_output.specs.link_program.link_rules.LinkOf.{asked_names, the_readers, exporting, marked, laid_out, written, length_fault, link_program, link_of}
-use Rattle.valid_links.specs.link_runs.link_inputs.Inputs.{loaded_of}
+use Rattle.debug_links.specs.valid_links.link_runs.link_inputs.Inputs.{loaded_of}
 use Rattle.program_build.specs.Found.{Finds, found_of}
 use Rattle.link_image.specs.link_layout.Placed.{AnswersPlaced, IsPlaced}
 use Rattle.link_image.specs.link_numbers.Numbered.{TellsOverflow, IsNumbering}
 use Rattle.link_output.specs.link_program.image_emit.Measures.{LieIn}
-use Rattle.link_output.specs.link_program.image_emit.Pieces.{sources}
-use Rattle.link_output.specs.link_program.Live.{AreLive, AllMeant}
+use Rattle.link_output.specs.link_program.image_emit.Pieces.{code_place, source_places, sources}
+use Rattle.link_output.specs.link_program.Live.{Stage, AreLive, AllMeant}
 use Rattle.link_output.specs.link_program.Program.{IsProgram}
 use Rattle.link_output.specs.link_program.Stand.{PartsStand}
 use Rattle.link_image.specs.link_layout.Layout.{IsLayout}
@@ -40,7 +40,9 @@ use Rattle.link_output.specs.Written.{Measures, Writes, StandInSources}
 use Rattle.link_output.specs.link_program.declared.error.LinkError.{LinkError}
 use Rattle.link_output.specs.link_program.declared.error.LinkError.TheVariants.{Refused, OutOfMemory}
 use Rattle.link_output.specs.link_program.Answers.{Fails, Stops, of_layout}
+use Rattle.debug_places.specs.Tails.{the_tree}
 use Rattle.link_core.specs.Answers.{Answers}
+use Rattle.link_core.specs.Making.{the_image}
 use Rattle.link_core.proofs.Steps as steps
 
 -- an error that is passed on
@@ -179,6 +181,14 @@ pub stand_there : (files others : List (List ℕ)) (i j : Image) (wss : List (Li
     → StandInSources wss (sources (tree_of files j))
 stand_there files others i j wss same made stand =
     subst (λ k. StandInSources wss (sources (tree_of files k))) (sym made) (subst (λ fs. StandInSources wss (sources (tree_of fs i))) (sym same) stand)
+
+-- what a measure tells of the image that was made, said of the stage's
+module _ (s : Stage) (files : List (List ℕ)) (j : Image) (same : files ≡ s.program.files) (made : j ≡ the_image s) (m : Measured) where
+  pub places_there : m.places ≡ source_places (tree_of files j) → m.places ≡ source_places (the_tree s)
+  places_there is = is ∙ (λ i. source_places (tree_of (same i) (made i)))
+
+  pub code_there : m.code ≡ code_place (tree_of files j) → m.code ≡ code_place (the_tree s)
+  code_there is = is ∙ (λ i. code_place (tree_of (same i) (made i)))
 
 module _ (p : Program) (i : Image) (wss : List (List Window)) (files : List (List ℕ)) (j : Image) (same : files ≡ p.files) (made : j ≡ i) where
   -- what is known of the image that was made, said of the image

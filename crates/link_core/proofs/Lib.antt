@@ -4,3 +4,4 @@ pub mod Loading
 pub mod Running
 pub mod Checking
 pub mod Listing
+pub mod Tails

@@ -45,6 +45,12 @@ module _ (l : Loading) (plan : Plan) (loaded objects : List Object) (same : l.or
   pub all_found : found_of found_program ≡ Ok found_program → found_of (program_in l) ≡ Ok (program_in l)
   all_found found = subst (λ p. found_of p ≡ Ok p) program_is found
 
+  -- they are those of the program, with their homes
+  pub loaded_there : (homes others : List Home) → others ≡ homes → IsLoaded l.origin.files l.origin.all loaded homes → IsLoaded (program_in l).files l.origin.all (program_in l).objects others
+  unfolding program_of
+  loaded_there homes others is given =
+      subst (λ (os : List Object). IsLoaded l.origin.files l.origin.all os others) (sym are) (subst (IsLoaded l.origin.files l.origin.all loaded) (sym is) given)
+
   pub linking_is : (files : List (List ℕ)) (homes : List Home) (d : Data) (view : Entries) → IsPlan plan → l.origin.files ≡ files
       → IsLoaded l.origin.files l.origin.all loaded homes → LoadedPartsStand → IsProgram d found_program → Fits Plain view
       → view.objects.now ≡ d.objects.now → view.names.now ≡ d.names.now → IsLinking (program_in l) d view files

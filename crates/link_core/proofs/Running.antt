@@ -1,15 +1,27 @@
--- What a link answers runs as its plan and files tell.
-use Rattle.std.proofs.Common.{◌≡◌, ℕ, List, length}
+-- What a link answers runs as its plan and files tell, and its debug sections say where its instructions are.
+use Rattle.std.proofs.Common.{◌≡◌, ℕ, true, List, length}
 use Rattle.std.specs.Prelude.{Result, Ok, Err, unwrap_or, IfOk}
 use Rattle.link_plan.specs.declared.plan.Plan.{Plan}
 use Rattle.link_plan.specs.Plan.{IsPlan}
 use Rattle.link_output.specs.link_program.declared.error.LinkError.{LinkError}
-use Rattle.valid_links.specs.link_runs.Links.{Runs, LinksRun}
+use Rattle.debug_links.specs.valid_links.link_runs.Links.{Runs, LinksRun}
+use Rattle.debug_links.specs.Keeps.{RunsStay}
+use Rattle.debug_links.specs.Offsets.{OffsetsStay}
 use Rattle.link_core.specs.Answers.{Answers}
 use Rattle.link_core.specs.Linked.{linked}
-use Rattle.link_core.proofs.Checking.{is_linked}
+use Rattle.link_core.specs.Places.{SaysPlaces}
+use Rattle.link_core.proofs.Checking.{linked_parts}
 
-pub runs_of : (plan : Plan) (files : List (List ℕ)) (answer : Result (List ℕ) LinkError) → LinksRun → IsPlan plan → length files ≡ unwrap_or plan.make_case (length plan.inputs)
+pub runs_of : (plan : Plan) (files : List (List ℕ)) (answer : Result (List ℕ) LinkError) → LinksRun → RunsStay → IsPlan plan → length files ≡ unwrap_or plan.make_case (length plan.inputs)
     → Answers answer (linked plan files) → IfOk answer (λ bytes. Runs plan files bytes)
-runs_of plan files (Ok bytes) law fit long is = law plan files bytes fit long (is_linked plan files bytes is)
-runs_of plan files (Err e) law fit long is = tt
+runs_of plan files (Ok whole) law stay fit long is =
+    let p = linked_parts plan files whole is in
+    stay plan files p.0 whole (law plan files p.0 fit long p.1) p.2
+runs_of plan files (Err e) law stay fit long is = tt
+
+pub places_of : (plan : Plan) (files : List (List ℕ)) (answer : Result (List ℕ) LinkError) → OffsetsStay → length files ≡ unwrap_or plan.make_case (length plan.inputs)
+    → Answers answer (linked plan files) → plan.keep_debug ≡ true → IfOk answer (SaysPlaces plan files)
+places_of plan files (Ok whole) law long is kept =
+    let p = linked_parts plan files whole is in
+    (p.0, (p.1, law plan files p.0 whole long kept p.1 p.2))
+places_of plan files (Err e) law long is kept = tt

@@ -1,7 +1,8 @@
 //! The whole link, as a list of steps in the order of its definition (`link_of` in link_rules/specs/LinkOf.antt): load, find, exports,
 //! mark, unresolved, place, number, image, measure, patches, write. Each gives what the next ones need, or a fault that ends the link. Behind
-//! them stands the check of the output, where the plan asks for it (`linked` in specs/Linked.antt).
-ghost use Rattle.std.specs.Prelude.{◌≡◌, [], length, unwrap_or, IfOk, IsTrue};
+//! them stand the check of the output and the debug sections of the objects, where the plan asks for these (`linked` in specs/Linked.antt). The
+//! sections are joined before the output is written, while what was found of the program is still there.
+ghost use Rattle.std.specs.Prelude.{◌≡◌, ◌<◌, ◌^◌, true, [], length, unwrap_or, IfOk, IsTrue};
 ghost use Rattle.link_output.specs.link_program.link_plan.Plan.{IsPlan};
 ghost use Rattle.link_output.specs.link_program.link_rules.ModeOf.{mode_of};
 ghost use Rattle.link_output.specs.link_program.link_rules.Program as rules;
@@ -12,7 +13,8 @@ ghost use Rattle.link_output.specs.link_program.Loaded.{IsLoaded};
 ghost use Rattle.link_output.specs.link_program.Program.{IsProgram};
 ghost use Rattle.link_output.specs.link_program.name_entries.Fits.{Fits};
 ghost use Rattle.link_output.specs.link_program.Stand.{PartsStand};
-ghost use Rattle.link_output.specs.link_program.Live.{Stage};
+ghost use Rattle.debug_places.specs.Tails.{LoadedStage};
+ghost use Rattle.debug_links.specs.debug_tails.Tails.{debug_tail as told_tail, program_tail, with_debug};
 ghost use Rattle.link_core.specs.Answers.{Answers, IsShort};
 ghost use Rattle.link_core.specs.Checked.{KeepsValid};
 ghost use Rattle.link_core.specs.Chosen.{IsChosen, Chooses};
@@ -20,22 +22,30 @@ ghost use Rattle.link_core.specs.Linked.{linked};
 ghost use Rattle.link_core.specs.Linking.{IsLinking};
 ghost use Rattle.link_core.specs.Loading.{Loading, program_in};
 ghost use Rattle.link_core.specs.Making.{the_image, the_windows};
+ghost use Rattle.link_core.specs.Places.{SaysPlaces};
 ghost use Rattle.link_core.specs.Prepared.{outputs, IsReady};
+ghost use Rattle.link_core.specs.Tails.{modules, stage_tail, TellsTail};
 ghost use Rattle.link_core.specs.Telling.{Tells};
 ghost use Rattle.mismatch_rules.specs.Mismatches.{standing};
 ghost use Rattle.called_variants.specs.Called.{calls_told_of, told_of};
-ghost use Rattle.valid_links.specs.link_runs.Links.{Runs};
-ghost use Rattle.valid_links.specs.output_check.Check.{invalid_fault, IsValidOutput};
-ghost use Rattle.valid_links.specs.Links.{AllValid};
+ghost use Rattle.debug_links.specs.valid_links.link_runs.Links.{Runs};
+ghost use Rattle.debug_links.specs.valid_links.output_check.Check.{invalid_fault, IsValidOutput};
+ghost use Rattle.debug_links.specs.valid_links.Links.{AllValid};
 
 use crate::chosen::Chosen;
 use crate::prepared::Prepared;
+use crate::tail::{Whole, kept, room_for, with_tail};
 use crate::telling::find_telling;
+use debug_links::{
+    Inputs, ValidError, check_output, links_are_valid, links_dont_judge, links_run, load_inputs,
+    offsets_stay, runs_stay, valid_stays,
+};
+use debug_places::debug_tail;
 use link_image::{Layout, image, number, place_segments};
 use link_output::laws::{
     patches_make_the_output, values_are_judged_in_turn, windows_stand_in_sources,
 };
-use link_output::{Entries, LinkError, Program, Winner, measured, write};
+use link_output::{Entries, Home, LinkError, Program, Winner, measured, write};
 use link_plan::Plan;
 use lost_ctors::{all_are_meant, exports, live_parts, repeated_export, uncalled, unresolved};
 use mismatch_rules::Mismatch;
@@ -44,9 +54,6 @@ use program_build::laws::parts_stand;
 use std::alloc::Global;
 use std::mem::forget;
 use std::thread::Threads;
-use valid_links::{
-    Inputs, ValidError, check_output, links_are_valid, links_dont_judge, links_run, load_inputs,
-};
 use wl_base::{Fault, Seq};
 use wl_fan::Workers;
 use wl_outside::Gate;
@@ -84,7 +91,10 @@ pub fn link<R: Threads + Sync, G: Gate>(
     ensures valid { AllValid plan.now files.now → KeepsValid plan.now files.now result }
     // Where the plan asks for the check, the module is valid whatever the objects are.
     ensures checked { IsTrue plan.now.validate → IfOk result IsValidOutput }
-    // The module has fewer than 2^31 bytes.
+    // Where the plan keeps debug sections, each place in a live function that they name is that of the same instruction in the module, and the
+    // dead word stands for each that isn't live.
+    ensures places { plan.now.keep_debug ≡ true → IfOk result (SaysPlaces plan.now files.now) }
+    // The bytes are fewer than 2^31.
     ensures short { IsShort result }
 {
     let mut told = Seq::new(alloc);
@@ -108,12 +118,16 @@ pub fn link_telling<R: Threads + Sync, G: Gate>(
     ensures runs { IfOk result (λ bytes. Runs plan.now files.now bytes) }
     ensures valid { AllValid plan.now files.now → KeepsValid plan.now files.now result }
     ensures checked { IsTrue plan.now.validate → IfOk result IsValidOutput }
+    ensures places { plan.now.keep_debug ≡ true → IfOk result (SaysPlaces plan.now files.now) }
     ensures short { IsShort result }
     ensures told { told.old ≡ [] → Tells result told.new (calls_told_of plan.now files.now) }
 {
     links_run();
     links_are_valid();
     links_dont_judge();
+    runs_stay();
+    valid_stays();
+    offsets_stay();
     let answer = link_checked(rt, alloc, plan, files, gate, told);
     answer
 }
@@ -134,15 +148,17 @@ fn link_checked<R: Threads + Sync, G: Gate>(
     ensures short { IsShort result }
     ensures told { told.old ≡ [] → Tells result told.new (calls_told_of plan.now files.now) }
 {
-    let bytes = link_files(rt, alloc, plan, files, gate, told)?;
+    valid_stays();
+    let whole = link_files(rt, alloc, plan, files, gate, told)?;
     check(
         rt,
         alloc,
         plan,
-        bytes.as_slice(),
+        whole.bytes.as_slice(),
         workers_of(plan, files, gate),
     )?;
-    Ok(bytes)
+    let answer = with_tail(whole);
+    answer
 }
 
 // Checks the output, where the plan asks for that.
@@ -163,7 +179,7 @@ fn check<R: Threads + Sync>(
     }
 }
 
-// The link without the check.
+// The link without the check, and its debug sections.
 fn link_files<R: Threads + Sync, G: Gate>(
     rt: &R,
     alloc: Global,
@@ -171,11 +187,12 @@ fn link_files<R: Threads + Sync, G: Gate>(
     files: &[Seq<u8>],
     gate: &G,
     told: &mut Seq<Mismatch>,
-) -> Result<Seq<u8>, LinkError>
+) -> Result<Whole, LinkError>
     requires plan { IsPlan plan.now }
     requires files { length files.now ≡ unwrap_or plan.now.make_case (length plan.now.inputs) }
-    ensures exact { Answers result (link_of plan.now files.now) }
-    ensures short { IsShort result }
+    ensures exact { Answers (modules result) (link_of plan.now files.now) }
+    ensures tail { IfOk result (λ w. TellsTail w.tail (told_tail plan.now files.now (length w.bytes))) }
+    ensures short { IfOk result (λ w. length w.bytes < 2 ^ 31) }
     ensures told { told.old ≡ [] → Tells result told.new (calls_told_of plan.now files.now) }
 {
     let workers = workers_of(plan, files, gate);
@@ -190,10 +207,12 @@ fn link_files<R: Threads + Sync, G: Gate>(
         &ready.image,
         &ready.measured,
         &ready.patches,
+        room_for(&ready.tail),
         workers,
         gate,
     )?;
-    Ok(bytes)
+    let Prepared { tail, .. } = ready;
+    Ok(Whole { bytes, tail })
 }
 
 // Prepares the output of the loaded objects. What was found of them is given back at the end, before the output's buffer is reserved; but not
@@ -216,26 +235,21 @@ fn prepare<R: Threads + Sync, G: Gate>(
     requires loaded { IsLoaded l.origin.files l.origin.all inputs.now.loaded inputs.now.homes }
     ensures exact { Answers (outputs files.now result) (link_program (mode_of l.origin.plan) (program_in l)) }
     ensures ready { IfOk result (IsReady files.now) }
+    ensures tail { IfOk result (λ p. TellsTail p.tail (program_tail (mode_of l.origin.plan) (program_in l) l.origin.all p.measured.len)) }
     ensures told { told.old ≡ [] → Tells result told.new (told_of (standing (program_in l))) }
 {
     let objects = inputs.objects();
-    let found = find_telling(
-        rt,
-        alloc,
-        plan,
-        objects,
-        inputs.homes(),
-        workers,
-        gate,
-        told,
-    )?;
+    let homes = inputs.homes();
+    let found = find_telling(rt, alloc, plan, objects, homes, workers, gate, told)?;
     parts_stand();
     let program = found.program(plan, objects);
     let entries = found.view(objects);
     let chosen = choose(rt, alloc, program, entries, workers, gate)?;
     let exports = chosen.exports.as_slice();
     let live = chosen.live.numbers.as_slice();
-    let prepared = lay_out(rt, alloc, program, entries, files, exports, live, workers);
+    let prepared = lay_out(
+        rt, alloc, program, entries, files, homes, exports, live, workers,
+    );
     let Found { names, .. } = found;
     forget(names);
     prepared
@@ -273,15 +287,18 @@ fn lay_out<R: Threads + Sync>(
     program: Program<'_>,
     entries: Entries<'_>,
     files: &[Seq<u8>],
+    homes: &[Home],
     exports: &[Winner],
     live: &[u32],
     workers: Workers,
 ) -> Result<Prepared, LinkError>
-    ghost s: { Stage }
-    requires is { IsLinking s.program program entries files.now }
-    requires chosen { IsChosen s program exports.now live.now }
-    ensures exact { Answers (outputs files.now result) (laid_out (mode_of s.program.plan) s.program s.exports s.parts) }
+    ghost s: { LoadedStage }
+    requires is { IsLinking s.stage.program program entries files.now }
+    requires chosen { IsChosen s.stage program exports.now live.now }
+    requires loaded { IsLoaded s.stage.program.files s.all s.stage.program.objects homes.now }
+    ensures exact { Answers (outputs files.now result) (laid_out (mode_of s.stage.program.plan) s.stage.program s.stage.exports s.stage.parts) }
     ensures ready { IfOk result (IsReady files.now) }
+    ensures tail { IfOk result (λ p. TellsTail p.tail (stage_tail s p.measured.len)) }
 {
     let placed = place_segments(alloc, program, files, live)?;
     let numbering = number(rt, alloc, program, entries, exports, live, workers)?;
@@ -290,26 +307,29 @@ fn lay_out<R: Threads + Sync>(
         numbering: &numbering,
         placed: &placed,
     };
-    let prepared = make_ready(rt, alloc, layout, files, exports, live, workers);
+    let prepared = make_ready(rt, alloc, layout, files, homes, exports, live, workers);
     prepared
 }
 
-// Makes the output's image, measures it, and finds what its windows hold.
+// Makes the output's image, measures it, finds what its windows hold, and joins the debug sections.
 fn make_ready<R: Threads + Sync>(
     rt: &R,
     alloc: Global,
     layout: Layout<'_>,
     files: &[Seq<u8>],
+    homes: &[Home],
     exports: &[Winner],
     live: &[u32],
     workers: Workers,
 ) -> Result<Prepared, LinkError>
-    ghost s: { Stage }
-    requires layout { IsLayout s.program s.parts s.exports layout }
-    requires chosen { IsChosen s layout.program exports.now live.now }
-    requires files { files.now ≡ s.program.files }
-    ensures exact { Answers (outputs files.now result) (written (mode_of s.program.plan) s.program (the_image s) (the_windows s)) }
+    ghost s: { LoadedStage }
+    requires layout { IsLayout s.stage.program s.stage.parts s.stage.exports layout }
+    requires chosen { IsChosen s.stage layout.program exports.now live.now }
+    requires files { files.now ≡ s.stage.program.files }
+    requires loaded { IsLoaded s.stage.program.files s.all s.stage.program.objects homes.now }
+    ensures exact { Answers (outputs files.now result) (written (mode_of s.stage.program.plan) s.stage.program (the_image s.stage) (the_windows s.stage)) }
     ensures ready { IfOk result (IsReady files.now) }
+    ensures tail { IfOk result (λ p. TellsTail p.tail (stage_tail s p.measured.len)) }
 {
     windows_stand_in_sources();
     values_are_judged_in_turn();
@@ -317,10 +337,13 @@ fn make_ready<R: Threads + Sync>(
     let image = image(alloc, layout, exports, live)?;
     let measured = measured(alloc, files, &image)?;
     let patches = layout.patches(rt, alloc, live, measured.places.as_slice(), workers)?;
+    let joined = debug_tail(rt, alloc, layout, live, &measured, homes, files, workers);
+    let tail = kept(joined)?;
     Ok(Prepared {
         image,
         measured,
         patches,
+        tail,
     })
 }
 

@@ -4,6 +4,7 @@
 mod chosen;
 mod driver;
 mod prepared;
+mod tail;
 mod telling;
 
 pub use driver::{link, link_telling};

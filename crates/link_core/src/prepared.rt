@@ -1,5 +1,6 @@
 //! What is left to write when all is placed and numbered.
 
+use crate::tail::Tail;
 use image_emit::{Image, Measured};
 use patch_pieces::Pieces;
 
@@ -11,4 +12,6 @@ pub struct Prepared {
     pub measured: Measured,
     /// What is written into the windows of the sources.
     pub patches: Pieces,
+    /// What stands behind the output.
+    pub tail: Tail,
 }

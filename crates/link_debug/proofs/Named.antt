@@ -1,14 +1,15 @@
 -- Offsets into live functions name the same instructions.
-use Rattle.std.proofs.Common.{◌≡◌, ℕ, zero, suc, ◌<◌, List, [], ◌∷◌, ◌++◌, length, map, take, drop, get_or, slice_index_or, Option, Some, None, Bool, true, false, inl, inr, refl, sym, ap, ◌∙◌, subst, arith}
-use Rattle.std.specs.Prelude.{◌==◌, ◌&&◌, not, find, position, if◌then◌else◌}
-use Rattle.std.proofs.lemmas.Bool.{and_parts, eqb-true}
+use Rattle.std.proofs.Common.{◌≡◌, ℕ, zero, suc, ◌<◌, ◌-◌, List, [], ◌∷◌, ◌++◌, length, map, take, drop, get_or, slice_index_or, Option, Some, None, Bool, true, false, inl, inr, refl, sym, ap, ◌∙◌, subst, arith}
+use Rattle.std.specs.Prelude.{◌==◌, ◌&&◌, not, find, filter_map, position, if◌then◌else◌}
+use Rattle.std.proofs.lemmas.Bool.{and_parts, and_from, eqb-true, ne_eqb}
 use Rattle.std.proofs.lemmas.List.{get_or-map, get_or_append_left}
 use Rattle.std.proofs.lemmas.List.Quantifiers.{position-Some}
 use Rattle.list_places.specs.Has.{Has}
-use Rattle.list_places.proofs.Lists.{has_right}
+use Rattle.list_places.proofs.Lists.{has_right, pick_has, find_has, placed}
 use Rattle.wasm_instr.specs.declared.body.Placed.{Placed}
 use Rattle.wasm_instr.specs.Bodies.{SpellsBody}
 use Rattle.wasm_instr.specs.wl_base.declared.span.Span.{Span}
+use Rattle.object_file.specs.wl_base.Choice.{given}
 use Rattle.linking_section.specs.declared.symbol.SymbolKind.TheVariants.{Function}
 use Rattle.linking_section.specs.Flags.{is_undefined}
 use Rattle.made_symbols.specs.declared.mode.Mode.TheVariants.{Plain}
@@ -17,21 +18,23 @@ use Rattle.reloc_apply.specs.declared.window.Patch.{Patch}
 use Rattle.reloc_apply.specs.Windows.{filled, patch_of}
 use Rattle.image_emit.specs.Bytes.{Tree, bytes_of, sized, vector, source_bytes}
 use Rattle.image_emit.specs.Filled.{each_filled}
-use Rattle.image_emit.specs.Pieces.{code_place}
+use Rattle.image_emit.specs.Pieces.{code_place, source_places}
+use Rattle.image_emit.proofs.Stands.{no_code}
 use Rattle.link_rules.specs.Program.{Program, Part}
 use Rattle.link_rules.specs.Marks.{live, refs_of}
-use Rattle.link_rules.specs.Keys.{FunctionKey, outside, linker_function, stub, own, same_function, functions, defined_functions, function_imports_of, is_function_at}
+use Rattle.link_rules.specs.Keys.{FunctionKey, outside, linker_function, stub, own, same_function, functions, defined_functions, function_imports_of, made_function_key, own_function_key, stub_names, is_function_at}
 use Rattle.link_rules.specs.Values.{Layout, part_bytes, windows, named_window, solid_segments}
 use Rattle.link_rules.specs.Output.{layout, image, source_windows, defined, body_of, body_windows, windows_in, source_of}
 use Rattle.link_rules.specs.LinkOf.{output_bytes}
 use Rattle.link_worlds.specs.Bodies.{linked_placed}
 use Rattle.link_worlds.specs.Worlds.{layout_of}
+use Rattle.link_worlds.proofs.Keys.{functions_same}
 use Rattle.link_worlds.proofs.Functions.{stood, Stood, find_part, live_apart}
 use Rattle.link_worlds.proofs.Spaces.{outer_defined, kept_defined}
 use Rattle.output_module.specs.Filled.{patches, linked_with, FilledBody}
-use Rattle.output_module.specs.Outputs.{IsCoded, IsWritten}
+use Rattle.output_module.specs.Outputs.{IsCoded}
 use Rattle.link_debug.specs.Places.{place_in, place_of, tree, function_place, body_place}
-use Rattle.link_debug.specs.Offsets.{cut_from, bytes, code, IsSameFrom}
+use Rattle.link_debug.specs.Offsets.{cut_from, bytes, code, IsSameFrom, AreCoded, own_part}
 use Rattle.link_debug.proofs.Bodies.{body_stands}
 
 -- ---- lists
@@ -68,8 +71,8 @@ map_twice f g (x ∷ xs) = ap (λ ys. f (g x) ∷ ys) (map_twice f g xs)
 
 -- ---- what has a place
 
-if_some : (b : Bool) (x : Option ℕ) (n : ℕ) → (if b then x else None) ≡ Some n → x ≡ Some n
-if_some true x n e = e
+if_some : {A : Type 0} (b : Bool) (x : Option A) (n : A) → (if b then x else None) ≡ Some n → (b ≡ true) × (x ≡ Some n)
+if_some true x n e = (refl, e)
 if_some false x n e = absurd (grind arith)
 
 of_some : (t : Tree) (o : Option ℕ) (n : ℕ) → place_of t o ≡ Some n → (k : ℕ) × (o ≡ Some k) × (place_of t (Some k) ≡ Some n)
@@ -91,7 +94,7 @@ is_own i x (own j y) e =
 -- ---- the law
 
 module _ (filled_body : FilledBody) (stands : (t : Tree) (s : Span) → code_place t ≡ Some s → take s.len (drop s.start (bytes_of t)) ≡ vector sized t.bodies)
-    (p : Program) (exports : List InputSymbol) (w : IsWritten p exports (layout_of p exports)) where
+    (p : Program) (exports : List InputSymbol) (w : AreCoded p exports) where
   abbrev parts : List Part
   parts = live p exports
 
@@ -187,15 +190,20 @@ module _ (filled_body : FilledBody) (stands : (t : Tree) (s : Span) → code_pla
       ∙ own_bytes (find (is_function_at i x) parts) s.0 f) in
       (s.0, f, same_from s.0 n k c lt at is)
 
-  pub offset_names : (e : InputSymbol) (n : ℕ) → body_place Plain p parts exports lay e ≡ Some n
-      → (part : Part) × (find (is_function_at e.input e.index) parts ≡ Some part) × IsSameFrom p exports part n
-  offset_names e n is =
-      let live_place = if_some (is_kind Function e && not (is_undefined e.symbol)) (function_place Plain p parts exports lay (own e.input e.index)) n is in
-      let r = of_some t (position (same_function (own e.input e.index)) fs) n live_place in
-      let q = position-Some (same_function (own e.input e.index)) fs r.0 (stub []) r.1 in
-      found e.input e.index n r.0 q.0 (is_own e.input e.index (get_or fs r.0 (stub [])) q.1) r.2
+  -- ---- what a symbol's object defines by it
 
-  pub dropped : (e : InputSymbol) → find (is_function_at e.input e.index) parts ≡ None → body_place Plain p parts exports lay e ≡ None
+  abbrev defines : InputSymbol → Bool
+  defines e = is_kind Function e && not (is_undefined e.symbol)
+
+  pub offset_names : (e : InputSymbol) (n : ℕ) → body_place Plain p parts exports lay e ≡ Some n → (part : Part) × (own_part p exports e ≡ Some part) × IsSameFrom p exports part n
+  offset_names e n is =
+      let b = if_some (defines e) (function_place Plain p parts exports lay (own e.input e.index)) n is in
+      let r = of_some t (position (same_function (own e.input e.index)) fs) n b.1 in
+      let q = position-Some (same_function (own e.input e.index)) fs r.0 (stub []) r.1 in
+      let f = found e.input e.index n r.0 q.0 (is_own e.input e.index (get_or fs r.0 (stub [])) q.1) r.2 in
+      (f.0, ap (λ b. if b then find (is_function_at e.input e.index) parts else None) b.0 ∙ f.1, f.2)
+
+  pub dropped : (e : InputSymbol) → own_part p exports e ≡ None → body_place Plain p parts exports lay e ≡ None
   dropped e gone = by (body_place Plain p parts exports lay e) refl
     where
       by : (o : Option ℕ) → body_place Plain p parts exports lay e ≡ o → body_place Plain p parts exports lay e ≡ None
@@ -204,3 +212,36 @@ module _ (filled_body : FilledBody) (stands : (t : Tree) (s : Span) → code_pla
           let r = offset_names e n is in
           let both : Some r.0 ≡ None = sym r.1 ∙ gone in
           absurd (grind arith)
+
+  -- a live function is one of those that the output defines
+  own_there : (i x : ℕ) (part : Part) → (i ≡ 0 → ⊥) → Has parts part → is_function_at i x part ≡ true → Has (defined_functions p parts) (own i x)
+  own_there i x part some there is =
+      let c = part.chunk in
+      let q = and_parts ((c.kind == 0) && (c.input == i)) (c.index == x) is in
+      let q' = and_parts (c.kind == 0) (c.input == i) q.0 in
+      let input = eqb-true c.input i q'.1 in
+      let test : (not (c.input == 0) && (c.kind == 0)) ≡ true = and_from (not (c.input == 0)) (c.kind == 0) (ap not (ne_eqb c.input 0 (λ z. some (sym input ∙ z)))) q'.0 in
+      let key : own_function_key part ≡ Some (own i x) =
+      ap (λ b. given b (own c.input c.index)) test ∙ (ap (λ n. Some (own n c.index)) input ∙ ap (λ n. Some (own i n)) (eqb-true c.index x q.1)) in
+      has_right (filter_map made_function_key parts ++ map stub (stub_names p (refs_of parts))) (filter_map own_function_key parts) (own i x) (pick_has own_function_key parts part (own i x) there key)
+
+  -- where there is a body, there is a code section
+  code_there : (k : ℕ) → k < length fs → (s : Span) × (code_place t ≡ Some s)
+  code_there k lt = by (code_place t) refl
+    where
+      by : (o : Option Span) → code_place t ≡ o → (s : Span) × (code_place t ≡ Some s)
+      by None is = absurd (omega (arith, lt, count_bodies, ap (λ (bs : List (List ℕ)). length bs) (no_code t is)))
+      by (Some s) is = (s, is)
+
+  pub live_placed : (e : InputSymbol) (part : Part) → (e.input ≡ 0 → ⊥) → own_part p exports e ≡ Some part → (n : ℕ) × (body_place Plain p parts exports lay e ≡ Some n)
+  live_placed e part some is =
+      let key = own e.input e.index in
+      let b = if_some (defines e) (find (is_function_at e.input e.index) parts) part is in
+      let h = find_has (is_function_at e.input e.index) parts part b.1 in
+      let there = subst (λ ks. Has ks key) (sym defined_is) (own_there e.input e.index part some h.0 h.1) in
+      let k = placed (same_function key) fs key there (functions_same.itself key) in
+      let q = position-Some (same_function key) fs k.0 (stub []) k.1 in
+      let s = code_there k.0 q.0 in (
+        slice_index_or (source_places t) k.0 0 - s.0.start,
+        ap (λ b. if b then function_place Plain p parts exports lay key else None) b.0 ∙ (ap (place_of t) k.1 ∙ ap (place_in t k.0) s.1),
+      )

@@ -13,7 +13,8 @@ use wl_base::{OutOfMemory, Seq};
 use wl_fan::Workers;
 use wl_outside::Gate;
 
-/// The bytes of a measured image, with each patch written. The patches rise and don't overlap.
+/// The bytes of a measured image, with each patch written. The patches rise and don't overlap. The list has room for `more` bytes behind
+/// them, so putting these there copies nothing.
 ///
 /// Once the buffer is reserved nothing can want memory.
 pub fn write<R: Threads + Sync, G: Gate>(
@@ -23,6 +24,7 @@ pub fn write<R: Threads + Sync, G: Gate>(
     image: &Image,
     m: &Measured,
     patches: &Pieces,
+    more: usize,
     workers: Workers,
     gate: &G,
 ) -> Result<Seq<u8>, OutOfMemory>
@@ -32,7 +34,7 @@ pub fn write<R: Threads + Sync, G: Gate>(
     ensures is { IfOk result (λ bytes. bytes ≡ filled patches.now.patches (bytes_of (tree_of files.now image.now))) }
     ensures len { IfOk result (λ bytes. length bytes ≡ m.now.len) }
 {
-    let mut bytes = room(alloc, m.len)?;
+    let mut bytes = room(alloc, m.len, more)?;
     put(
         rt,
         files,
@@ -68,9 +70,12 @@ fn put<R: Threads + Sync, G: Gate>(
     fill(rt, patches, out, workers, gate);
 }
 
-// The buffer, with so many bytes.
-fn room(alloc: Global, len: u64) -> Result<Vec<u8>, OutOfMemory>
+// The buffer, with so many bytes, and with room for more.
+fn room(alloc: Global, len: u64, more: usize) -> Result<Vec<u8>, OutOfMemory>
     ensures { IfOk result (λ bytes. length bytes.items ≡ len) }
 {
-    Ok(vec![in alloc; 0u8; len as usize]?)
+    let len = len as usize;
+    let mut bytes = Vec::with_capacity(alloc, len.saturating_add(more))?;
+    bytes.resize(len, 0)?;
+    Ok(bytes)
 }

@@ -11,3 +11,4 @@ mod Candidates
 mod NoCheck
 mod Links
 pub use Rattle.output_check.proofs as output_check_lemmas
+pub use Rattle.link_runs.proofs as link_runs_lemmas

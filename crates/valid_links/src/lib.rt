@@ -4,7 +4,7 @@
 ghost use Rattle.valid_links.specs.Types.{NamesHaveOneType};
 ghost use Rattle.valid_links.specs.Links.{LinksAreValid, LinksDontJudge};
 
-pub use link_runs::{Inputs, links_run, load_inputs};
+pub use link_runs::{Inputs, facts_hold, links_run, load_inputs, loaded_objects_are_sound};
 pub use output_check::{ValidError, check_output};
 
 /// Where no names of loaded objects clash, what a live reference names has the type that its object

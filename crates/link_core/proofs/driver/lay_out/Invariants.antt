@@ -1,10 +1,10 @@
 use Rattle.link_core.proofs.driver.lay_out.Given as goal
 
 abbrev pub ghost-place_segments : goal.ghost-place_segments
-ghost-place_segments g a = g.s
+ghost-place_segments g a = g.s.stage
 
 abbrev pub ghost-number : goal.ghost-number
-ghost-number g a = record { program = g.s.program; exports = g.s.exports; parts = g.s.parts }
+ghost-number g a = record { program = g.s.stage.program; exports = g.s.stage.exports; parts = g.s.stage.parts }
 
 abbrev pub ghost-make_ready : goal.ghost-make_ready
 ghost-make_ready g a = g.s

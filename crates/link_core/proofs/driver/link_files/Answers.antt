@@ -1,12 +1,15 @@
-use Rattle.std.proofs.Common.{◌∙◌, Ok, Err, ap, sym}
+use Rattle.std.proofs.Common.{◌∙◌, Ok, Err, ap, length, subst, sym}
 use Rattle.std.proofs.lemmas.Result.{err_from_is_err_and}
 use Rattle.link_output.specs.link_program.made_symbols.declared.mode.Mode.TheVariants.{Plain}
 use Rattle.link_output.specs.link_program.link_rules.LinkOf.{link_program}
 use Rattle.link_output.specs.link_program.Loaded.{the_candidates}
+use Rattle.debug_links.specs.debug_tails.Tails.{debug_tail}
 use Rattle.link_core.specs.Loading.{Loading, program_in}
 use Rattle.link_core.specs.Prepared.{output_of}
+use Rattle.link_core.specs.Tails.{TellsTail}
 use Rattle.link_core.proofs.Answering.{fails_by, load_failed, goes_on_loaded}
 use Rattle.link_core.proofs.Listing.{load_told, loaded_told, tells_on}
+use Rattle.link_core.proofs.Tails.{loaded_tail}
 use Rattle.link_core.proofs.driver.link_files.Goals as goal
 
 pub returns-in_err-inputs-clause-exact : goal.returns-in_err-inputs-clause-exact
@@ -33,6 +36,15 @@ returns-clause-exact g c =
     goes_on_loaded c.args.plan.now c.args.files.now (the_candidates c.args.plan.now c.args.files.now) c.in_ok-inputs.inputs.loaded (Ok (output_of c.args.files.now c.in_ok-ready.ready))
     c.in_ok-inputs.ensures.found.candidates c.in_ok-inputs.ensures.found.objects c.in_ok-ready.ensures.exact
     ∙ ap (λ bs. Ok bs) (sym c.in_ok-bytes.ensures.is)
+
+pub returns-clause-tail : goal.returns-clause-tail
+returns-clause-tail g c =
+    let plan = c.args.plan.now in
+    let files = c.args.files.now in
+    subst (TellsTail c.in_ok-ready.ready.tail)
+    (sym (loaded_tail plan files c.in_ok-ready.ready.measured.len (the_candidates plan files) c.in_ok-inputs.inputs.loaded c.in_ok-inputs.ensures.found.candidates c.in_ok-inputs.ensures.found.objects)
+    ∙ ap (debug_tail plan files) (sym c.in_ok-bytes.ensures.len))
+    c.in_ok-ready.ensures.tail
 
 -- ---- what is told
 

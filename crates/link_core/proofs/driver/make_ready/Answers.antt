@@ -8,13 +8,14 @@ use Rattle.link_output.specs.link_program.Moved.{moved_windows}
 use Rattle.link_image.specs.link_layout.Layout.{IsLayout}
 use Rattle.link_core.specs.Chosen.{IsChosen}
 use Rattle.link_core.specs.Making.{the_image, the_windows}
-use Rattle.link_core.proofs.Answering.{lie_there, stand_there, measure_failed, write_failed, wrote}
+use Rattle.link_core.specs.Tails.{stage_tail}
+use Rattle.link_core.proofs.Answering.{lie_there, stand_there, places_there, code_there, measure_failed, write_failed, wrote}
 use Rattle.link_core.proofs.driver.make_ready.Goals as goal
 
 pub image-requires : goal.image-requires
 image-requires g c =
-    let layout : IsLayout g.s.program g.s.parts g.s.exports c.args.layout = c.requires.1.1.0 in
-    let chosen : IsChosen g.s c.args.layout.program c.args.exports.now c.args.live.now = c.requires.1.1.1.0 in
+    let layout : IsLayout g.s.stage.program g.s.stage.parts g.s.stage.exports c.args.layout = c.requires.1.1.0 in
+    let chosen : IsChosen g.s.stage c.args.layout.program c.args.exports.now c.args.live.now = c.requires.1.1.1.0 in
     (layout, (chosen.live, (chosen.among, chosen.exports)))
 
 pub returns-in_err-image-clause-exact : goal.returns-in_err-image-clause-exact
@@ -24,71 +25,90 @@ returns-in_err-image-clause-exact g c =
 
 pub measured-requires : goal.measured-requires
 measured-requires g c =
-    let layout : IsLayout g.s.program g.s.parts g.s.exports c.args.layout = c.requires.1.1.0 in
-    let chosen : IsChosen g.s c.args.layout.program c.args.exports.now c.args.live.now = c.requires.1.1.1.0 in
-    let same : c.args.files.now ≡ g.s.program.files = c.requires.1.1.1.1 in
-    lie_there c.args.files.now g.s.program.files (the_image g.s) c.in_ok-image.image same c.in_ok-image.ensures
-    (c.windows_stand_in_sources.ensures.lie g.s.program c.args.live.now g.s.parts g.s.exports layout.stand chosen.live)
+    let layout : IsLayout g.s.stage.program g.s.stage.parts g.s.stage.exports c.args.layout = c.requires.1.1.0 in
+    let chosen : IsChosen g.s.stage c.args.layout.program c.args.exports.now c.args.live.now = c.requires.1.1.1.0 in
+    let same : c.args.files.now ≡ g.s.stage.program.files = c.requires.1.1.1.1.0 in
+    lie_there c.args.files.now g.s.stage.program.files (the_image g.s.stage) c.in_ok-image.image same c.in_ok-image.ensures
+    (c.windows_stand_in_sources.ensures.lie g.s.stage.program c.args.live.now g.s.stage.parts g.s.stage.exports layout.stand chosen.live)
 
 pub returns-in_err-measured-clause-exact : goal.returns-in_err-measured-clause-exact
 returns-in_err-measured-clause-exact g c =
-    let same : c.args.files.now ≡ g.s.program.files = c.requires.1.1.1.1 in
+    let same : c.args.files.now ≡ g.s.stage.program.files = c.requires.1.1.1.1.0 in
     let p = err_from_is_err_and c.from_residual-in_err-measured.result c.from_residual-in_err-measured.ensures.1 in
     rw (p.1)
-    (measure_failed g.s.program (the_image g.s) (the_windows g.s) c.args.files.now c.in_ok-image.image same c.in_ok-image.ensures c.in_err-measured.field-0.0 p.0 p.2 c.in_err-measured.ensures)
+    (measure_failed g.s.stage.program (the_image g.s.stage) (the_windows g.s.stage) c.args.files.now c.in_ok-image.image same c.in_ok-image.ensures c.in_err-measured.field-0.0 p.0 p.2 c.in_err-measured.ensures)
 
 pub patches-requires : goal.patches-requires
 patches-requires g c κs within =
-    let layout : IsLayout g.s.program g.s.parts g.s.exports c.args.layout = c.requires.1.1.0 in
-    let chosen : IsChosen g.s c.args.layout.program c.args.exports.now c.args.live.now = c.requires.1.1.1.0 in
+    let layout : IsLayout g.s.stage.program g.s.stage.parts g.s.stage.exports c.args.layout = c.requires.1.1.0 in
+    let chosen : IsChosen g.s.stage c.args.layout.program c.args.exports.now c.args.live.now = c.requires.1.1.1.0 in
     let live = chosen.live in
     (search rules, (search rules, (layout, live)))
 
 pub returns-in_err-patches-clause-exact : goal.returns-in_err-patches-clause-exact
 returns-in_err-patches-clause-exact g c =
-    let layout : IsLayout g.s.program g.s.parts g.s.exports c.args.layout = c.requires.1.1.0 in
-    let chosen : IsChosen g.s c.args.layout.program c.args.exports.now c.args.live.now = c.requires.1.1.1.0 in
-    let same : c.args.files.now ≡ g.s.program.files = c.requires.1.1.1.1 in
+    let layout : IsLayout g.s.stage.program g.s.stage.parts g.s.stage.exports c.args.layout = c.requires.1.1.0 in
+    let chosen : IsChosen g.s.stage c.args.layout.program c.args.exports.now c.args.live.now = c.requires.1.1.1.0 in
+    let same : c.args.files.now ≡ g.s.stage.program.files = c.requires.1.1.1.1.0 in
     let p = err_from_is_err_and c.from_residual-in_err-patches.result c.from_residual-in_err-patches.ensures.1 in
     let files =
-    lie_there c.args.files.now g.s.program.files (the_image g.s) c.in_ok-image.image same c.in_ok-image.ensures
-    (c.windows_stand_in_sources.ensures.lie g.s.program c.args.live.now g.s.parts g.s.exports layout.stand chosen.live) in
+    lie_there c.args.files.now g.s.stage.program.files (the_image g.s.stage) c.in_ok-image.image same c.in_ok-image.ensures
+    (c.windows_stand_in_sources.ensures.lie g.s.stage.program c.args.live.now g.s.stage.parts g.s.stage.exports layout.stand chosen.live) in
     let stand =
-    stand_there c.args.files.now g.s.program.files (the_image g.s) c.in_ok-image.image (the_windows g.s) same c.in_ok-image.ensures
-    (c.windows_stand_in_sources.ensures.stand g.s.program c.args.live.now g.s.parts g.s.exports layout.stand chosen.live) in
-    let told = subst (λ ks. Answers {A = Patches} (Err c.in_err-patches.field-0.0) (patches_of (moved_windows ks (the_windows g.s)))) c.as_slice.ensures c.in_err-patches.ensures in
+    stand_there c.args.files.now g.s.stage.program.files (the_image g.s.stage) c.in_ok-image.image (the_windows g.s.stage) same c.in_ok-image.ensures
+    (c.windows_stand_in_sources.ensures.stand g.s.stage.program c.args.live.now g.s.stage.parts g.s.stage.exports layout.stand chosen.live) in
+    let told = subst (λ ks. Answers {A = Patches} (Err c.in_err-patches.field-0.0) (patches_of (moved_windows ks (the_windows g.s.stage)))) c.as_slice.ensures c.in_err-patches.ensures in
     rw (p.1)
-    (write_failed g.s.program (the_image g.s) (the_windows g.s) c.args.files.now c.in_ok-image.image same c.in_ok-image.ensures c.in_ok-measured.measured c.in_err-patches.field-0.0 p.0 p.2
+    (write_failed g.s.stage.program (the_image g.s.stage) (the_windows g.s.stage) c.args.files.now c.in_ok-image.image same c.in_ok-image.ensures c.in_ok-measured.measured c.in_err-patches.field-0.0 p.0 p.2
     c.in_ok-measured.ensures
-    (c.values_are_judged_in_turn.ensures c.args.files.now c.in_ok-image.image c.in_ok-measured.measured (the_windows g.s) c.in_err-patches.field-0.0 files c.in_ok-measured.ensures.0 stand told))
+    (c.values_are_judged_in_turn.ensures c.args.files.now c.in_ok-image.image c.in_ok-measured.measured (the_windows g.s.stage) c.in_err-patches.field-0.0 files c.in_ok-measured.ensures.0 stand told))
+
+pub debug_tail-joined-requires : goal.debug_tail-joined-requires
+debug_tail-joined-requires g c κs within =
+    let layout : IsLayout g.s.stage.program g.s.stage.parts g.s.stage.exports c.args.layout = c.requires.1.1.0 in
+    let chosen : IsChosen g.s.stage c.args.layout.program c.args.exports.now c.args.live.now = c.requires.1.1.1.0 in
+    let same : c.args.files.now ≡ g.s.stage.program.files = c.requires.1.1.1.1.0 in
+    let places = places_there g.s.stage c.args.files.now c.in_ok-image.image same c.in_ok-image.ensures c.in_ok-measured.measured c.in_ok-measured.ensures.1 in
+    let code = code_there g.s.stage c.args.files.now c.in_ok-image.image same c.in_ok-image.ensures c.in_ok-measured.measured c.in_ok-measured.ensures.4 in
+    let live = chosen.live in
+    let loaded = c.requires.1.1.1.1.1 in
+    (search rules, (search rules, (layout, (live, (places, (code, (loaded, same)))))))
+
+pub returns-in_err-tail-clause-exact : goal.returns-in_err-tail-clause-exact
+returns-in_err-tail-clause-exact g c =
+    let p = err_from_is_err_and c.from_residual-in_err-tail.result c.from_residual-in_err-tail.ensures.1 in
+    rw (p.1, p.2) tt
+
+pub returns-clause-tail : goal.returns-clause-tail
+returns-clause-tail g c = c.in_ok-tail.ensures (stage_tail g.s c.in_ok-measured.measured.len) c.debug_tail-joined.ensures
 
 pub returns-clause-exact : goal.returns-clause-exact
 returns-clause-exact g c =
-    let layout : IsLayout g.s.program g.s.parts g.s.exports c.args.layout = c.requires.1.1.0 in
-    let chosen : IsChosen g.s c.args.layout.program c.args.exports.now c.args.live.now = c.requires.1.1.1.0 in
-    let same : c.args.files.now ≡ g.s.program.files = c.requires.1.1.1.1 in
+    let layout : IsLayout g.s.stage.program g.s.stage.parts g.s.stage.exports c.args.layout = c.requires.1.1.0 in
+    let chosen : IsChosen g.s.stage c.args.layout.program c.args.exports.now c.args.live.now = c.requires.1.1.1.0 in
+    let same : c.args.files.now ≡ g.s.stage.program.files = c.requires.1.1.1.1.0 in
     let files =
-    lie_there c.args.files.now g.s.program.files (the_image g.s) c.in_ok-image.image same c.in_ok-image.ensures
-    (c.windows_stand_in_sources.ensures.lie g.s.program c.args.live.now g.s.parts g.s.exports layout.stand chosen.live) in
+    lie_there c.args.files.now g.s.stage.program.files (the_image g.s.stage) c.in_ok-image.image same c.in_ok-image.ensures
+    (c.windows_stand_in_sources.ensures.lie g.s.stage.program c.args.live.now g.s.stage.parts g.s.stage.exports layout.stand chosen.live) in
     let stand =
-    stand_there c.args.files.now g.s.program.files (the_image g.s) c.in_ok-image.image (the_windows g.s) same c.in_ok-image.ensures
-    (c.windows_stand_in_sources.ensures.stand g.s.program c.args.live.now g.s.parts g.s.exports layout.stand chosen.live) in
-    let told = sym (ap (λ ks. patches_of (moved_windows ks (the_windows g.s))) c.as_slice.ensures) ∙ c.in_ok-patches.ensures in
-    let law = c.patches_make_the_output.ensures c.args.files.now c.in_ok-image.image c.in_ok-measured.measured (the_windows g.s) c.in_ok-patches.patches files c.in_ok-measured.ensures.0 stand told in
+    stand_there c.args.files.now g.s.stage.program.files (the_image g.s.stage) c.in_ok-image.image (the_windows g.s.stage) same c.in_ok-image.ensures
+    (c.windows_stand_in_sources.ensures.stand g.s.stage.program c.args.live.now g.s.stage.parts g.s.stage.exports layout.stand chosen.live) in
+    let told = sym (ap (λ ks. patches_of (moved_windows ks (the_windows g.s.stage))) c.as_slice.ensures) ∙ c.in_ok-patches.ensures in
+    let law = c.patches_make_the_output.ensures c.args.files.now c.in_ok-image.image c.in_ok-measured.measured (the_windows g.s.stage) c.in_ok-patches.patches files c.in_ok-measured.ensures.0 stand told in
     let made = filled c.in_ok-patches.patches.patches (bytes_of (tree_of c.args.files.now c.in_ok-image.image)) in
-    wrote g.s.program (the_image g.s) (the_windows g.s) c.args.files.now c.in_ok-image.image same c.in_ok-image.ensures c.in_ok-measured.measured made c.in_ok-measured.ensures law.1
+    wrote g.s.stage.program (the_image g.s.stage) (the_windows g.s.stage) c.args.files.now c.in_ok-image.image same c.in_ok-image.ensures c.in_ok-measured.measured made c.in_ok-measured.ensures law.1
 
 pub returns-clause-ready : goal.returns-clause-ready
 returns-clause-ready g c =
-    let layout : IsLayout g.s.program g.s.parts g.s.exports c.args.layout = c.requires.1.1.0 in
-    let chosen : IsChosen g.s c.args.layout.program c.args.exports.now c.args.live.now = c.requires.1.1.1.0 in
-    let same : c.args.files.now ≡ g.s.program.files = c.requires.1.1.1.1 in
+    let layout : IsLayout g.s.stage.program g.s.stage.parts g.s.stage.exports c.args.layout = c.requires.1.1.0 in
+    let chosen : IsChosen g.s.stage c.args.layout.program c.args.exports.now c.args.live.now = c.requires.1.1.1.0 in
+    let same : c.args.files.now ≡ g.s.stage.program.files = c.requires.1.1.1.1.0 in
     let files =
-    lie_there c.args.files.now g.s.program.files (the_image g.s) c.in_ok-image.image same c.in_ok-image.ensures
-    (c.windows_stand_in_sources.ensures.lie g.s.program c.args.live.now g.s.parts g.s.exports layout.stand chosen.live) in
+    lie_there c.args.files.now g.s.stage.program.files (the_image g.s.stage) c.in_ok-image.image same c.in_ok-image.ensures
+    (c.windows_stand_in_sources.ensures.lie g.s.stage.program c.args.live.now g.s.stage.parts g.s.stage.exports layout.stand chosen.live) in
     let stand =
-    stand_there c.args.files.now g.s.program.files (the_image g.s) c.in_ok-image.image (the_windows g.s) same c.in_ok-image.ensures
-    (c.windows_stand_in_sources.ensures.stand g.s.program c.args.live.now g.s.parts g.s.exports layout.stand chosen.live) in
-    let told = sym (ap (λ ks. patches_of (moved_windows ks (the_windows g.s))) c.as_slice.ensures) ∙ c.in_ok-patches.ensures in
-    let law = c.patches_make_the_output.ensures c.args.files.now c.in_ok-image.image c.in_ok-measured.measured (the_windows g.s) c.in_ok-patches.patches files c.in_ok-measured.ensures.0 stand told in
+    stand_there c.args.files.now g.s.stage.program.files (the_image g.s.stage) c.in_ok-image.image (the_windows g.s.stage) same c.in_ok-image.ensures
+    (c.windows_stand_in_sources.ensures.stand g.s.stage.program c.args.live.now g.s.stage.parts g.s.stage.exports layout.stand chosen.live) in
+    let told = sym (ap (λ ks. patches_of (moved_windows ks (the_windows g.s.stage))) c.as_slice.ensures) ∙ c.in_ok-patches.ensures in
+    let law = c.patches_make_the_output.ensures c.args.files.now c.in_ok-image.image c.in_ok-measured.measured (the_windows g.s.stage) c.in_ok-patches.patches files c.in_ok-measured.ensures.0 stand told in
     record { measured = c.in_ok-measured.ensures.0; lie = files; apart = law.0; short = c.in_ok-measured.ensures.3 }

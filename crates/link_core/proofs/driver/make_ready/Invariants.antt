@@ -1,7 +1,10 @@
 use Rattle.link_core.proofs.driver.make_ready.Given as goal
 
 abbrev pub ghost-image : goal.ghost-image
-ghost-image g a = g.s
+ghost-image g a = g.s.stage
 
 abbrev pub ghost-patches : goal.ghost-patches
-ghost-patches g a = g.s
+ghost-patches g a = g.s.stage
+
+abbrev pub ghost-debug_tail : goal.ghost-debug_tail
+ghost-debug_tail g a = g.s

@@ -11,14 +11,15 @@ use Rattle.link_core.specs.Linking.{IsLinking}
 use Rattle.link_core.specs.Loading.{program_in}
 use Rattle.link_core.specs.Prepared.{outputs}
 use Rattle.link_core.proofs.Answering.{choose_failed, goes_on_chosen}
-use Rattle.link_core.proofs.Loading.{find_stops, due_is, all_found, found_is_linked}
+use Rattle.link_core.proofs.Loading.{find_stops, due_is, all_found, found_is_linked, loaded_there}
 use Rattle.link_core.proofs.Listing.{tells_by, tells_all}
+use Rattle.link_core.proofs.Tails.{prepared_tail}
 use Rattle.link_core.proofs.driver.prepare.Goals as goal
 
 pub find_telling-requires : goal.find_telling-requires
 find_telling-requires g c κs within =
     let loaded =
-    subst (λ hs. IsLoaded g.l.origin.files g.l.origin.all c.objects-objects.result.now hs) (sym c.homes.ensures)
+    subst (λ hs. IsLoaded g.l.origin.files g.l.origin.all c.objects-objects.result.now hs) (sym c.homes-homes.ensures)
     (subst (λ os. IsLoaded g.l.origin.files g.l.origin.all os c.args.inputs.now.homes) (sym c.objects-objects.ensures) c.requires.1.1.1.1.1.1.1.1) in
     (search rules, (search rules, (search rules, (search rules, (c.requires.1.1.1.1.0, (c.requires.1.1.1.1.1.0, loaded))))))
 
@@ -55,12 +56,17 @@ lay_out-prepared-requires g c κs within =
     let chosen : IsChosen (stage_of (program_in g.l)) c.program-program.result c.as_slice-exports.result.now c.as_slice-live.result.now =
     subst (λ es. IsChosen (stage_of (program_in g.l)) c.program-program.result es c.as_slice-live.result.now) (sym c.as_slice-exports.ensures)
     (subst (λ ns. IsChosen (stage_of (program_in g.l)) c.program-program.result c.in_ok-chosen.chosen.exports ns) (sym c.as_slice-live.ensures) c.in_ok-chosen.ensures.1) in
-    (search rules, (search rules, (is, chosen)))
+    let loaded = loaded_there g.l c.args.plan.now c.args.inputs.now.loaded c.objects-objects.result.now c.requires.1.1.1.1.1.0 c.requires.1.1.1.1.1.1.1.0 c.objects-objects.ensures
+    c.args.inputs.now.homes c.homes-homes.result.now c.homes-homes.ensures c.requires.1.1.1.1.1.1.1.1 in
+    (search rules, (search rules, (is, (chosen, loaded))))
 
 pub returns-clause-exact : goal.returns-clause-exact
 returns-clause-exact g c =
     let found = all_found g.l c.args.plan.now c.args.inputs.now.loaded c.objects-objects.result.now c.requires.1.1.1.1.1.0 c.requires.1.1.1.1.1.1.1.0 c.objects-objects.ensures c.in_ok-found.ensures.found.0 in
     goes_on_chosen (program_in g.l) (outputs c.args.files.now c.lay_out-prepared.result) found c.in_ok-chosen.ensures.0 c.lay_out-prepared.ensures.exact
+
+pub returns-clause-tail : goal.returns-clause-tail
+returns-clause-tail g c = prepared_tail g.l c.lay_out-prepared.result c.lay_out-prepared.ensures.tail
 
 -- ---- what is told
 

@@ -9,4 +9,4 @@ abbrev pub ghost-choose : goal.ghost-choose
 ghost-choose g a = program_in g.l
 
 abbrev pub ghost-lay_out : goal.ghost-lay_out
-ghost-lay_out g a = stage_of (program_in g.l)
+ghost-lay_out g a = record { stage = stage_of (program_in g.l); all = g.l.origin.all }

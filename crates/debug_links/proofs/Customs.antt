@@ -1,0 +1,73 @@
+-- What stands behind an output are custom sections.
+use Rattle.std.proofs.Common.{◌≡◌, ◌∙◌, ℕ, ◌+◌, Bool, true, false, List, [], ◌∷◌, ◌++◌, take, drop, Option, Some, Result, Ok, inl, inr, refl, sym, ap, subst, arith}
+use Rattle.std.specs.Prelude.{◌==◌, if◌then◌else◌, filter, find, map, slice_index_or}
+use Rattle.std.specs.List.{AllByRecursion}
+use Rattle.list_places.specs.Has.{Has}
+use Rattle.object_file.specs.wl_base.declared.fault.Fault.{Fault}
+use Rattle.object_file.specs.declared.object.Object.{Object}
+use Rattle.object_file.specs.wasm_module.Sections.{AreCustoms}
+use Rattle.valid_links.specs.link_runs.link_program.made_symbols.declared.mode.Mode.TheVariants.{Plain}
+use Rattle.valid_links.specs.link_runs.link_program.link_plan.declared.plan.Plan.{Plan}
+use Rattle.valid_links.specs.link_runs.link_program.round_rules.Rounds.{Candidate, load}
+use Rattle.valid_links.specs.link_runs.link_program.name_rules.Entries.{InputSymbol}
+use Rattle.valid_links.specs.link_runs.link_program.image_emit.Bytes.{file_part}
+use Rattle.valid_links.specs.link_runs.link_program.link_rules.Candidates.{candidates_of}
+use Rattle.valid_links.specs.link_runs.link_program.link_rules.Program.{Program, Part, program_of}
+use Rattle.valid_links.specs.link_runs.link_program.link_rules.Marks.{exported, live}
+use Rattle.valid_links.specs.link_runs.link_program.link_rules.Output.{layout}
+use Rattle.valid_links.specs.link_runs.link_program.link_rules.LinkOf.{asked_names, the_readers}
+use Rattle.valid_links.specs.link_runs.link_facts.Facts.{bytes_of}
+use Rattle.debug_customs.specs.Customs.{IsNamed, AreNamed, JoinedAreCustoms}
+use Rattle.debug_customs.specs.Objects.{ObjectsAreNamed}
+use Rattle.debug_customs.specs.debug_rules.Sections.{Custom, customs, is_debug}
+use Rattle.debug_tails.specs.link_debug.Places.{input_in, span_at, link_inputs, link_places}
+use Rattle.debug_tails.specs.Tails.{live_tail, laid_tail, program_tail, debug_tail_by, debug_tail}
+use Rattle.debug_links.specs.Keeps.{TailIsCustoms}
+use Rattle.debug_links.proofs.Candidates.{bind_ok, ok_is, IsRead, loaded_read}
+
+-- ---- names
+
+of_debug : (cs : List Custom) → AllByRecursion IsNamed cs → AllByRecursion IsNamed (filter is_debug cs)
+of_debug [] are = tt
+of_debug (c ∷ cs) are = by (is_debug c)
+  where
+    by : (q : Bool) → AllByRecursion IsNamed (if q then c ∷ filter is_debug cs else filter is_debug cs)
+    by true = (are.0, of_debug cs are.1)
+    by false = of_debug cs are.1
+
+module _ (named : ObjectsAreNamed) (files : List (List ℕ)) (all : List Candidate) where
+  -- a candidate's bytes are those of the object's span
+  span_is : (o : Object) (c : Candidate) → find (λ d. d.input == o.input) all ≡ Some c → file_part files (span_at all o.input (find (λ d. d.input == o.input) all)) ≡ bytes_of files c
+  span_is o c e =
+      let start : c.start + 0 ≡ c.start = omega arith in
+      rw e (ap (λ k. take c.len (drop k (slice_index_or files c.file []))) start)
+
+  inputs_named : (os : List Object) → ((o : Object) → Has os o → IsRead files all o) → AreNamed (map (input_in files all) os)
+  inputs_named [] read = tt
+  inputs_named (o ∷ os) read =
+      let r = read o (inl refl) in
+      let are = named o.input (bytes_of files r.0) o r.2 in
+      (of_debug _ (subst (λ bytes. AllByRecursion IsNamed (customs bytes)) (sym (span_is o r.0 r.1)) are), inputs_named os (λ x h. read x (inr h)))
+
+-- ---- the tail
+
+no_customs : AreCustoms []
+no_customs = (0, refl)
+
+laid_customs : JoinedAreCustoms → (p : Program) (all : List Candidate) (exports : List InputSymbol) (parts : List Part) (len : ℕ) (tail : List ℕ)
+    → AreNamed (link_inputs p.files all p.objects) → laid_tail Plain p all exports parts len ≡ Ok tail → AreCustoms tail
+unfolding laid_tail
+laid_customs joined p all exports parts len tail named e = by p.plan.keep_debug e
+  where
+    by : (q : Bool) → (if q then live_tail Plain p all parts exports len else Ok []) ≡ Ok tail → AreCustoms tail
+    by true e = joined len (link_inputs p.files all p.objects) (link_places Plain p parts exports (layout Plain p parts exports)) tail named e
+    by false e = subst AreCustoms (ok_is e) no_customs
+
+pub tail_customs : ObjectsAreNamed → JoinedAreCustoms → TailIsCustoms
+unfolding debug_tail debug_tail_by program_tail program_of link_inputs
+tail_customs named joined plan files len tail e =
+    let a = bind_ok (candidates_of the_readers plan files) _ tail e in
+    let b = bind_ok (load Plain (asked_names plan) a.0) _ tail a.2 in
+    let p = program_of Plain plan files a.0 b.0 in
+    let are : AreNamed (link_inputs files a.0 b.0) = inputs_named named files a.0 b.0 (loaded_read files plan a.0 b.0 a.1 Plain (asked_names plan) b.1) in
+    laid_customs joined p a.0 (exported Plain p) (live p (exported Plain p)) len tail are b.2

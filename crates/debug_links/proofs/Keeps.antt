@@ -1,0 +1,93 @@
+-- Custom sections behind an output leave what it is.
+use Rattle.std.proofs.Common.{◌≡◌, ◌∙◌, ℕ, Bool, true, false, List, [], ◌++◌, length, Result, Ok, refl, sym, ap, subst}
+use Rattle.std.specs.Prelude.{if◌then◌else◌}
+use Rattle.std.proofs.lemmas.List.{append-nil}
+use Rattle.object_file.specs.wl_base.Choice.{◌>>=◌}
+use Rattle.object_file.specs.wl_base.declared.fault.Fault.{Fault}
+use Rattle.object_file.specs.declared.object.Object.{Object}
+use Rattle.object_file.specs.wasm_module.declared.structure.Module.{Module}
+use Rattle.object_file.specs.wasm_module.Modules.{IsModule}
+use Rattle.object_file.specs.wasm_module.Sections.{AreCustoms}
+use Rattle.module_tails.specs.Tails.{CustomsSayNothing}
+use Rattle.valid_links.specs.link_runs.link_program.made_symbols.declared.mode.Mode.TheVariants.{Plain}
+use Rattle.valid_links.specs.link_runs.link_program.link_plan.declared.plan.Plan.{Plan}
+use Rattle.valid_links.specs.link_runs.link_program.round_rules.Rounds.{Candidate, load}
+use Rattle.valid_links.specs.link_runs.link_program.link_rules.Candidates.{candidates_of}
+use Rattle.valid_links.specs.link_runs.link_program.link_rules.Program.{program_of}
+use Rattle.valid_links.specs.link_runs.link_program.link_rules.LinkOf.{asked_names, the_readers, link_program, link_by, link_of}
+use Rattle.valid_links.specs.link_runs.Links.{Runs}
+use Rattle.valid_links.specs.output_check.Check.{IsValidOutput}
+use Rattle.debug_tails.specs.Tails.{laid_tail, program_tail, debug_tail_by, debug_tail, with_debug}
+use Rattle.debug_links.specs.Keeps.{TailIsCustoms, ValidStays, TailsRun, RunsStay, NoWord}
+use Rattle.debug_links.proofs.Candidates.{bind_ok, ok_is}
+
+-- ---- behind an output
+
+-- what stands behind the bytes
+tail_of : (plan : Plan) (files : List (List ℕ)) (bytes whole : List ℕ) → with_debug plan files bytes ≡ Ok whole → (tail : List ℕ) × (debug_tail plan files (length bytes) ≡ Ok tail) × (bytes ++ tail ≡ whole)
+tail_of plan files bytes whole e =
+    let a = bind_ok (debug_tail plan files (length bytes)) (λ (tail : List ℕ). (let y : Result (List ℕ) Fault = Ok (bytes ++ tail) in y)) whole e in
+    (a.0, a.1, ok_is a.2)
+
+valid_with : CustomsSayNothing → (bytes tail : List ℕ) → AreCustoms tail → IsValidOutput bytes → IsValidOutput (bytes ++ tail)
+valid_with nothing bytes tail customs v =
+    let still = nothing v.is bytes tail v.spelled customs in
+    record { is = v.is; read = still.1; spelled = still.0; valid = v.valid; no_fault = v.no_fault }
+
+pub tails_law : CustomsSayNothing → ((a b : Module) (bytes : List ℕ) → IsModule a bytes → IsModule b bytes → a ≡ b) → TailsRun
+tails_law nothing one plan files bytes tail r customs =
+    let g = r.gives in
+    let still = nothing g.is bytes tail g.spelled customs in
+    record {
+      all = r.all;
+      objects = r.objects;
+      found = r.found;
+      loaded = r.loaded;
+      gives = record {
+        is = g.is;
+        read = still.1;
+        spelled = still.0;
+        only = λ other spelled. one other g.is (bytes ++ tail) spelled still.0;
+        linked = g.linked;
+        runs = g.runs;
+        fits = g.fits;
+        holds = g.holds;
+      };
+    }
+
+pub valid_law : TailIsCustoms → CustomsSayNothing → ValidStays
+valid_law tails nothing plan files bytes whole v e =
+    let t = tail_of plan files bytes whole e in
+    subst IsValidOutput t.2 (valid_with nothing bytes t.0 (tails plan files (length bytes) t.0 t.1) v)
+
+pub runs_law : TailIsCustoms → TailsRun → RunsStay
+runs_law tails run plan files bytes whole r e =
+    let t = tail_of plan files bytes whole e in
+    subst (Runs plan files) t.2 (run plan files bytes t.0 r (tails plan files (length bytes) t.0 t.1))
+
+-- ---- without the word
+
+-- what a link that gives bytes found and loaded
+pub loads_of : (plan : Plan) (files : List (List ℕ)) (bytes : List ℕ) → link_of plan files ≡ Ok bytes
+    → (all : List Candidate) × (objects : List Object) × (candidates_of the_readers plan files ≡ Ok all) × (load Plain (asked_names plan) all ≡ Ok objects)
+unfolding link_of link_by
+loads_of plan files bytes e =
+    let a = bind_ok (candidates_of the_readers plan files) (λ all. load Plain (asked_names plan) all >>= λ objects. link_program Plain (program_of Plain plan files all objects)) bytes e in
+    let b = bind_ok (load Plain (asked_names plan) a.0) (λ objects. link_program Plain (program_of Plain plan files a.0 objects)) bytes a.2 in
+    (a.0, b.0, a.1, b.1)
+
+-- of what was found and loaded
+pub tail_by : (plan : Plan) (files : List (List ℕ)) (all : List Candidate) (objects : List Object) (len : ℕ) → candidates_of the_readers plan files ≡ Ok all → load Plain (asked_names plan) all ≡ Ok objects
+    → debug_tail plan files len ≡ program_tail Plain (program_of Plain plan files all objects) all len
+unfolding debug_tail debug_tail_by
+tail_by plan files all objects len found loaded = rw (found, loaded) refl
+
+no_tail : (plan : Plan) (files : List (List ℕ)) (all : List Candidate) (objects : List Object) (len : ℕ) → plan.keep_debug ≡ false → program_tail Plain (program_of Plain plan files all objects) all len ≡ Ok []
+unfolding program_tail laid_tail program_of
+no_tail plan files all objects len off = rw off refl
+
+pub word_law : NoWord
+word_law plan files bytes off e =
+    let l = loads_of plan files bytes e in
+    let none = tail_by plan files l.0 l.1 (length bytes) l.2 l.3 ∙ no_tail plan files l.0 l.1 (length bytes) off in
+    ap (λ (r : Result (List ℕ) Fault). r >>= λ tail. (let y : Result (List ℕ) Fault = Ok (bytes ++ tail) in y)) none ∙ ap Ok (append-nil bytes)

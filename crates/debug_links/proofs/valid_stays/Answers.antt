@@ -1,0 +1,5 @@
+use Rattle.debug_links.proofs.Keeps.{valid_law}
+use Rattle.debug_links.proofs.valid_stays.Goals as goal
+
+pub returns : goal.returns
+returns c = valid_law c.tail_is_customs.ensures c.customs_say_nothing.ensures
