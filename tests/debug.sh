@@ -142,19 +142,32 @@ faults() {
   rm long.o
 }
 
-# A program with wasi-libc, whose objects have debug sections too.
-with_libc() {
+# Takes a name and a link's words: a program with a start file, which both linkers link.
+compare_program() {
+  local name=$1
+  shift
+  expect "$name with its libraries keeps debug sections" keeps "$name.wasm" "$name.plain" "$@"
+  expect "wasm-ld links it" wasm-ld "$@" -o "$name.theirs"
+  expect "the verifier finds nothing of its own in it" is_sound "$name.wasm" "$name.theirs"
+  expect "each function has the lines that it has in wasm-ld's" python3 "$sources/lines.py" same "$name.wasm" "$name.theirs"
+}
+
+# Programs with wasi-libc and libc++, whose objects have debug sections too.
+with_libraries() {
   local builtins
   builtins=$(clang --target=wasm32-wasi --print-libgcc-file-name)
   [ -e "$libc/crt1.o" ] && [ -e "$builtins" ] || {
     skip "debug sections of a C library (no wasi-libc)"
     return
   }
-  clang --target=wasm32-wasi -g -O2 -c "$top/tests/real/hello.c" -o hello.o
-  expect "a program with wasi-libc keeps debug sections" keeps hello.wasm hello.plain "$libc/crt1.o" hello.o "$libc/libc.a" "$builtins"
-  expect "wasm-ld links it" wasm-ld "$libc/crt1.o" hello.o "$libc/libc.a" "$builtins" -o hello.theirs
-  expect "the verifier finds nothing of its own in it" is_sound hello.wasm hello.theirs
-  expect "each function has the lines that it has in wasm-ld's" python3 "$sources/lines.py" same hello.wasm hello.theirs
+  clang --target=wasm32-wasi -g -O2 -c "$top/tests/real/hello.c"
+  compare_program hello "$libc/crt1.o" hello.o "$libc/libc.a" "$builtins"
+  [ -e "$libc/libc++.a" ] || {
+    skip "debug sections of a C++ library (no libc++)"
+    return
+  }
+  clang++ --target=wasm32-wasi -g -O1 -fno-exceptions -c "$top/tests/real/texts.cpp"
+  compare_program texts "$libc/crt1.o" texts.o "$libc/libc++.a" "$libc/libc++abi.a" "$libc/libc.a" "$builtins"
 }
 
 for level in -O0 -O2; do
@@ -170,6 +183,6 @@ for level in -O0 -O2; do
 done
 drivers_keep --no-entry program.o lib.a
 faults
-with_libc
+with_libraries
 
 finish

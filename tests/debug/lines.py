@@ -13,6 +13,7 @@ import sys
 ENTRY = re.compile(r"^0x[0-9a-f]+:\s+(DW_TAG_\w+)")
 FIELD = re.compile(r"^\s+(DW_AT_\w+)\s+\((.*)\)$")
 QUOTED = re.compile(r'"([^"]*)"')
+NAMES = ("DW_AT_linkage_name", "DW_AT_specification", "DW_AT_abstract_origin", "DW_AT_name")
 
 
 def entries(module):
@@ -33,20 +34,19 @@ def quoted(text):
 
 
 def functions(module):
-    """The functions that have bodies, by unit and name, with the place and the length of each; None for one that is dead."""
-    unit, live, dead = "", {}, set()
+    """The functions that have bodies, by unit, number in it and name: where each stands that is live, and those that are dead."""
+    unit, number, live, dead = "", 0, {}, set()
     for tag, fields in entries(module):
         if tag == "DW_TAG_compile_unit":
-            unit = quoted(fields["DW_AT_name"])
+            unit, number = quoted(fields["DW_AT_name"]), 0
         if tag != "DW_TAG_subprogram" or "DW_AT_low_pc" not in fields:
             continue
-        said = [fields[it] for it in ("DW_AT_linkage_name", "DW_AT_specification", "DW_AT_abstract_origin", "DW_AT_name") if it in fields]
-        name = (unit, quoted(said[0]) if said else "")
-        low = fields["DW_AT_low_pc"]
-        if low == "dead code":
+        number += 1
+        name = (unit, number, next((quoted(fields[it]) for it in NAMES if it in fields), ""))
+        if fields["DW_AT_low_pc"] == "dead code":
             dead.add(name)
         else:
-            live[name] = (int(low, 16), int(fields["DW_AT_high_pc"], 16))
+            live[name] = (int(fields["DW_AT_low_pc"], 16), int(fields["DW_AT_high_pc"], 16))
     return live, dead
 
 
@@ -64,27 +64,18 @@ def all_told(module, live):
     return {name: [next(answers) for _ in range(low, high)] for name, (low, high) in live.items()}
 
 
-def doubles(live):
-    """The functions whose body is told to be another one's too."""
-    by_place = {}
-    for name, (low, _) in live.items():
-        by_place.setdefault(low, []).append(name)
-    return {name for names in by_place.values() if len(names) > 1 for name in names}
-
-
 def same(ours, theirs):
     live, dead = functions(ours)
     their_live, their_dead = functions(theirs)
-    lost = (set(their_live) - set(live)) - (doubles(their_live) & dead)
-    differ = sorted(lost | (set(live) - set(their_live)) | (their_dead - dead))
+    bodies = {their_live[name] for name in live if name in their_live}
+    doubles = {name for name in dead if their_live.get(name) in bodies}
+    differ = (set(live) ^ (set(their_live) - doubles)) | (their_dead - dead)
     a, b = all_told(ours, live), all_told(theirs, their_live)
-    differ += [name for name in a if name in b and a[name] != b[name]]
-    places = {name for name in their_live if their_live[name][0] not in {their_live[it][0] for it in live if it in their_live}}
-    differ += sorted(places)
-    unknown = [name for name, answers in a.items() if any(it.startswith("??") for it in answers)]
-    for name in differ:
+    differ |= {name for name in a if name in b and a[name] != b[name]}
+    unknown = {name for name, answers in a.items() if any(it.startswith("??") for it in answers)}
+    for name in sorted(differ):
         print("differs:", *name)
-    for name in unknown:
+    for name in sorted(unknown):
         print("unknown:", *name)
     print(f"{len(a)} live functions, {len(dead)} dead, {sum(map(len, a.values()))} bytes of code")
     return bool(a) and not differ and not unknown
