@@ -24,7 +24,7 @@ use Rattle.debug_links.proofs.Candidates.{bind_ok, ok_is}
 -- ---- behind an output
 
 -- what stands behind the bytes
-tail_of : (plan : Plan) (files : List (List ℕ)) (bytes whole : List ℕ) → with_debug plan files bytes ≡ Ok whole → (tail : List ℕ) × (debug_tail plan files (length bytes) ≡ Ok tail) × (bytes ++ tail ≡ whole)
+pub tail_of : (plan : Plan) (files : List (List ℕ)) (bytes whole : List ℕ) → with_debug plan files bytes ≡ Ok whole → (tail : List ℕ) × (debug_tail plan files (length bytes) ≡ Ok tail) × (bytes ++ tail ≡ whole)
 tail_of plan files bytes whole e =
     let a = bind_ok (debug_tail plan files (length bytes)) (λ (tail : List ℕ). (let y : Result (List ℕ) Fault = Ok (bytes ++ tail) in y)) whole e in
     (a.0, a.1, ok_is a.2)

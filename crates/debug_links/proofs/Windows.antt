@@ -30,8 +30,8 @@ flat_both f [] x after = refl
 flat_both f (y ∷ before) x after = ap (λ z. f y ++ z) (flat_both f before x after) ∙ sym (append_assoc (f y) (flat_map f before) (f x ++ flat_map f after))
 
 drop_more : (front rest : List ℕ) (k : ℕ) → drop (length front + k) (front ++ rest) ≡ drop k rest
-drop_more [] rest k = refl
-drop_more (x ∷ front) rest k = drop_more front rest k
+drop_more [] rest k = let n : 0 + k ≡ k = omega arith in ap (λ j. drop j rest) n
+drop_more (x ∷ front) rest k = let n : suc (length front) + k ≡ suc (length front + k) = omega arith in ap (λ j. drop j (x ∷ front ++ rest)) n ∙ drop_more front rest k
 
 take_front : (n : ℕ) (xs ys : List ℕ) → n ≤ length xs → take n (xs ++ ys) ≡ take n xs
 take_front zero xs ys le = refl
@@ -52,6 +52,10 @@ window_at front content rest k le =
     ap (λ j. take j (drop (length front + k) (front ++ (content ++ rest)))) n
     ∙ (ap (take 4) (drop_more front (content ++ rest) k ∙ drop_front k content rest (omega (arith, le)))
     ∙ (take_front 4 (drop k content) rest room ∙ ap (λ j. take j (drop k content)) (sym m)))
+
+-- the same of a whole, by what the four bytes are
+window_in : (whole front content rest four : List ℕ) (k : ℕ) → whole ≡ front ++ (content ++ rest) → k + 4 ≤ length content → slice_range content k (k + 4) ≡ four → slice_range whole (length front + k) (length front + k + 4) ≡ four
+window_in whole front content rest four k is le held = ap (λ zs. slice_range zs (length front + k) (length front + k + 4)) is ∙ (window_at front content rest k le ∙ held)
 
 -- ---- where a contribution stands
 
@@ -89,7 +93,6 @@ module _ (bytes : List ℕ) (all : List Debug) (p : Places) where
       let names = split (names_of all) name (in_distinct (map (λ (x : Debug). x.section.name) all) name (in_map (λ (x : Debug). x.section.name) d all there)) in
       let own = split (filter (is_named name) all) d (in_filter (is_named name) d all ((bytes_eq-Decides name name).1 refl) there) in
       let s = stands d names.0 names.1 own.0 own.1 names.2 own.2 in
-      let front = front_of bytes all p names.0 name own.0 in
       let long = written_long (begins all d.object) p d is in
       record {
         earlier = names.0;
@@ -98,9 +101,9 @@ module _ (bytes : List ℕ) (all : List Debug) (p : Places) where
         before = own.0;
         after = own.1;
         contributions = own.2;
-        window = ap (λ zs. slice_range zs (length front + r.offset) (length front + r.offset + 4)) s.1
-            ∙ (window_at front (content_of all p d) s.0 r.offset (omega (arith, lies_in d r is in_d, long))
-            ∙ word_held (value_of (begins all d.object) p d) d.relocs d.section.content r is in_d);
+        window = window_in (bytes ++ tail_of all p) (front_of bytes all p names.0 name own.0) (content_of all p d) s.0 (little (value_of (begins all d.object) p d r)) r.offset s.1
+            (omega (arith, lies_in d r is in_d, long))
+            (word_held (value_of (begins all d.object) p d) d.relocs d.section.content r is in_d);
       }
 
   -- a place in a function
