@@ -12,7 +12,7 @@ use Rattle.valid_links.specs.link_runs.link_program.round_rules.Rounds.{Candidat
 use Rattle.valid_links.specs.link_runs.link_program.name_rules.Entries.{InputSymbol}
 use Rattle.valid_links.specs.link_runs.link_program.image_emit.Bytes.{file_part}
 use Rattle.valid_links.specs.link_runs.link_program.link_rules.Candidates.{candidates_of}
-use Rattle.valid_links.specs.link_runs.link_program.link_rules.Program.{Program, Part, program_of}
+use Rattle.valid_links.specs.link_runs.link_program.link_rules.Program.{Program, Part, program_of, span_in}
 use Rattle.valid_links.specs.link_runs.link_program.link_rules.Marks.{exported, live}
 use Rattle.valid_links.specs.link_runs.link_program.link_rules.Output.{layout}
 use Rattle.valid_links.specs.link_runs.link_program.link_rules.LinkOf.{asked_names, the_readers}
@@ -27,20 +27,22 @@ use Rattle.debug_links.proofs.Candidates.{bind_ok, ok_is, IsRead, loaded_read}
 
 -- ---- names
 
+kept_named : (q : Bool) (c : Custom) (cs : List Custom) → IsNamed c → AllByRecursion IsNamed cs → AllByRecursion IsNamed (if q then c ∷ cs else cs)
+kept_named true c cs is are = (is, are)
+kept_named false c cs is are = are
+
 of_debug : (cs : List Custom) → AllByRecursion IsNamed cs → AllByRecursion IsNamed (filter is_debug cs)
 of_debug [] are = tt
-of_debug (c ∷ cs) are = by (is_debug c)
-  where
-    by : (q : Bool) → AllByRecursion IsNamed (if q then c ∷ filter is_debug cs else filter is_debug cs)
-    by true = (are.0, of_debug cs are.1)
-    by false = of_debug cs are.1
+of_debug (c ∷ cs) are = kept_named (is_debug c) c (filter is_debug cs) are.0 (of_debug cs are.1)
 
 module _ (named : ObjectsAreNamed) (files : List (List ℕ)) (all : List Candidate) where
   -- a candidate's bytes are those of the object's span
   span_is : (o : Object) (c : Candidate) → find (λ d. d.input == o.input) all ≡ Some c → file_part files (span_at all o.input (find (λ d. d.input == o.input) all)) ≡ bytes_of files c
   span_is o c e =
       let start : c.start + 0 ≡ c.start = omega arith in
-      rw e (ap (λ k. take c.len (drop k (slice_index_or files c.file []))) start)
+      ap (λ r. file_part files (span_at all o.input r)) e
+      ∙ (ap (λ r. file_part files (span_in r (record { start = 0; len = c.len }))) e
+      ∙ ap (λ k. take c.len (drop k (slice_index_or files c.file []))) start)
 
   inputs_named : (os : List Object) → ((o : Object) → Has os o → IsRead files all o) → AreNamed (map (input_in files all) os)
   inputs_named [] read = tt

@@ -30,8 +30,8 @@ flat_both f [] x after = refl
 flat_both f (y ∷ before) x after = ap (λ z. f y ++ z) (flat_both f before x after) ∙ sym (append_assoc (f y) (flat_map f before) (f x ++ flat_map f after))
 
 drop_more : (front rest : List ℕ) (k : ℕ) → drop (length front + k) (front ++ rest) ≡ drop k rest
-drop_more [] rest k = refl
-drop_more (x ∷ front) rest k = drop_more front rest k
+drop_more [] rest k = let n : 0 + k ≡ k = omega arith in ap (λ j. drop j rest) n
+drop_more (x ∷ front) rest k = let n : suc (length front) + k ≡ suc (length front + k) = omega arith in ap (λ j. drop j (x ∷ front ++ rest)) n ∙ drop_more front rest k
 
 take_front : (n : ℕ) (xs ys : List ℕ) → n ≤ length xs → take n (xs ++ ys) ≡ take n xs
 take_front zero xs ys le = refl
