@@ -64,8 +64,8 @@ const LEAST_WORK: usize = 6 << 20;
 /// How many bytes of a file take as long to read as what each file takes by itself.
 const FILE_WORK: usize = 4 << 10;
 
-/// Links the files as the plan asks: the bytes of the module, or the first fault that applies. There is one file for each input of the
-/// plan, or as many as objects were generated.
+/// Links the files as the plan asks: the bytes of the module, and behind it the joined debug sections of the objects where the plan keeps
+/// them; or the first fault that applies. There is one file for each input of the plan, or as many as objects were generated.
 ///
 /// Given objects are read, groups and names are raced for, live parts are marked and the output is filled by as many workers as the plan
 /// has threads, or by one where the gate is open and little is to be linked; each passes the gate before a job. The values of windows are
