@@ -43,6 +43,7 @@ use Rattle.debug_links.specs.Offsets.{Tells, OffsetsKept, OffsetsStay}
 use Rattle.debug_links.proofs.Candidates.{bind_ok, ok_is, unless_ok, IsRead, loaded_read}
 use Rattle.debug_links.proofs.Keeps.{tail_of as tail_behind, loads_of, tail_by}
 use Rattle.debug_links.proofs.Windows.{holds_place}
+use Rattle.debug_links.proofs.Symbols.{are_named}
 
 -- ---- lists
 
@@ -129,9 +130,9 @@ module _ (spell_law : (input : ℕ) (bytes : List ℕ) (object : Object) → IsO
     some_is : (a b : Part) → Some a ≡ Some b → a ≡ b
     some_is a b e = cc
 
-    tells : (d : Debug) (r : Reloc) (k : ℕ) (e : InputSymbol) → Contains sections d → Contains d.relocs r → r.kind ≡ 8 → (e.input ≡ 0 → ⊥) → place_at places.bodies d.object r.index ≡ body_place Plain p (live p x) x (layout_of p x) e
+    tells : (d : Debug) (r : Reloc) (e : InputSymbol) → Contains sections d → Contains d.relocs r → r.kind ≡ 8 → (e.input ≡ 0 → ⊥) → place_at places.bodies d.object r.index ≡ body_place Plain p (live p x) x (layout_of p x) e
         → Tells p x bytes (bytes ++ tail_of sections places) sections d r (own_part p x e)
-    tells d r k e at in_d kind some body = by (own_part p x e) refl
+    tells d r e at in_d kind some body = by (own_part p x e) refl
       where
         by : (o : Option Part) → own_part p x e ≡ o → Tells p x bytes (bytes ++ tail_of sections places) sections d r o
         by (Some part) is =
@@ -186,9 +187,15 @@ offsets_law spell loads facts name dropped placed plan files bytes whole long as
       sections = j.0;
       judged = j.1;
       output = (is_marked p x bytes (is_linked p bytes (is_link plan files bytes all objects l.2 l.3 e)).1).1;
-      told = λ d at r in_d kind o there s symbol.
-          subst (λ z. Tells p x bytes z j.0 d r (own_part p x s)) is
-          (tells spell loads facts plan files bytes all objects long l.2 l.3 name dropped placed are j.0 j.1 d r r.index s at in_d kind
-          (of_object spell loads facts plan files bytes all objects long l.2 l.3 d.object r.index o s there symbol)
-          (body_at spell loads facts plan files bytes all objects long l.2 l.3 d.object r.index o s there symbol));
+      told = λ d at r in_d kind.
+          let n = are_named files all objects j.0 j.1 d at r in_d in (
+            n.0,
+            n.1,
+            n.2,
+            n.3,
+            subst (λ z. Tells p x bytes z j.0 d r (own_part p x n.1)) is
+                (tells spell loads facts plan files bytes all objects long l.2 l.3 name dropped placed are j.0 j.1 d r n.1 at in_d kind
+                (of_object spell loads facts plan files bytes all objects long l.2 l.3 d.object r.index n.0 n.1 n.2 n.3)
+                (body_at spell loads facts plan files bytes all objects long l.2 l.3 d.object r.index n.0 n.1 n.2 n.3)),
+          );
     }
