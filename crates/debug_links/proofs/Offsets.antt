@@ -1,10 +1,8 @@
 -- The windows of debug sections tell where live functions stand in the output.
-use Rattle.std.proofs.Common.{◌≡◌, ◌∙◌, ℕ, zero, suc, ◌+◌, ◌<◌, ◌≤◌, Bool, true, false, List, [], ◌∷◌, ◌++◌, length, map, slice_get, slice_index_or, Contains, Option, Some, None, Result, Ok, inl, inr, refl, sym, ap, subst, arith}
-use Rattle.std.specs.Prelude.{if◌then◌else◌, unwrap_or, pos, ◌+ℤ◌}
+use Rattle.std.proofs.Common.{◌≡◌, ◌∙◌, ℕ, zero, suc, ◌+◌, true, List, [], ◌∷◌, ◌++◌, length, map, slice_get, slice_index_or, Contains, Option, Some, None, Ok, refl, sym, ap, subst, arith}
+use Rattle.std.specs.Prelude.{if◌then◌else◌, unwrap_or}
 use Rattle.list_places.specs.Has.{Has}
 use Rattle.list_places.proofs.Lists.{has_at, all_has}
-use Rattle.object_file.specs.wl_base.Choice.{unless, ◌>>=◌}
-use Rattle.object_file.specs.wl_base.declared.fault.Fault.{Fault}
 use Rattle.object_file.specs.wasm_types.declared.const_expr.ConstExpr.{ConstExpr}
 use Rattle.object_file.specs.wasm_types.declared.const_expr.ConstExpr.TheVariants as constants
 use Rattle.object_file.specs.reloc_section.declared.entry.Reloc.{Reloc}
@@ -14,7 +12,6 @@ use Rattle.object_file.specs.declared.object.Object.{Object}
 use Rattle.object_file.specs.ObjectOf.{IsObject}
 use Rattle.object_file.specs.Spellable.{IsSpellable, IsNumber}
 use Rattle.object_file.proofs.Read.{object_found}
-use Rattle.valid_links.specs.link_runs.link_program.reloc_apply.Windows.{bits32}
 use Rattle.valid_links.specs.link_runs.link_program.made_symbols.declared.mode.Mode.TheVariants.{Plain}
 use Rattle.valid_links.specs.link_runs.link_program.link_plan.declared.plan.Plan.{Plan}
 use Rattle.valid_links.specs.link_runs.link_program.round_rules.Rounds.{Candidate, load}
@@ -24,9 +21,8 @@ use Rattle.valid_links.specs.link_runs.link_program.name_rules.Cases.{clash_by}
 use Rattle.valid_links.specs.link_runs.link_program.link_rules.Candidates.{candidates_of}
 use Rattle.valid_links.specs.link_runs.link_program.link_rules.Program.{Program, Part, program_of}
 use Rattle.valid_links.specs.link_runs.link_program.link_rules.Marks.{exported, live}
-use Rattle.valid_links.specs.link_runs.link_program.link_rules.Output.{layout}
 use Rattle.valid_links.specs.link_runs.link_program.link_rules.LinkOf.{asked_names, the_readers, link_of}
-use Rattle.valid_links.specs.link_runs.link_program.Loaded.{home_of, IsLoaded}
+use Rattle.valid_links.specs.link_runs.link_program.Loaded.{home_of}
 use Rattle.valid_links.specs.link_runs.link_inputs.Loaded.{LoadedAreSound}
 use Rattle.valid_links.specs.link_runs.link_facts.Facts.{IsFrom, Facts, FactsHold, bytes_of}
 use Rattle.valid_links.specs.link_runs.link_facts.link_worlds.Worlds.{layout_of}
@@ -34,13 +30,13 @@ use Rattle.valid_links.specs.link_runs.link_facts.link_worlds.Sound.{IsConstant}
 use Rattle.valid_links.proofs.link_runs_lemmas.link_facts_lemmas.Steps.{is_link, is_linked, is_marked}
 use Rattle.valid_links.proofs.link_runs_lemmas.link_worlds_lemmas.Live.{live_part}
 use Rattle.debug_customs.specs.debug_rules.Faults.{Debug, debugs}
-use Rattle.debug_customs.specs.debug_rules.Joined.{Places, dead_word, place_at, tail_of, joined}
+use Rattle.debug_customs.specs.debug_rules.Joined.{Places, place_at, tail_of, joined}
 use Rattle.debug_tails.specs.link_debug.Places.{body_place, link_inputs, link_places}
 use Rattle.debug_tails.specs.link_debug.Offsets.{AreCoded, own_part, IsSameFrom, OffsetsName, DroppedHaveNone, LiveHavePlaces}
-use Rattle.debug_tails.specs.Tails.{live_tail, laid_tail, program_tail, debug_tail, with_debug}
+use Rattle.debug_tails.specs.Tails.{live_tail, laid_tail, program_tail}
 use Rattle.debug_out.proofs.Stands.{all_stand}
-use Rattle.debug_links.specs.Offsets.{Tells, OffsetsKept, OffsetsStay}
-use Rattle.debug_links.proofs.Candidates.{bind_ok, ok_is, unless_ok, IsRead, loaded_read}
+use Rattle.debug_links.specs.Offsets.{Tells, OffsetsStay}
+use Rattle.debug_links.proofs.Candidates.{bind_ok, unless_ok, IsRead, loaded_read}
 use Rattle.debug_links.proofs.Keeps.{tail_of as tail_behind, loads_of, tail_by}
 use Rattle.debug_links.proofs.Windows.{holds_place}
 use Rattle.debug_links.proofs.Symbols.{are_named}

@@ -1,5 +1,5 @@
 -- What the debug sections behind an output say of places in functions (Linking.md, "Relocation Sections": FUNCTION_OFFSET_I32, which is 8).
-use Rattle.std.specs.Prelude.{◌≡◌, ℕ, ◌+◌, pos, ◌+ℤ◌, true, List, [], ◌∷◌, ◌++◌, length, filter, flat_map, slice_get, slice_range, unwrap_or, Contains, Option, Some, None, Ok}
+use Rattle.std.specs.Prelude.{◌≡◌, ℕ, ◌+◌, pos, ◌+ℤ◌, true, List, ◌∷◌, ◌++◌, length, filter, flat_map, slice_get, slice_range, unwrap_or, Contains, Option, Some, None, Ok}
 use Rattle.valid_links.specs.link_runs.link_program.object_file.leb_codec.Shortest.{u32}
 use Rattle.valid_links.specs.link_runs.link_program.object_file.reloc_section.declared.entry.Reloc.{Reloc}
 use Rattle.valid_links.specs.link_runs.link_program.object_file.declared.object.Object.{Object}
