@@ -1,6 +1,5 @@
 -- Custom sections behind an output leave what it is.
-use Rattle.std.proofs.Common.{◌≡◌, ◌∙◌, ℕ, Bool, true, false, List, [], ◌++◌, length, Result, Ok, refl, sym, ap, subst}
-use Rattle.std.specs.Prelude.{if◌then◌else◌}
+use Rattle.std.proofs.Common.{◌≡◌, ◌∙◌, ℕ, false, List, [], ◌++◌, length, Result, Ok, refl, ap, subst}
 use Rattle.std.proofs.lemmas.List.{append-nil}
 use Rattle.object_file.specs.wl_base.Choice.{◌>>=◌}
 use Rattle.object_file.specs.wl_base.declared.fault.Fault.{Fault}

@@ -1,22 +1,21 @@
 -- Where the windows of joined sections stand in an output, and that they hold their words.
-use Rattle.std.proofs.Common.{ℕ, zero, suc, ◌≡◌, ◌∙◌, ◌+◌, ◌-◌, ◌≤◌, ◌==◌, ◌+ℤ◌, pos, true, List, [], ◌∷◌, ◌++◌, length, take, drop, map, filter, flat_map, slice_range, Contains, Option, Some, None, Ok, inl, inr, refl, ap, sym, subst, arith, append_assoc}
+use Rattle.std.proofs.Common.{ℕ, zero, suc, ◌≡◌, ◌∙◌, ◌+◌, ◌-◌, ◌≤◌, List, [], ◌∷◌, ◌++◌, length, take, drop, map, filter, flat_map, slice_range, Contains, Option, inl, inr, refl, ap, sym, subst, arith, append_assoc}
 use Rattle.std.specs.List.{AllByRecursion}
-use Rattle.std.specs.Str.{bytes_eq}
 use Rattle.std.proofs.lemmas.List.{length-drop}
 use Rattle.std.proofs.lemmas.List.Elements.{All-from_recursion, All-contains}
 use Rattle.std.proofs.lemmas.Slice.Eq.{bytes_eq-Decides}
 use Rattle.object_file.specs.leb_codec.Shortest.{u32}
 use Rattle.object_file.specs.reloc_section.declared.entry.Reloc.{Reloc}
-use Rattle.valid_links.specs.link_runs.link_program.reloc_apply.Windows.{bits32, little}
+use Rattle.valid_links.specs.link_runs.link_program.reloc_apply.Windows.{little}
 use Rattle.valid_links.specs.link_runs.link_program.image_emit.Bytes.{sized}
-use Rattle.debug_customs.specs.debug_rules.Faults.{Input, Debug, debugs}
-use Rattle.debug_customs.specs.debug_rules.Joined.{Places, dead_word, place_at, begins, word_of, value_of, is_named, names_of, payload_of, section_of, content_of, tail_of, joined}
+use Rattle.debug_customs.specs.debug_rules.Faults.{Debug}
+use Rattle.debug_customs.specs.debug_rules.Joined.{Places, dead_word, place_at, begins, word_of, value_of, is_named, names_of, payload_of, section_of, content_of, tail_of}
 use Rattle.debug_out.specs.Windows.{Stands}
 use Rattle.debug_out.proofs.Bounds.{in_bounds}
 use Rattle.debug_out.proofs.Long.{written_long}
-use Rattle.debug_out.proofs.Stands.{all_stand, it_stands, word_held}
+use Rattle.debug_out.proofs.Stands.{it_stands, word_held}
 use Rattle.debug_out.proofs.Within.{In, in_from, in_filter, in_map, in_distinct}
-use Rattle.debug_links.specs.Offsets.{head_of, front_of, Holds}
+use Rattle.debug_links.specs.Offsets.{front_of, Holds}
 
 -- ---- lists
 
