@@ -1,5 +1,4 @@
 pub mod Fields
 pub mod Lacking
 pub mod Own
-pub mod Rows
 pub mod Values
