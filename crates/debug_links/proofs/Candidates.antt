@@ -1,6 +1,6 @@
 -- A loaded object is what the bytes of the candidate with its number are read as.
-use Rattle.std.proofs.Common.{◌≡◌, ◌∙◌, ℕ, zero, suc, ◌+◌, ◌<◌, ◌≤◌, Bool, true, false, List, [], ◌∷◌, ◌++◌, length, take, drop, Option, Some, None, Result, Ok, Err, inl, inr, refl, sym, ap, subst, arith}
-use Rattle.std.specs.Prelude.{◌==◌, filter, filter_map, find, slice_index_or}
+use Rattle.std.proofs.Common.{◌≡◌, ◌∙◌, ℕ, zero, suc, ◌+◌, ◌≤◌, true, false, List, [], ◌∷◌, ◌++◌, length, take, drop, Option, Some, None, Result, Ok, Err, inl, inr, refl, sym, ap, subst, arith}
+use Rattle.std.specs.Prelude.{◌==◌, filter, find, slice_index_or}
 use Rattle.std.proofs.lemmas.Bool.{eq-eqb, ne_eqb}
 use Rattle.list_places.specs.Has.{Has}
 use Rattle.list_places.proofs.Lists.{has_filter, has_pick}
@@ -17,7 +17,7 @@ use Rattle.valid_links.specs.link_runs.link_facts.Facts.{bytes_of}
 use Rattle.valid_links.specs.link_runs.link_program.made_symbols.declared.mode.Mode.{Mode}
 use Rattle.valid_links.specs.link_runs.link_program.round_rules.Rounds.{Candidate, object_in, is_loaded, objects_of, loaded_inputs, load}
 use Rattle.valid_links.specs.link_runs.link_program.link_rules.Candidates.{Opened, object, library, opened, is_library, members_from, candidates_in, candidates_from, too_much_input, too_many_inputs, words_for, candidates_of}
-use Rattle.valid_links.specs.link_runs.link_program.link_rules.LinkOf.{asked_names, the_readers}
+use Rattle.valid_links.specs.link_runs.link_program.link_rules.LinkOf.{the_readers}
 
 pub bind_ok : {A B : Type 0} (r : Result A Fault) (f : A → Result B Fault) (y : B) → (r >>= f) ≡ Ok y → (x : A) × (r ≡ Ok x) × (f x ≡ Ok y)
 bind_ok (Ok x) f y e = (x, refl, e)

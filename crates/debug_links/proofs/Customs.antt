@@ -1,13 +1,11 @@
 -- What stands behind an output are custom sections.
-use Rattle.std.proofs.Common.{◌≡◌, ◌∙◌, ℕ, ◌+◌, Bool, true, false, List, [], ◌∷◌, ◌++◌, take, drop, Option, Some, Result, Ok, inl, inr, refl, sym, ap, subst, arith}
+use Rattle.std.proofs.Common.{◌≡◌, ◌∙◌, ℕ, ◌+◌, Bool, true, false, List, [], ◌∷◌, take, drop, Some, Ok, inl, inr, refl, sym, ap, subst, arith}
 use Rattle.std.specs.Prelude.{◌==◌, if◌then◌else◌, filter, find, map, slice_index_or}
 use Rattle.std.specs.List.{AllByRecursion}
 use Rattle.list_places.specs.Has.{Has}
-use Rattle.object_file.specs.wl_base.declared.fault.Fault.{Fault}
 use Rattle.object_file.specs.declared.object.Object.{Object}
 use Rattle.object_file.specs.wasm_module.Sections.{AreCustoms}
 use Rattle.valid_links.specs.link_runs.link_program.made_symbols.declared.mode.Mode.TheVariants.{Plain}
-use Rattle.valid_links.specs.link_runs.link_program.link_plan.declared.plan.Plan.{Plan}
 use Rattle.valid_links.specs.link_runs.link_program.round_rules.Rounds.{Candidate, load}
 use Rattle.valid_links.specs.link_runs.link_program.name_rules.Entries.{InputSymbol}
 use Rattle.valid_links.specs.link_runs.link_program.image_emit.Bytes.{file_part}

@@ -1,6 +1,5 @@
 -- Custom sections behind an output leave what it is.
-use Rattle.std.proofs.Common.{◌≡◌, ◌∙◌, ℕ, Bool, true, false, List, [], ◌++◌, length, Result, Ok, refl, sym, ap, subst}
-use Rattle.std.specs.Prelude.{if◌then◌else◌}
+use Rattle.std.proofs.Common.{◌≡◌, ◌∙◌, ℕ, false, List, [], ◌++◌, length, Result, Ok, refl, ap, subst}
 use Rattle.std.proofs.lemmas.List.{append-nil}
 use Rattle.object_file.specs.wl_base.Choice.{◌>>=◌}
 use Rattle.object_file.specs.wl_base.declared.fault.Fault.{Fault}
@@ -24,7 +23,7 @@ use Rattle.debug_links.proofs.Candidates.{bind_ok, ok_is}
 -- ---- behind an output
 
 -- what stands behind the bytes
-tail_of : (plan : Plan) (files : List (List ℕ)) (bytes whole : List ℕ) → with_debug plan files bytes ≡ Ok whole → (tail : List ℕ) × (debug_tail plan files (length bytes) ≡ Ok tail) × (bytes ++ tail ≡ whole)
+pub tail_of : (plan : Plan) (files : List (List ℕ)) (bytes whole : List ℕ) → with_debug plan files bytes ≡ Ok whole → (tail : List ℕ) × (debug_tail plan files (length bytes) ≡ Ok tail) × (bytes ++ tail ≡ whole)
 tail_of plan files bytes whole e =
     let a = bind_ok (debug_tail plan files (length bytes)) (λ (tail : List ℕ). (let y : Result (List ℕ) Fault = Ok (bytes ++ tail) in y)) whole e in
     (a.0, a.1, ok_is a.2)

@@ -1,10 +1,8 @@
 -- The windows of debug sections tell where live functions stand in the output.
-use Rattle.std.proofs.Common.{◌≡◌, ◌∙◌, ℕ, zero, suc, ◌+◌, ◌<◌, ◌≤◌, Bool, true, false, List, [], ◌∷◌, ◌++◌, length, map, slice_get, slice_index_or, Contains, Option, Some, None, Result, Ok, inl, inr, refl, sym, ap, subst, arith}
-use Rattle.std.specs.Prelude.{if◌then◌else◌, unwrap_or, pos, ◌+ℤ◌}
+use Rattle.std.proofs.Common.{◌≡◌, ◌∙◌, ℕ, zero, suc, ◌+◌, true, List, [], ◌∷◌, ◌++◌, length, map, slice_get, slice_index_or, Contains, Option, Some, None, Ok, refl, sym, ap, subst, arith}
+use Rattle.std.specs.Prelude.{if◌then◌else◌, unwrap_or}
 use Rattle.list_places.specs.Has.{Has}
 use Rattle.list_places.proofs.Lists.{has_at, all_has}
-use Rattle.object_file.specs.wl_base.Choice.{unless, ◌>>=◌}
-use Rattle.object_file.specs.wl_base.declared.fault.Fault.{Fault}
 use Rattle.object_file.specs.wasm_types.declared.const_expr.ConstExpr.{ConstExpr}
 use Rattle.object_file.specs.wasm_types.declared.const_expr.ConstExpr.TheVariants as constants
 use Rattle.object_file.specs.reloc_section.declared.entry.Reloc.{Reloc}
@@ -14,7 +12,6 @@ use Rattle.object_file.specs.declared.object.Object.{Object}
 use Rattle.object_file.specs.ObjectOf.{IsObject}
 use Rattle.object_file.specs.Spellable.{IsSpellable, IsNumber}
 use Rattle.object_file.proofs.Read.{object_found}
-use Rattle.valid_links.specs.link_runs.link_program.reloc_apply.Windows.{bits32}
 use Rattle.valid_links.specs.link_runs.link_program.made_symbols.declared.mode.Mode.TheVariants.{Plain}
 use Rattle.valid_links.specs.link_runs.link_program.link_plan.declared.plan.Plan.{Plan}
 use Rattle.valid_links.specs.link_runs.link_program.round_rules.Rounds.{Candidate, load}
@@ -24,9 +21,8 @@ use Rattle.valid_links.specs.link_runs.link_program.name_rules.Cases.{clash_by}
 use Rattle.valid_links.specs.link_runs.link_program.link_rules.Candidates.{candidates_of}
 use Rattle.valid_links.specs.link_runs.link_program.link_rules.Program.{Program, Part, program_of}
 use Rattle.valid_links.specs.link_runs.link_program.link_rules.Marks.{exported, live}
-use Rattle.valid_links.specs.link_runs.link_program.link_rules.Output.{layout}
 use Rattle.valid_links.specs.link_runs.link_program.link_rules.LinkOf.{asked_names, the_readers, link_of}
-use Rattle.valid_links.specs.link_runs.link_program.Loaded.{home_of, IsLoaded}
+use Rattle.valid_links.specs.link_runs.link_program.Loaded.{home_of}
 use Rattle.valid_links.specs.link_runs.link_inputs.Loaded.{LoadedAreSound}
 use Rattle.valid_links.specs.link_runs.link_facts.Facts.{IsFrom, Facts, FactsHold, bytes_of}
 use Rattle.valid_links.specs.link_runs.link_facts.link_worlds.Worlds.{layout_of}
@@ -34,15 +30,16 @@ use Rattle.valid_links.specs.link_runs.link_facts.link_worlds.Sound.{IsConstant}
 use Rattle.valid_links.proofs.link_runs_lemmas.link_facts_lemmas.Steps.{is_link, is_linked, is_marked}
 use Rattle.valid_links.proofs.link_runs_lemmas.link_worlds_lemmas.Live.{live_part}
 use Rattle.debug_customs.specs.debug_rules.Faults.{Debug, debugs}
-use Rattle.debug_customs.specs.debug_rules.Joined.{Places, dead_word, place_at, tail_of, joined}
+use Rattle.debug_customs.specs.debug_rules.Joined.{Places, place_at, tail_of, joined}
 use Rattle.debug_tails.specs.link_debug.Places.{body_place, link_inputs, link_places}
 use Rattle.debug_tails.specs.link_debug.Offsets.{AreCoded, own_part, IsSameFrom, OffsetsName, DroppedHaveNone, LiveHavePlaces}
-use Rattle.debug_tails.specs.Tails.{live_tail, laid_tail, program_tail, debug_tail, with_debug}
+use Rattle.debug_tails.specs.Tails.{live_tail, laid_tail, program_tail}
 use Rattle.debug_out.proofs.Stands.{all_stand}
-use Rattle.debug_links.specs.Offsets.{Tells, OffsetsKept, OffsetsStay}
-use Rattle.debug_links.proofs.Candidates.{bind_ok, ok_is, unless_ok, IsRead, loaded_read}
+use Rattle.debug_links.specs.Offsets.{Tells, OffsetsStay}
+use Rattle.debug_links.proofs.Candidates.{bind_ok, unless_ok, IsRead, loaded_read}
 use Rattle.debug_links.proofs.Keeps.{tail_of as tail_behind, loads_of, tail_by}
 use Rattle.debug_links.proofs.Windows.{holds_place}
+use Rattle.debug_links.proofs.Symbols.{are_named}
 
 -- ---- lists
 
@@ -129,9 +126,9 @@ module _ (spell_law : (input : ℕ) (bytes : List ℕ) (object : Object) → IsO
     some_is : (a b : Part) → Some a ≡ Some b → a ≡ b
     some_is a b e = cc
 
-    tells : (d : Debug) (r : Reloc) (k : ℕ) (e : InputSymbol) → Contains sections d → Contains d.relocs r → r.kind ≡ 8 → (e.input ≡ 0 → ⊥) → place_at places.bodies d.object r.index ≡ body_place Plain p (live p x) x (layout_of p x) e
+    tells : (d : Debug) (r : Reloc) (e : InputSymbol) → Contains sections d → Contains d.relocs r → r.kind ≡ 8 → (e.input ≡ 0 → ⊥) → place_at places.bodies d.object r.index ≡ body_place Plain p (live p x) x (layout_of p x) e
         → Tells p x bytes (bytes ++ tail_of sections places) sections d r (own_part p x e)
-    tells d r k e at in_d kind some body = by (own_part p x e) refl
+    tells d r e at in_d kind some body = by (own_part p x e) refl
       where
         by : (o : Option Part) → own_part p x e ≡ o → Tells p x bytes (bytes ++ tail_of sections places) sections d r o
         by (Some part) is =
@@ -186,9 +183,15 @@ offsets_law spell loads facts name dropped placed plan files bytes whole long as
       sections = j.0;
       judged = j.1;
       output = (is_marked p x bytes (is_linked p bytes (is_link plan files bytes all objects l.2 l.3 e)).1).1;
-      told = λ d at r in_d kind o there s symbol.
-          subst (λ z. Tells p x bytes z j.0 d r (own_part p x s)) is
-          (tells spell loads facts plan files bytes all objects long l.2 l.3 name dropped placed are j.0 j.1 d r r.index s at in_d kind
-          (of_object spell loads facts plan files bytes all objects long l.2 l.3 d.object r.index o s there symbol)
-          (body_at spell loads facts plan files bytes all objects long l.2 l.3 d.object r.index o s there symbol));
+      told = λ d at r in_d kind.
+          let n = are_named files all objects j.0 j.1 d at r in_d in (
+            n.0,
+            n.1,
+            n.2,
+            n.3,
+            subst (λ z. Tells p x bytes z j.0 d r (own_part p x n.1)) is
+                (tells spell loads facts plan files bytes all objects long l.2 l.3 name dropped placed are j.0 j.1 d r n.1 at in_d kind
+                (of_object spell loads facts plan files bytes all objects long l.2 l.3 d.object r.index n.0 n.1 n.2 n.3)
+                (body_at spell loads facts plan files bytes all objects long l.2 l.3 d.object r.index n.0 n.1 n.2 n.3)),
+          );
     }

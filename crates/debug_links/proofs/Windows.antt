@@ -1,22 +1,21 @@
 -- Where the windows of joined sections stand in an output, and that they hold their words.
-use Rattle.std.proofs.Common.{ℕ, zero, suc, ◌≡◌, ◌∙◌, ◌+◌, ◌-◌, ◌≤◌, ◌==◌, ◌+ℤ◌, pos, true, List, [], ◌∷◌, ◌++◌, length, take, drop, map, filter, flat_map, slice_range, Contains, Option, Some, None, Ok, inl, inr, refl, ap, sym, subst, arith, append_assoc}
+use Rattle.std.proofs.Common.{ℕ, zero, suc, ◌≡◌, ◌∙◌, ◌+◌, ◌-◌, ◌≤◌, List, [], ◌∷◌, ◌++◌, length, take, drop, map, filter, flat_map, slice_range, Contains, Option, inl, inr, refl, ap, sym, subst, arith, append_assoc}
 use Rattle.std.specs.List.{AllByRecursion}
-use Rattle.std.specs.Str.{bytes_eq}
 use Rattle.std.proofs.lemmas.List.{length-drop}
 use Rattle.std.proofs.lemmas.List.Elements.{All-from_recursion, All-contains}
 use Rattle.std.proofs.lemmas.Slice.Eq.{bytes_eq-Decides}
 use Rattle.object_file.specs.leb_codec.Shortest.{u32}
 use Rattle.object_file.specs.reloc_section.declared.entry.Reloc.{Reloc}
-use Rattle.valid_links.specs.link_runs.link_program.reloc_apply.Windows.{bits32, little}
+use Rattle.valid_links.specs.link_runs.link_program.reloc_apply.Windows.{little}
 use Rattle.valid_links.specs.link_runs.link_program.image_emit.Bytes.{sized}
-use Rattle.debug_customs.specs.debug_rules.Faults.{Input, Debug, debugs}
-use Rattle.debug_customs.specs.debug_rules.Joined.{Places, dead_word, place_at, begins, word_of, value_of, is_named, names_of, payload_of, section_of, content_of, tail_of, joined}
+use Rattle.debug_customs.specs.debug_rules.Faults.{Debug}
+use Rattle.debug_customs.specs.debug_rules.Joined.{Places, dead_word, place_at, begins, word_of, value_of, is_named, names_of, payload_of, section_of, content_of, tail_of}
 use Rattle.debug_out.specs.Windows.{Stands}
 use Rattle.debug_out.proofs.Bounds.{in_bounds}
 use Rattle.debug_out.proofs.Long.{written_long}
-use Rattle.debug_out.proofs.Stands.{all_stand, it_stands, word_held}
+use Rattle.debug_out.proofs.Stands.{it_stands, word_held}
 use Rattle.debug_out.proofs.Within.{In, in_from, in_filter, in_map, in_distinct}
-use Rattle.debug_links.specs.Offsets.{head_of, front_of, Holds}
+use Rattle.debug_links.specs.Offsets.{front_of, Holds}
 
 -- ---- lists
 
@@ -52,6 +51,10 @@ window_at front content rest k le =
     ap (λ j. take j (drop (length front + k) (front ++ (content ++ rest)))) n
     ∙ (ap (take 4) (drop_more front (content ++ rest) k ∙ drop_front k content rest (omega (arith, le)))
     ∙ (take_front 4 (drop k content) rest room ∙ ap (λ j. take j (drop k content)) (sym m)))
+
+-- the same of a whole, by what the four bytes are
+window_in : (whole front content rest four : List ℕ) (k : ℕ) → whole ≡ front ++ (content ++ rest) → k + 4 ≤ length content → slice_range content k (k + 4) ≡ four → slice_range whole (length front + k) (length front + k + 4) ≡ four
+window_in whole front content rest four k is le held = ap (λ zs. slice_range zs (length front + k) (length front + k + 4)) is ∙ (window_at front content rest k le ∙ held)
 
 -- ---- where a contribution stands
 
@@ -89,7 +92,6 @@ module _ (bytes : List ℕ) (all : List Debug) (p : Places) where
       let names = split (names_of all) name (in_distinct (map (λ (x : Debug). x.section.name) all) name (in_map (λ (x : Debug). x.section.name) d all there)) in
       let own = split (filter (is_named name) all) d (in_filter (is_named name) d all ((bytes_eq-Decides name name).1 refl) there) in
       let s = stands d names.0 names.1 own.0 own.1 names.2 own.2 in
-      let front = front_of bytes all p names.0 name own.0 in
       let long = written_long (begins all d.object) p d is in
       record {
         earlier = names.0;
@@ -98,9 +100,9 @@ module _ (bytes : List ℕ) (all : List Debug) (p : Places) where
         before = own.0;
         after = own.1;
         contributions = own.2;
-        window = ap (λ zs. slice_range zs (length front + r.offset) (length front + r.offset + 4)) s.1
-            ∙ (window_at front (content_of all p d) s.0 r.offset (omega (arith, lies_in d r is in_d, long))
-            ∙ word_held (value_of (begins all d.object) p d) d.relocs d.section.content r is in_d);
+        window = window_in (bytes ++ tail_of all p) (front_of bytes all p names.0 name own.0) (content_of all p d) s.0 (little (value_of (begins all d.object) p d r)) r.offset s.1
+            (omega (arith, lies_in d r is in_d, long))
+            (word_held (value_of (begins all d.object) p d) d.relocs d.section.content r is in_d);
       }
 
   -- a place in a function

@@ -1,5 +1,5 @@
 -- What the debug sections behind an output say of places in functions (Linking.md, "Relocation Sections": FUNCTION_OFFSET_I32, which is 8).
-use Rattle.std.specs.Prelude.{◌≡◌, ℕ, ◌+◌, pos, ◌+ℤ◌, true, List, [], ◌∷◌, ◌++◌, length, filter, flat_map, slice_get, slice_range, unwrap_or, Contains, Option, Some, None, Ok}
+use Rattle.std.specs.Prelude.{◌≡◌, ℕ, ◌+◌, pos, ◌+ℤ◌, true, List, ◌∷◌, ◌++◌, length, filter, flat_map, slice_get, slice_range, unwrap_or, Contains, Option, Some, None, Ok}
 use Rattle.valid_links.specs.link_runs.link_program.object_file.leb_codec.Shortest.{u32}
 use Rattle.valid_links.specs.link_runs.link_program.object_file.reloc_section.declared.entry.Reloc.{Reloc}
 use Rattle.valid_links.specs.link_runs.link_program.object_file.declared.object.Object.{Object}
@@ -53,7 +53,7 @@ module _ (p : Program) (exports : List InputSymbol) (bytes whole : List ℕ) (al
   Tells d r (Some part) = (n : ℕ) × IsSameFrom p exports part n × Holds bytes whole all places d r (bits32 (pos n +ℤ r.addend))
   Tells d r None = Holds bytes whole all places d r (dead_word d.section.name)
 
--- Each window of that type in the debug sections of the loaded objects, for the symbol of that number of its object.
+-- Each window of that type in the debug sections of the loaded objects: it names a symbol of its object, and tells of it.
 pub record OffsetsKept (plan : Plan) (files : List (List ℕ)) (bytes whole : List ℕ) : Type 0 where
   pub all : List Candidate
   pub objects : List Object
@@ -63,8 +63,9 @@ pub record OffsetsKept (plan : Plan) (files : List (List ℕ)) (bytes whole : Li
   pub judged : debugs 0 (link_inputs files all objects) ≡ Ok sections
   -- the module before them, in which `IsSameFrom` finds the code
   pub output : (let p = program_of Plain plan files all objects in bytes_of p (exported Plain p) ≡ bytes)
-  pub told : (d : Debug) → Contains sections d → (r : Reloc) → Contains d.relocs r → r.kind ≡ 8 → (o : Object) → slice_get objects d.object ≡ Some o → (e : InputSymbol) → slice_get (symbols_of objects o) r.index ≡ Some e
-      → (let p = program_of Plain plan files all objects in Tells p (exported Plain p) bytes whole sections d r (own_part p (exported Plain p) e))
+  pub told : (d : Debug) → Contains sections d → (r : Reloc) → Contains d.relocs r → r.kind ≡ 8
+      → (o : Object) × (e : InputSymbol) × (slice_get objects d.object ≡ Some o) × (slice_get (symbols_of objects o) r.index ≡ Some e)
+      × (let p = program_of Plain plan files all objects in Tells p (exported Plain p) bytes whole sections d r (own_part p (exported Plain p) e))
 
 abbrev pub OffsetsStay : Type 0
 OffsetsStay = (plan : Plan) (files : List (List ℕ)) (bytes whole : List ℕ) → length files ≡ unwrap_or plan.make_case (length plan.inputs)
