@@ -74,9 +74,13 @@ fn reads_body(
     Ok(false)
 }
 
-/// Whether a body of this type has a typing.
+/// Whether a body of this type has a typing (Core 3.4.1). It is read once; memory is taken for its open blocks and
+/// their operands.
+///
+/// # Errors
+/// Want of memory.
 #[tactic(auto, using(crate::proofs::Deciding::decides))]
-fn is_typed(
+pub fn is_typed(
     alloc: Global,
     context: &Context,
     kind: &FuncType,

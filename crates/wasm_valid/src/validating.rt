@@ -55,8 +55,11 @@ fn context(alloc: Global, s: &Spaces, m: &Module) -> Result<Context, OutOfMemory
     })
 }
 
-/// What a body of the module may name, where the rules outside the bodies hold.
-fn context_in(alloc: Global, m: &Module) -> Result<Context, ValidError>
+/// What a body of the module may name, where the rules outside the bodies hold. The bodies aren't looked at.
+///
+/// # Errors
+/// `Invalid` with `Module` where one of these rules fails. Want of memory.
+pub fn context_in(alloc: Global, m: &Module) -> Result<Context, ValidError>
     ensures ok { IfOk result (λ c. (stands (spaces_of m.now) m.now ≡ true) × (c ≡ context_of m.now)) }
     ensures err { IfErr result (λ e. Judges (Err e) m.now) }
 {
