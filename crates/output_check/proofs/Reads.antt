@@ -1,10 +1,12 @@
 -- Bodies that are read one by one are those that are read together.
-use Rattle.std.proofs.Common.{◌≡◌, ℕ, zero, suc, ◌<◌, ◌≤◌, List, [], ◌∷◌, length, Option, Some, None, Result, Ok, Err, refl, sym, ap, ◌∙◌, arith}
-use Rattle.std.specs.Prelude.{slice_get}
+use Rattle.std.proofs.Common.{◌≡◌, ℕ, zero, suc, ◌<◌, ◌≤◌, List, [], ◌∷◌, length, Option, Some, None, Result, Ok, Err, refl, sym, ap, subst, ◌∙◌, arith}
+use Rattle.std.specs.Prelude.{slice_get, option_and_then}
 use Rattle.wasm_module.specs.wasm_instr.wasm_grammar.declared.fault.Stop.{Stop}
 use Rattle.wasm_module.specs.wasm_instr.wasm_grammar.Reading.{◌>>=◌}
 use Rattle.wasm_module.specs.wasm_instr.declared.body.Body.{Body}
 use Rattle.wasm_module.specs.wasm_instr.Bodies.{body_at}
+use Rattle.valid_bodies.specs.declared.types.Context.{Context}
+use Rattle.valid_bodies.specs.First.{HasTyping, IsFirst}
 use Rattle.module_front.specs.Front.{bodies_of, found}
 use Rattle.output_check.specs.Told.{IsRead, AreUnread}
 
@@ -65,3 +67,12 @@ as_many (p ∷ parts) bodies e = step (body_at p) (bodies_of parts) bodies (λ b
     step (Ok b) (Ok bs) (x ∷ xs) same e = let tails : bs ≡ xs = cc in ap suc (same bs refl ∙ ap length tails)
     step (Ok b) (Err d) all same e = absurd cc
     step (Err d) others all same e = absurd cc
+
+-- ---- one body
+
+pub one_typed : (c : Context) (functions : List ℕ) (at index : ℕ) (body : Body) → slice_get functions at ≡ Some index → IsFirst c (index ∷ []) (body ∷ []) None → HasTyping c (option_and_then (slice_get c.types) (slice_get functions at)) (Some body)
+one_typed c functions at index body is all = subst (λ (i : Option ℕ). HasTyping c (option_and_then (slice_get c.types) i) (Some body)) (sym is) (all 0 (omega arith))
+
+pub one_untyped : (c : Context) (functions : List ℕ) (at index : ℕ) (body : Body) (k : ℕ) → slice_get functions at ≡ Some index → IsFirst c (index ∷ []) (body ∷ []) (Some k) → HasTyping c (option_and_then (slice_get c.types) (slice_get functions at)) (Some body) → ⊥
+one_untyped c functions at index body zero is first typed = first.2 (subst (λ (i : Option ℕ). HasTyping c (option_and_then (slice_get c.types) i) (Some body)) is typed)
+one_untyped c functions at index body (suc k) is first typed = absurd (let below = first.0 in omega (arith, below))

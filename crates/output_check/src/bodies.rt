@@ -5,7 +5,8 @@ ghost use Rattle.valid_bodies.specs.Went.{Decides};
 ghost use Rattle.output_check.specs.Told.{TellsBody, TellsAt, TellsRun, earlier};
 
 use std::alloc::Global;
-use valid_bodies::{Context, is_typed};
+use std::slice::from_ref;
+use valid_bodies::{Context, first_untyped};
 use wasm_instr::{Body, body_at};
 use wasm_module::ModuleFault;
 use wl_base::OutOfMemory;
@@ -27,6 +28,7 @@ fn body_of(alloc: Global, part: &[u8]) -> Result<Body, ModuleFault>
 }
 
 /// Whether a body has a typing, by the type of the function at this place.
+#[tactic(auto, using(crate::proofs::Reads::one_typed, crate::proofs::Reads::one_untyped))]
 fn has_typing(
     alloc: Global,
     context: &Context,
@@ -39,9 +41,9 @@ fn has_typing(
     let Some(index) = functions.get(at) else {
         return Ok(false);
     };
-    match context.types.get(*index as usize) {
-        None => Ok(false),
-        Some(kind) => is_typed(alloc, context, kind, body),
+    match first_untyped(alloc, context, from_ref(index), from_ref(body))? {
+        None => Ok(true),
+        Some(_) => Ok(false),
     }
 }
 

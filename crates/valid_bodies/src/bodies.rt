@@ -74,13 +74,9 @@ fn reads_body(
     Ok(false)
 }
 
-/// Whether a body of this type has a typing (Core 3.4.1). It is read once; memory is taken for its open blocks and
-/// their operands.
-///
-/// # Errors
-/// Want of memory.
+/// Whether a body of this type has a typing.
 #[tactic(auto, using(crate::proofs::Deciding::decides))]
-pub fn is_typed(
+fn is_typed(
     alloc: Global,
     context: &Context,
     kind: &FuncType,

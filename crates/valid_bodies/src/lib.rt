@@ -25,7 +25,7 @@ mod shapes;
 mod sharing;
 mod types;
 
-pub use bodies::{begin, first_untyped, is_typed};
+pub use bodies::{begin, first_untyped};
 pub use frames::reads;
 pub use shapes::shape_by;
 pub use sharing::first_untyped_by;
