@@ -16,8 +16,8 @@ use Rattle.wasm_valid.specs.Spaces.{a_function, imported, functions_of, spaces_o
 use Rattle.wasm_valid.specs.Rules.{stands}
 use Rattle.wasm_valid.specs.Valid.{IsValid, Judges}
 use Rattle.module_front.specs.Front.{bodies_of, with_bodies, opened, found, Fronted, Opens}
-use Rattle.output_check.specs.Told.{AreUnread, Finds}
-use Rattle.output_check.specs.Verdicts.{JudgesRead}
+use Rattle.output_check.specs.Told.{Finds}
+use Rattle.output_check.specs.Verdicts.{JudgesRead, refused}
 use Rattle.output_check.proofs.Reads.{as_many}
 
 -- the rules outside bodies don't look at them
@@ -34,13 +34,18 @@ alike (Ok passed) (Err d) (Err f) e j = j
 alike (Err (Invalid at)) (Err d) (Err f) e j = j
 alike (Err OutOfMemory) (Err d) (Err f) e j = tt
 
-pub no_module : (read : Result Module Stop) → found read ≡ None → JudgesRead (Err (Invalid places.Module)) read
+no_module : (read : Result Module Stop) → found read ≡ None → JudgesRead (Err (Invalid places.Module)) read
 no_module (Ok m) e = absurd cc
 no_module (Err d) e = refl
 
-pub want_of_memory : (read : Result Module Stop) → JudgesRead (Err OutOfMemory) read
+want_of_memory : (read : Result Module Stop) → JudgesRead (Err OutOfMemory) read
 want_of_memory (Ok m) = tt
 want_of_memory (Err d) = tt
+
+-- the answer on bytes that have no front
+pub no_front : {X : Type 0} (view : X → Fronted) (e : ModuleFault) (read : Result Module Stop) → Opens view (Err e) read → JudgesRead (Err (refused e)) read
+no_front view NotModule read none = no_module read none
+no_front view WantOfMemory read none = want_of_memory read
 
 -- the answer on bytes, by their front
 pub by_front : (front : Fronted) (answer : Result (Unit {0}) ValidError) (read : Result Module Stop) → found read ≡ found (opened front) → JudgesRead answer (opened front) → JudgesRead answer read
@@ -65,8 +70,9 @@ module _ (m : Module) (parts : List (List ℕ)) where
   unread_is (Ok bodies) none = absurd cc
   unread_is (Err d) none = refl
 
-  pub unread : AreUnread parts → JudgesRead (Err (Invalid places.Module)) (opened (m, parts))
-  unread none = unread_is (bodies_of parts) none
+  pub unread : (c : Context) (e : ModuleFault) → Finds c m.functions parts (Err e) → JudgesRead (Err (refused e)) (opened (m, parts))
+  unread c NotModule none = unread_is (bodies_of parts) none
+  unread c WantOfMemory none = want_of_memory (opened (m, parts))
 
   module _ (c : Context) (rules : stands (spaces_of m) m ≡ true) (is : c ≡ context_of m) where
     in_context : (bodies : List Body) (first : Option ℕ) → IsFirst c m.functions bodies first → IsFirst (context_of m) m.functions bodies first

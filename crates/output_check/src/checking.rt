@@ -6,7 +6,7 @@ ghost use Rattle.wasm_module.specs.ModuleReading.{module_of};
 ghost use Rattle.wasm_valid.specs.Computed.{Tells};
 ghost use Rattle.wasm_valid.specs.Spaces.{a_function, imported, functions_of, context_of};
 ghost use Rattle.output_check.specs.Check.{judged, invalid_at, IsValidOutput};
-ghost use Rattle.output_check.specs.Verdicts.{JudgesRead};
+ghost use Rattle.output_check.specs.Verdicts.{JudgesRead, refused};
 
 use crate::sharing::first_untyped_by;
 use link_plan::Plan;
@@ -21,6 +21,16 @@ use wl_fan::Workers;
 
 /// More imports, or more functions, than any output has: its bytes are fewer.
 const MANY: usize = 1 << 31;
+
+/// What is told of bytes that are no module.
+fn refused(e: ModuleFault) -> ValidError
+    ensures { result ≡ refused e }
+{
+    match e {
+        ModuleFault::NotModule => ValidError::Invalid(InvalidAt::Module),
+        ModuleFault::OutOfMemory => ValidError::OutOfMemory,
+    }
+}
 
 /// The number of a function that is defined, among all functions.
 fn number_of(context: &Context, m: &Module, at: usize) -> u32
@@ -51,8 +61,22 @@ fn validated<R: Threads + Sync>(
     match first_untyped_by(rt, alloc, &context, functions, front.parts.as_slice(), workers) {
         Ok(None) => Ok(()),
         Ok(Some(at)) => Err(ValidError::Invalid(InvalidAt::Body(number_of(&context, m, at)))),
-        Err(ModuleFault::NotModule) => Err(ValidError::Invalid(InvalidAt::Module)),
-        Err(ModuleFault::OutOfMemory) => Err(ValidError::OutOfMemory),
+        Err(e) => Err(refused(e)),
+    }
+}
+
+/// The verdict on the module that these bytes are.
+fn judged_front<R: Threads + Sync>(
+    rt: &R,
+    alloc: Global,
+    bytes: &[u8],
+    workers: Workers,
+) -> Result<(), ValidError>
+    ensures { JudgesRead result (module_of bytes.now) }
+{
+    match read_front(alloc, bytes) {
+        Ok(front) => validated(rt, alloc, &front, workers),
+        Err(e) => Err(refused(e)),
     }
 }
 
@@ -68,22 +92,6 @@ fn judged<R: Threads + Sync>(
     ensures valid { IfOk result (λ passed. IsValidOutput bytes.now) }
 {
     judged_front(rt, alloc, bytes, workers)
-}
-
-/// The verdict on the module that these bytes are.
-fn judged_front<R: Threads + Sync>(
-    rt: &R,
-    alloc: Global,
-    bytes: &[u8],
-    workers: Workers,
-) -> Result<(), ValidError>
-    ensures { JudgesRead result (module_of bytes.now) }
-{
-    match read_front(alloc, bytes) {
-        Ok(front) => validated(rt, alloc, &front, workers),
-        Err(ModuleFault::NotModule) => Err(ValidError::Invalid(InvalidAt::Module)),
-        Err(ModuleFault::OutOfMemory) => Err(ValidError::OutOfMemory),
-    }
 }
 
 /// Checks the output of a link by the standard's rules of validation, where the plan asks for it: the bytes are read as a module, whose rules
