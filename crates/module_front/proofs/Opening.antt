@@ -4,6 +4,9 @@ use Rattle.std.specs.Prelude.{Option, Some, None, ◌&&◌, ◌==◌, if◌then�
 use Rattle.std.proofs.lemmas.Option.{same_Some}
 use Rattle.wasm_module.specs.wasm_instr.wasm_grammar.declared.fault.Stop.{Stop}
 use Rattle.wasm_module.specs.wasm_instr.wasm_grammar.declared.fault.Stop.TheVariants.{Broken}
+use Rattle.wasm_module.specs.wasm_instr.wasm_grammar.declared.fault.ReadFault.{ReadFault}
+use Rattle.wasm_module.specs.wasm_instr.wasm_grammar.declared.fault.ReadFault.TheVariants.{Stopped, OutOfMemory}
+use Rattle.wasm_module.specs.wasm_instr.wasm_grammar.Fault.{Fails}
 use Rattle.wasm_module.specs.wasm_instr.wasm_grammar.Reading.{◌>>=◌, u32_at, part_at, many_at, vector_at, none_at, ended, whole, sized_at}
 use Rattle.wasm_module.specs.wasm_instr.wasm_types.Types.{func_type_at, import_at, table_type_at, limits_at}
 use Rattle.wasm_module.specs.wasm_instr.declared.body.Body.{Body}
@@ -13,8 +16,8 @@ use Rattle.wasm_module.specs.declared.structure.Module.{Module}
 use Rattle.wasm_module.specs.declared.parts.DataSegment.{DataSegment}
 use Rattle.wasm_module.specs.PartReading.{global_at, export_at, element_at, data_segment_at}
 use Rattle.wasm_module.specs.Sections.{begins, customs_at, section_at, next_at, given_at}
-use Rattle.wasm_module.specs.ModuleReading.{code_at, behind, is_count, module_at, added_up as module_added_up}
-use Rattle.module_front.specs.Front.{Fronted, added_up, front_at, bodies_of, with_bodies, opened, found}
+use Rattle.wasm_module.specs.ModuleReading.{code_at, behind, is_count, module_at, module_fault, added_up as module_added_up}
+use Rattle.module_front.specs.Front.{Fronted, added_up, front_at, bodies_of, with_bodies, opened, found, Opens}
 
 -- ---- readings that give the same, or a fault both
 
@@ -27,8 +30,8 @@ assoc (Err e) f k = refl
 
 -- a step that both have, where more follows in one
 under : {A B C : Type 0} (r : Result A Stop) (g : A → Result C Stop) (f : A → Result B Stop) (k : B → Result C Stop) → ((x : A) → Alike (g x) (f x >>= k)) → Alike (r >>= g) ((r >>= f) >>= k)
-under (Ok x) g f k then = then x
-under (Err e) g f k then = refl
+under (Ok x) g f k more = more x
+under (Err e) g f k more = refl
 
 -- the same step behind both
 before : {A B : Type 0} (r s : Result A Stop) (f : A → Result B Stop) → Alike r s → Alike (r >>= f) (s >>= f)
@@ -38,9 +41,9 @@ before (Err d) (Ok y) f e = absurd cc
 before (Err d) (Err c) f e = refl
 
 -- what gives a fault for each value gives a fault
-lost : {A B C : Type 0} (r : Result A Stop) (f : A → Result B Stop) (k : B → Result C Stop) → ((x : A) → found (f x >>= k) ≡ None) → found ((r >>= f) >>= k) ≡ None
-lost (Ok x) f k then = then x
-lost (Err e) f k then = refl
+lost : {A B C : Type 0} (r : Result A Stop) (f : A → Result B Stop) (k : B → Result C Stop) → ((x : A) → None ≡ found (f x >>= k)) → None ≡ found ((r >>= f) >>= k)
+lost (Ok x) f k more = more x
+lost (Err e) f k more = refl
 
 -- ---- parts, with their bodies read behind them
 
@@ -52,6 +55,9 @@ Bodies = List Body × List ℕ
 
 abbrev beside : List ℕ → List Body → Result Bodies Stop
 beside rest bodies = Ok (bodies, rest)
+
+abbrev with_parts : List (List ℕ) → List ℕ → Result Parts Stop
+with_parts parts rest = Ok (parts, rest)
 
 abbrev then_bodies : Result Parts Stop → Result Bodies Stop
 then_bodies parts = parts >>= λ x. bodies_of x.0 >>= beside x.1
@@ -122,7 +128,7 @@ whole_alike : (end : ℕ) (bytes : List ℕ) → Alike (whole (vector_at code_at
 unfolding whole
 whole_alike end bytes = before (vector_at code_at end bytes) (then_bodies (vector_at part_at end bytes)) (λ x. ended end x.0 x.1) (vector end bytes) ∙ all_read end (vector_at part_at end bytes)
 
-beside_alike : (rest : List ℕ) (parts : Result (List (List ℕ)) Stop) → Alike ((parts >>= bodies_of) >>= beside rest) (then_bodies (parts >>= λ ps. Ok (ps, rest)))
+beside_alike : (rest : List ℕ) (parts : Result (List (List ℕ)) Stop) → Alike ((parts >>= bodies_of) >>= beside rest) (then_bodies (parts >>= λ ps. with_parts ps rest))
 beside_alike rest (Ok ps) = refl
 beside_alike rest (Err e) = refl
 
@@ -130,7 +136,7 @@ sized : (end : ℕ) (bytes : List ℕ) → Alike (sized_at (vector_at code_at) e
 unfolding sized_at
 sized end bytes = under (part_at end bytes)
     (λ part. whole (vector_at code_at) (end - length part.1) part.0 >>= beside part.1)
-    (λ part. whole (vector_at part_at) (end - length part.1) part.0 >>= λ ps. Ok (ps, part.1))
+    (λ part. whole (vector_at part_at) (end - length part.1) part.0 >>= λ ps. with_parts ps part.1)
     (λ x. bodies_of x.0 >>= beside x.1)
     (λ part. before (whole (vector_at code_at) (end - length part.1) part.0) (whole (vector_at part_at) (end - length part.1) part.0 >>= bodies_of) (beside part.1) (whole_alike (end - length part.1) part.0)
     ∙ beside_alike part.1 (whole (vector_at part_at) (end - length part.1) part.0))
@@ -145,11 +151,11 @@ section end bytes = stands_or_not (begins 10 bytes) end bytes
 
 -- a step that doesn't look at the bodies, before they are read or behind
 swapped : (bodies : Result (List Body) Stop) (parts : List (List ℕ)) (rest : List ℕ) (customs : List ℕ → Result (List ℕ) Stop) → bodies_of parts ≡ bodies
-    → Alike ((bodies >>= beside rest) >>= λ x. customs x.1 >>= λ r. beside r x.0) ((customs rest >>= λ r. Ok (parts, r)) >>= λ x. bodies_of x.0 >>= beside x.1)
-swapped (Ok bs) parts rest customs e = under (customs rest) (λ r. beside r bs) (λ r. Ok (parts, r)) (λ x. bodies_of x.0 >>= beside x.1) (λ r. ap (λ b. found (b >>= beside r)) (sym e))
-swapped (Err d) parts rest customs e = sym (lost (customs rest) (λ r. Ok (parts, r)) (λ x. bodies_of x.0 >>= beside x.1) (λ r. ap (λ b. found (b >>= beside r)) e))
+    → Alike ((bodies >>= beside rest) >>= λ x. customs x.1 >>= λ r. beside r x.0) ((customs rest >>= with_parts parts) >>= λ x. bodies_of x.0 >>= beside x.1)
+swapped (Ok bs) parts rest customs e = under (customs rest) (λ r. beside r bs) (with_parts parts) (λ x. bodies_of x.0 >>= beside x.1) (λ r. ap (λ (b : Result (List Body) Stop). found (b >>= beside r)) (sym e))
+swapped (Err d) parts rest customs e = lost (customs rest) (with_parts parts) (λ x. bodies_of x.0 >>= beside x.1) (λ r. ap (λ (b : Result (List Body) Stop). found (b >>= beside r)) (sym e))
 
-customs_behind : (parts : Result Parts Stop) (customs : List ℕ → Result (List ℕ) Stop) → Alike (then_bodies parts >>= λ x. customs x.1 >>= λ r. beside r x.0) (then_bodies (parts >>= λ x. customs x.1 >>= λ r. Ok (x.0, r)))
+customs_behind : (parts : Result Parts Stop) (customs : List ℕ → Result (List ℕ) Stop) → Alike (then_bodies parts >>= λ x. customs x.1 >>= λ r. beside r x.0) (then_bodies (parts >>= λ x. customs x.1 >>= with_parts x.0))
 customs_behind (Ok x) customs = swapped (bodies_of x.0) x.0 x.1 customs refl
 customs_behind (Err e) customs = refl
 
@@ -174,16 +180,16 @@ as_many (p ∷ parts) bodies e = step (body_at p) (bodies_of parts) bodies e (λ
 
 adds_or_not : (is : Bool) (end : ℕ) (m : Module) (parts : List (List ℕ)) (bodies : List Body) → bodies_of parts ≡ Ok bodies
     → Alike (if is then Ok (with_bodies bodies m) else Err (Broken end)) ((if is then Ok (m, parts) else Err (Broken end)) >>= opened)
-adds_or_not true end m parts bodies e = ap (λ b. found (b >>= λ bs. Ok (with_bodies bs m))) (sym e)
+adds_or_not true end m parts bodies e = ap (λ (b : Result (List Body) Stop). found (b >>= λ bs. Ok (with_bodies bs m))) (sym e)
 adds_or_not false end m parts bodies e = refl
 
 adds : (end : ℕ) (m : Module) (parts : List (List ℕ)) (bodies : List Body) → bodies_of parts ≡ Ok bodies → Alike (module_added_up end (with_bodies bodies m)) (added_up end m parts >>= opened)
 adds end m parts bodies e =
-    ap (λ n. found (if (length m.functions == n) && is_count m.data_count (length m.data_segments) then Ok (with_bodies bodies m) else Err (Broken end))) (sym (as_many parts bodies e))
+    ap (λ (n : ℕ). found (if (length m.functions == n) && is_count m.data_count (length m.data_segments) then Ok (with_bodies bodies m) else Err (Broken end))) (sym (as_many parts bodies e))
     ∙ adds_or_not ((length m.functions == length parts) && is_count m.data_count (length m.data_segments)) end m parts bodies e
 
-never_or_not : (is : Bool) (end : ℕ) (m : Module) (parts : List (List ℕ)) (d : Stop) → bodies_of parts ≡ Err d → found ((if is then Ok (m, parts) else Err (Broken end)) >>= opened) ≡ None
-never_or_not true end m parts d e = ap (λ b. found (b >>= λ bs. Ok (with_bodies bs m))) e
+never_or_not : (is : Bool) (end : ℕ) (m : Module) (parts : List (List ℕ)) (d : Stop) → bodies_of parts ≡ Err d → None ≡ found ((if is then Ok (m, parts) else Err (Broken end)) >>= opened)
+never_or_not true end m parts d e = ap (λ (b : Result (List Body) Stop). found (b >>= λ bs. Ok (with_bodies bs m))) (sym e)
 never_or_not false end m parts d e = refl
 
 -- ---- behind the code section
@@ -199,8 +205,8 @@ module _ (end : ℕ) (made : List DataSegment → Module) where
   rest_alike (Ok bodies) parts rest e =
       under (next_at 11 [] (vector_at (data_segment_at true)) end rest) _ _ opened (λ ds. under (none_at end ds.1) _ _ opened (λ nothing. adds end (made ds.0) parts bodies e))
   rest_alike (Err d) parts rest e =
-      sym (lost (next_at 11 [] (vector_at (data_segment_at true)) end rest) _ opened (λ ds. lost (none_at end ds.1) _ opened (λ nothing.
-      never_or_not ((length (made ds.0).functions == length parts) && is_count (made ds.0).data_count (length (made ds.0).data_segments)) end (made ds.0) parts d e)))
+      lost (next_at 11 [] (vector_at (data_segment_at true)) end rest) _ opened (λ ds. lost (none_at end ds.1) _ opened (λ nothing.
+      never_or_not ((length (made ds.0).functions == length parts) && is_count (made ds.0).data_count (length (made ds.0).data_segments)) end (made ds.0) parts d e))
 
   last_opens : (parts : Result Parts Stop) → Alike (then_bodies parts >>= last_bodies) ((parts >>= last_parts) >>= opened)
   last_opens (Ok x) = rest_alike (bodies_of x.0) x.0 x.1 refl
@@ -238,3 +244,12 @@ front_opens end bytes =
       bodies = [];
       data_segments = ds;
     }) count.1)))))))))))
+
+-- ---- what the program answers
+
+pub opens : {X : Type 0} (view : X → Fronted) (x : X) (end : ℕ) (bytes : List ℕ) → front_at end bytes ≡ Ok (view x) → Opens view (Ok x) (module_at end bytes)
+opens view x end bytes e = front_opens end bytes ∙ ap (λ (r : Result Fronted Stop). found (r >>= opened)) e
+
+pub fails : {X : Type 0} (view : X → Fronted) (e : ReadFault) (end : ℕ) (bytes : List ℕ) → Fails e (front_at end bytes) → Opens view (Err (module_fault e)) (module_at end bytes)
+fails view (Stopped s) end bytes e = front_opens end bytes ∙ ap (λ (r : Result Fronted Stop). found (r >>= opened)) e
+fails view OutOfMemory end bytes e = tt

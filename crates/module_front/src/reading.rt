@@ -16,7 +16,7 @@ use wl_base::Seq;
 #[derive(Drop)]
 pub struct Front<'a> {
     /// The module. No body stands in it.
-    pub module: Module,
+    pub outside: Module,
     /// For each function that is defined, the bytes of its body, without their size (Core 5.5.13).
     pub parts: Seq<&'a [u8]>,
 }
@@ -42,14 +42,14 @@ fn is_count(data_count: Option<u32>, segments: usize) -> bool
 }
 
 /// The front, where its numbers add up.
-fn added_up<'a>(end: usize, module: Module, parts: Seq<&'a [u8]>) -> Result<Front<'a>, Stop>
-    ensures exact { Reads (λ f. (f.module, map (λ p. p.now) f.parts)) result (added_up end module (map (λ p. p.now) parts)) }
-    ensures long { IfOk result (λ f. length f.parts ≡ length f.module.functions) }
+fn added_up<'a>(end: usize, outside: Module, parts: Seq<&'a [u8]>) -> Result<Front<'a>, Stop>
+    ensures exact { Reads (λ f. (f.outside, map (λ p. p.now) f.parts)) result (added_up end outside (map (λ p. p.now) parts.entry)) }
+    ensures long { IfOk result (λ f. length f.parts ≡ length f.outside.functions) }
 {
-    if module.functions.len() == parts.len()
-        && is_count(module.data_count, module.data_segments.len())
+    if outside.functions.len() == parts.len()
+        && is_count(outside.data_count, outside.data_segments.len())
     {
-        Ok(Front { module, parts })
+        Ok(Front { outside, parts })
     } else {
         Err(Stop::Broken(end))
     }
@@ -58,8 +58,8 @@ fn added_up<'a>(end: usize, module: Module, parts: Seq<&'a [u8]>) -> Result<Fron
 /// The front of the module that these bytes are, which reach to this end.
 #[tactic(auto, unfolding(crate::specs::Front::front_at))]
 fn front_at<'a>(alloc: Global, end: usize, bytes: &'a [u8]) -> Result<Front<'a>, ReadFault>
-    ensures exact { Gives (λ f. (f.module, map (λ p. p.now) f.parts)) result (front_at end bytes.now) }
-    ensures long { IfOk result (λ f. length f.parts ≡ length f.module.functions) }
+    ensures exact { Gives (λ f. (f.outside, map (λ p. p.now) f.parts)) result (front_at end bytes.now) }
+    ensures long { IfOk result (λ f. length f.parts ≡ length f.outside.functions) }
 {
     let start = header_at(end, bytes)?;
     let rest = customs_at(end, start)?;
@@ -75,7 +75,7 @@ fn front_at<'a>(alloc: Global, end: usize, bytes: &'a [u8]) -> Result<Front<'a>,
     let (parts, rest) = next_parts_at(alloc, end, rest)?;
     let (data_segments, rest) = next_at(alloc, 11, end, rest)?;
     none_at(end, rest)?;
-    let module = Module {
+    let outside = Module {
         types,
         imports,
         functions,
@@ -88,7 +88,7 @@ fn front_at<'a>(alloc: Global, end: usize, bytes: &'a [u8]) -> Result<Front<'a>,
         bodies: Seq::new(alloc),
         data_segments,
     };
-    Ok(added_up(end, module, parts)?)
+    Ok(added_up(end, outside, parts)?)
 }
 
 /// The front of the module that these bytes are (Core 5.5.16), where they are one as far as this can be seen without
@@ -98,9 +98,9 @@ fn front_at<'a>(alloc: Global, end: usize, bytes: &'a [u8]) -> Result<Front<'a>,
 /// `NotModule` only where the bytes are no module. Want of memory.
 pub fn read_front<'a>(alloc: Global, bytes: &'a [u8]) -> Result<Front<'a>, ModuleFault>
     // The bytes are a module exactly where all parts are bodies, and then it is this one with these bodies.
-    ensures opens { Opens (λ f. (f.module, map (λ p. p.now) f.parts)) result (module_of bytes.now) }
+    ensures opens { Opens (λ f. (f.outside, map (λ p. p.now) f.parts)) result (module_of bytes.now) }
     // There is a part for each function that is defined.
-    ensures long { IfOk result (λ f. length f.parts ≡ length f.module.functions) }
+    ensures long { IfOk result (λ f. length f.parts ≡ length f.outside.functions) }
 {
     Ok(front_at(alloc, bytes.len(), bytes)?)
 }

@@ -38,7 +38,7 @@ no_module : (read : Result Module Stop) → found read ≡ None → JudgesRead (
 no_module (Ok m) e = absurd cc
 no_module (Err d) e = refl
 
-want_of_memory : (read : Result Module Stop) → JudgesRead (Err OutOfMemory) read
+pub want_of_memory : (read : Result Module Stop) → JudgesRead (Err OutOfMemory) read
 want_of_memory (Ok m) = tt
 want_of_memory (Err d) = tt
 

@@ -29,18 +29,18 @@ told (Err OutOfMemory) (Err stop) j = tt
 pub is_told : (bytes : List ℕ) (answer : Result (Unit {0}) ValidError) → JudgesRead answer (module_of bytes) → Tells answer (judged (module_of bytes))
 is_told bytes answer j = told answer (module_of bytes) j
 
-passed_is : (bytes : List ℕ) (read : Result Module Stop) → module_of bytes ≡ read → JudgesRead (Ok tt) read → IsValidOutput bytes
-passed_is bytes (Ok m) e valid = record {
+passed_is : (bytes : List ℕ) (passed : Unit {0}) (read : Result Module Stop) → module_of bytes ≡ read → JudgesRead (Ok passed) read → IsValidOutput bytes
+passed_is bytes passed (Ok m) e valid = record {
   is = m;
   read = e;
   spelled = module_found (length bytes) bytes m e;
   valid = valid;
-  no_fault = judged_is_computed m (Ok tt) valid;
+  no_fault = judged_is_computed m (Ok passed) valid;
 }
-passed_is bytes (Err stop) e valid = absurd valid
+passed_is bytes passed (Err stop) e valid = absurd valid
 
 pub is_valid : (bytes : List ℕ) (answer : Result (Unit {0}) ValidError) → JudgesRead answer (module_of bytes) → IfOk answer (λ passed. IsValidOutput bytes)
-is_valid bytes (Ok passed) j = passed_is bytes (module_of bytes) refl j
+is_valid bytes (Ok passed) j = passed_is bytes passed (module_of bytes) refl j
 is_valid bytes (Err e) j = tt
 
 -- ---- what a valid output passes

@@ -66,7 +66,7 @@ module _ (c : Context) (functions : List ℕ) (parts : List (List ℕ)) where
 
   -- no part
   pub none_yet : (from : ℕ) → AreRead c functions parts from from None
-  none_yet from = record { read = λ k above below. absurd (omega (arith, above, below)); first = λ bodies e k above below. absurd (omega (arith, above, below)) }
+  none_yet from = record { read = λ k above below. absurd (omega (arith, above, below)); typed = λ bodies e k above below. absurd (omega (arith, above, below)) }
 
   typed_too : (from at : ℕ) (first : Option ℕ) (bodies : List Body) → from ≤ at → IsFirstIn c functions bodies from at first → TypedAt c functions bodies at → IsFirstIn c functions bodies from (at + 1) first
   typed_too from at None bodies le all typed = λ k above below. one k above (nat_lt k at) refl below
@@ -97,7 +97,7 @@ module _ (c : Context) (functions : List ℕ) (parts : List (List ℕ)) where
   pub goes_on : (from at : ℕ) (first : Option ℕ) (so : Bool) → from ≤ at → so ≡ true → AreRead c functions parts from at first → TellsAt c functions parts at (Ok so) → AreRead c functions parts from (at + 1) first
   goes_on from at first true le is are tells = record {
     read = read_too from at first are tells.0;
-    first = λ bodies e. typed_too from at first bodies le (are.first bodies e) (tells.1 bodies e);
+    typed = λ bodies e. typed_too from at first bodies le (are.typed bodies e) (tells.1 bodies e);
   }
   goes_on from at first false le is are tells = absurd cc
 
@@ -106,7 +106,7 @@ module _ (c : Context) (functions : List ℕ) (parts : List (List ℕ)) where
   comes_to from at first true le is are tells = absurd cc
   comes_to from at first false le is are tells = record {
     read = read_too from at first are tells.0;
-    first = λ bodies e. untyped_now from at first bodies le (are.first bodies e) (tells.1 bodies e);
+    typed = λ bodies e. untyped_now from at first bodies le (are.typed bodies e) (tells.1 bodies e);
   }
 
   -- a whole run; one that ends before it begins has no part
@@ -119,7 +119,7 @@ module _ (c : Context) (functions : List ℕ) (parts : List (List ℕ)) where
           subst (λ (n : ℕ). AreRead c functions parts from n first) same are
       by_length false e =
           let short : to < from = leb-false from to e in
-          subst (AreRead c functions parts from to) (sym (none short)) (record { read = λ k above below. absurd (omega (arith, above, below, short)); first = λ bodies e k above below. absurd (omega (arith, above, below, short)) })
+          subst (AreRead c functions parts from to) (sym (none short)) (record { read = λ k above below. absurd (omega (arith, above, below, short)); typed = λ bodies e k above below. absurd (omega (arith, above, below, short)) })
 
   -- ---- slots
 
@@ -167,11 +167,11 @@ module _ (c : Context) (functions : List ℕ) (parts : List (List ℕ)) where
         before_run found e (length cuts + 1) (omega arith) j (omega (arith, below, past, whole))
 
     are_typed : (bodies : List Body) → bodies_of parts ≡ Ok bodies → AreTyped c functions bodies cuts count slots
-    are_typed bodies e = record { long = are.long; each = λ k told at. typed k told (are.each k told at) }
+    are_typed bodies e = record { long = are.long; each = λ k told at. of_run k told (are.each k told at) }
       where
-        typed : (k : ℕ) (told : Told) → TellsRun c functions parts (start k) (start (k + 1)) told → IfOk told (λ found. IsFirstIn c functions bodies (start k) (start (k + 1)) found)
-        typed k (Ok found) run = run.first bodies e
-        typed k (Err d) run = tt
+        of_run : (k : ℕ) (told : Told) → TellsRun c functions parts (start k) (start (k + 1)) told → IfOk told (λ found. IsFirstIn c functions bodies (start k) (start (k + 1)) found)
+        of_run k (Ok found) run = run.typed bodies e
+        of_run k (Err d) run = tt
 
     pub found_by_runs : (r : Told) → r ≡ merged None slots → Finds c functions parts r
     found_by_runs (Ok found) is =

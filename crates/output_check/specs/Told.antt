@@ -35,7 +35,7 @@ module _ (c : Context) (functions : List ℕ) (parts : List (List ℕ)) where
   -- The parts from one place to another are bodies, and the answer is the first that has no typing.
   pub record AreRead (from to : ℕ) (first : Option ℕ) : Type 0 where
     pub read : (k : ℕ) → from ≤ k → k < to → IsRead (slice_get parts k)
-    pub first : (bodies : List Body) → bodies_of parts ≡ Ok bodies → IsFirstIn c functions bodies from to first
+    pub typed : (bodies : List Body) → bodies_of parts ≡ Ok bodies → IsFirstIn c functions bodies from to first
 
   abbrev pub TellsRun : ℕ → ℕ → Result (Option ℕ) ModuleFault → Type 0
   TellsRun from to (Ok first) = AreRead from to first

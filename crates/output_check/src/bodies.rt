@@ -48,6 +48,7 @@ fn has_typing(
 }
 
 /// Whether the body at a place has a typing.
+#[tactic(auto, using(crate::proofs::Reads::told_at, crate::proofs::Reads::not_told, crate::proofs::Reads::seen_at))]
 fn judged_at(
     alloc: Global,
     context: &Context,
@@ -78,6 +79,7 @@ pub fn earlier(first: Option<usize>, other: Option<usize>) -> Option<usize>
 }
 
 /// The place of the first body from one place to another that has no typing. All of them are read.
+#[tactic(auto, using(crate::proofs::Runs::none_yet, crate::proofs::Runs::goes_on, crate::proofs::Runs::comes_to, crate::proofs::Runs::is_done))]
 pub fn first_untyped_in(
     alloc: Global,
     context: &Context,

@@ -43,16 +43,17 @@ fn number_of(context: &Context, m: &Module, at: usize) -> u32
 }
 
 /// The first fault of a module with this front. All bodies are read and judged, where the rules outside them hold.
+#[tactic(auto, using(crate::proofs::Judging::all_typed, crate::proofs::Judging::one_untyped, crate::proofs::Judging::unread, crate::proofs::Judging::outside, crate::proofs::Judging::want_of_memory))]
 fn validated<R: Threads + Sync>(
     rt: &R,
     alloc: Global,
     front: &Front,
     workers: Workers,
 ) -> Result<(), ValidError>
-    requires { length front.now.parts ≡ length front.now.module.functions }
-    ensures { JudgesRead result (opened (front.now.module, map (λ p. p.now) front.now.parts)) }
+    requires { length front.now.parts ≡ length front.now.outside.functions }
+    ensures { JudgesRead result (opened (front.now.outside, map (λ p. p.now) front.now.parts)) }
 {
-    let m = &front.module;
+    let m = &front.outside;
     if m.imports.len() >= MANY || m.functions.len() >= MANY {
         return Err(ValidError::OutOfMemory);
     }
@@ -66,6 +67,7 @@ fn validated<R: Threads + Sync>(
 }
 
 /// The verdict on the module that these bytes are.
+#[tactic(auto, using(crate::proofs::Judging::by_front, crate::proofs::Judging::no_front))]
 fn judged_front<R: Threads + Sync>(
     rt: &R,
     alloc: Global,
