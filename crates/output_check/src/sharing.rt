@@ -66,6 +66,7 @@ impl Slices<Told> for Sharing<'_> {
         worker as usize
     }
 
+    #[tactic(auto, using(crate::proofs::Runs::told_here))]
     fn work(&self, worker: u32, slots: &mut [Told]) {
         let from = self.ranges.first(worker) as usize;
         let to = self.ranges.first(worker + 1) as usize;
