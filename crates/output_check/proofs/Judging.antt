@@ -18,7 +18,7 @@ use Rattle.wasm_valid.specs.Valid.{IsValid, Judges}
 use Rattle.module_front.specs.Front.{bodies_of, with_bodies, opened, found, Fronted, Opens}
 use Rattle.output_check.specs.Told.{Finds}
 use Rattle.output_check.specs.Verdicts.{JudgesRead, refused}
-use Rattle.output_check.proofs.Reads.{as_many}
+use Rattle.output_check.proofs.OneByOne.{as_many}
 
 -- the rules outside bodies don't look at them
 same_rules : (m : Module) (bodies : List Body) → stands (spaces_of (with_bodies bodies m)) (with_bodies bodies m) ≡ stands (spaces_of m) m

@@ -1,5 +1,5 @@
 pub mod Few
 pub mod Passed
-pub mod Reads
+pub mod OneByOne
 pub mod Runs
 pub mod Judging

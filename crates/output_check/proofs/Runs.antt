@@ -16,7 +16,7 @@ use Rattle.valid_bodies.specs.Went.{Decides}
 use Rattle.valid_bodies.proofs.Shares.{first_of_runs}
 use Rattle.module_front.specs.Front.{bodies_of}
 use Rattle.output_check.specs.Told.{IsRead, AreUnread, AreRead, TellsAt, TellsRun, IsTold, AreTold, Finds, earlier, merged}
-use Rattle.output_check.proofs.Reads.{all_read, as_many}
+use Rattle.output_check.proofs.OneByOne.{all_read, as_many}
 
 abbrev Told : Type 0
 Told = Result (Option ℕ) ModuleFault

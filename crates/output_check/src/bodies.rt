@@ -28,7 +28,7 @@ fn body_of(alloc: Global, part: &[u8]) -> Result<Body, ModuleFault>
 }
 
 /// Whether a body has a typing, by the type of the function at this place.
-#[tactic(auto, using(crate::proofs::Reads::one_typed, crate::proofs::Reads::one_untyped))]
+#[tactic(auto, using(crate::proofs::OneByOne::one_typed, crate::proofs::OneByOne::one_untyped))]
 fn has_typing(
     alloc: Global,
     context: &Context,
@@ -48,7 +48,7 @@ fn has_typing(
 }
 
 /// Whether the body at a place has a typing.
-#[tactic(auto, using(crate::proofs::Reads::told_at, crate::proofs::Reads::not_told, crate::proofs::Reads::seen_at))]
+#[tactic(auto, using(crate::proofs::OneByOne::told_at, crate::proofs::OneByOne::not_told, crate::proofs::OneByOne::seen_at))]
 fn judged_at(
     alloc: Global,
     context: &Context,

@@ -1,5 +1,5 @@
 use Rattle.std.proofs.lemmas.Result.{err_from_is_err_and}
-use Rattle.output_check.proofs.Reads.{stops}
+use Rattle.output_check.proofs.OneByOne.{stops}
 use Rattle.output_check.proofs.bodies.body_of.Goals as goal
 
 pub returns-in_err-body_at : goal.returns-in_err-body_at
