@@ -14,7 +14,7 @@ use Rattle.wasm_valid.specs.declared.fault.ValidError.{ValidError}
 use Rattle.wasm_valid.specs.declared.fault.ValidError.TheVariants.{Invalid, OutOfMemory}
 use Rattle.wasm_valid.specs.Spaces.{a_function, imported, functions_of, spaces_of, context_of}
 use Rattle.wasm_valid.specs.Rules.{stands}
-use Rattle.wasm_valid.specs.Valid.{IsValid, Judges}
+use Rattle.wasm_valid.specs.Valid.{IsValid, IsUntyped, Judges, FailsOutside}
 use Rattle.module_front.specs.Front.{bodies_of, with_bodies, opened, found, Fronted, Opens}
 use Rattle.output_check.specs.Told.{Finds}
 use Rattle.output_check.specs.Verdicts.{JudgesRead, refused}
@@ -57,13 +57,13 @@ module _ (m : Module) (parts : List (List ℕ)) where
 
   -- a rule outside the bodies fails
   fails : (bodies : Result (List Body) Stop) → stands (spaces_of m) m ≡ false → JudgesRead (Err (Invalid places.Module)) (with_read bodies)
-  fails (Ok bodies) no = same_rules m bodies ∙ no
-  fails (Err d) no = refl
+  fails (Ok bodies) wrong = same_rules m bodies ∙ wrong
+  fails (Err d) wrong = refl
 
   pub outside : (e : ValidError) → FailsOutside e m → JudgesRead (Err e) (opened (m, parts))
-  outside (Invalid places.Module) no = fails (bodies_of parts) no
-  outside (Invalid (places.Body n)) no = absurd no
-  outside OutOfMemory no = want_of_memory (opened (m, parts))
+  outside (Invalid places.Module) wrong = fails (bodies_of parts) wrong
+  outside (Invalid (places.Body n)) wrong = absurd wrong
+  outside OutOfMemory wrong = want_of_memory (opened (m, parts))
 
   -- a part is no body
   unread_is : (bodies : Result (List Body) Stop) → found bodies ≡ None → JudgesRead (Err (Invalid places.Module)) (with_read bodies)

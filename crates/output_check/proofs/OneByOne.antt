@@ -103,5 +103,5 @@ module _ (c : Context) (functions : List ℕ) (parts : List (List ℕ)) (at : �
   not_told OutOfMemory none = tt
 
 -- a part that is lent
-pub seen_at : {P : Type 0} (see : P → List ℕ) (parts : List P) (at : ℕ) (p : P) → slice_get parts at ≡ Some p → slice_get (map see parts) at ≡ Some (see p)
-seen_at see parts at p e = slice_get-map see parts at ∙ ap (option_map see) e
+pub seen_at : {P : Type 0} (parts : List P) (see : P → List ℕ) (at : ℕ) (p : P) → slice_get parts at ≡ Some p → slice_get (map see parts) at ≡ Some (see p)
+seen_at parts see at p e = slice_get-map see parts at ∙ ap (option_map see) e

@@ -151,15 +151,16 @@ module _ (c : Context) (functions : List ℕ) (parts : List (List ℕ)) where
         let run : AreRead c functions parts (start k) (start (k + 1)) ok.0 = are.each k (Ok ok.0) ok.1 in
         run.read j above below
 
+    one_more : (k j : ℕ) (b : Bool) → nat_lt j (start k) ≡ b → (j < start k → IsRead (slice_get parts j)) → (start k ≤ j → IsRead (slice_get parts j)) → IsRead (slice_get parts j)
+    one_more k j true lt before here = before (ltb-true j (start k) lt)
+    one_more k j false e before here = here (ltb-false j (start k) e)
+
     before_run : (found : Option ℕ) → merged None slots ≡ Ok found → (k : ℕ) → k ≤ length cuts + 1 → (j : ℕ) → j < start k → IsRead (slice_get parts j)
     before_run found e zero le j below = absurd (omega (arith, below))
-    before_run found e (suc k) le j below = one (nat_lt j (start k)) refl
-      where
-        one : (b : Bool) → nat_lt j (start k) ≡ b → IsRead (slice_get parts j)
-        one true lt = before_run found e k (omega (arith, le)) j (ltb-true j (start k) lt)
-        one false no =
-            let next : suc k ≡ k + 1 = omega arith in
-            run_read found e k (omega (arith, le)) j (ltb-false j (start k) no) (subst (λ (n : ℕ). j < start n) next below)
+    before_run found e (suc k) le j below =
+        let next : suc k ≡ k + 1 = omega arith in
+        one_more k j (nat_lt j (start k)) refl (λ before. before_run found e k (omega (arith, le)) j before)
+        (λ above. run_read found e k (omega (arith, le)) j above (subst (λ (n : ℕ). j < start n) next below))
 
     every_read : (found : Option ℕ) → merged None slots ≡ Ok found → (j : ℕ) → j < length parts → IsRead (slice_get parts j)
     every_read found e j below =
