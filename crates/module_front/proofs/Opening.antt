@@ -17,7 +17,7 @@ use Rattle.wasm_module.specs.declared.parts.DataSegment.{DataSegment}
 use Rattle.wasm_module.specs.PartReading.{global_at, export_at, element_at, data_segment_at}
 use Rattle.wasm_module.specs.Sections.{begins, customs_at, section_at, next_at, given_at}
 use Rattle.wasm_module.specs.ModuleReading.{code_at, behind, is_count, module_at, module_fault, added_up as module_added_up}
-use Rattle.module_front.specs.Front.{Fronted, added_up, front_at, bodies_of, with_bodies, opened, found, Opens}
+use Rattle.module_front.specs.Front.{Fronted, added_up, front_at, bodies_of, with_bodies, opened, found, Refuses, Opens}
 
 -- ---- readings that give the same, or a fault both
 
@@ -250,6 +250,6 @@ front_opens end bytes =
 pub opens : {X : Type 0} (view : X → Fronted) (x : X) (end : ℕ) (bytes : List ℕ) → front_at end bytes ≡ Ok (view x) → Opens view (Ok x) (module_at end bytes)
 opens view x end bytes e = front_opens end bytes ∙ ap (λ (r : Result Fronted Stop). found (r >>= opened)) e
 
-pub fails : {X : Type 0} (view : X → Fronted) (e : ReadFault) (end : ℕ) (bytes : List ℕ) → Fails e (front_at end bytes) → Opens view (Err (module_fault e)) (module_at end bytes)
-fails view (Stopped s) end bytes e = front_opens end bytes ∙ ap (λ (r : Result Fronted Stop). found (r >>= opened)) e
-fails view OutOfMemory end bytes e = tt
+pub fails : (e : ReadFault) (end : ℕ) (bytes : List ℕ) → Fails e (front_at end bytes) → Refuses (module_fault e) (module_at end bytes)
+fails (Stopped s) end bytes e = front_opens end bytes ∙ ap (λ (r : Result Fronted Stop). found (r >>= opened)) e
+fails OutOfMemory end bytes e = tt

@@ -90,8 +90,12 @@ abbrev pub found : {A : Type 0} → Result A Stop → Option A
 found (Ok x) = Some x
 found (Err e) = None
 
+-- No module is read; want of memory says nothing of it.
+abbrev pub Refuses : ModuleFault → Result Module Stop → Type 0
+Refuses NotModule read = found read ≡ None
+Refuses OutOfMemory read = Unit {0}
+
 -- The answer, seen by view, is the front of the module that is read. Where there is none, no module is read.
 abbrev pub Opens : {X : Type 0} → (X → Fronted) → Result X ModuleFault → Result Module Stop → Type 0
 Opens view (Ok front) read = found read ≡ found (opened (view front))
-Opens view (Err NotModule) read = found read ≡ None
-Opens view (Err OutOfMemory) read = Unit {0}
+Opens view (Err e) read = Refuses e read

@@ -15,7 +15,7 @@ use Rattle.wasm_valid.specs.declared.fault.ValidError.TheVariants.{Invalid, OutO
 use Rattle.wasm_valid.specs.Spaces.{a_function, imported, functions_of, spaces_of, context_of}
 use Rattle.wasm_valid.specs.Rules.{stands}
 use Rattle.wasm_valid.specs.Valid.{IsValid, IsUntyped, Judges, FailsOutside}
-use Rattle.module_front.specs.Front.{bodies_of, with_bodies, opened, found, Fronted, Opens}
+use Rattle.module_front.specs.Front.{bodies_of, with_bodies, opened, found, Fronted, Refuses}
 use Rattle.output_check.specs.Told.{Finds}
 use Rattle.output_check.specs.Verdicts.{JudgesRead, refused}
 use Rattle.output_check.proofs.OneByOne.{as_many}
@@ -43,9 +43,9 @@ want_of_memory (Ok m) = tt
 want_of_memory (Err d) = tt
 
 -- the answer on bytes that have no front
-pub no_front : {X : Type 0} (view : X → Fronted) (e : ModuleFault) (read : Result Module Stop) → Opens view (Err e) read → JudgesRead (Err (refused e)) read
-no_front view NotModule read none = no_module read none
-no_front view WantOfMemory read none = want_of_memory read
+pub no_front : (e : ModuleFault) (read : Result Module Stop) → Refuses e read → JudgesRead (Err (refused e)) read
+no_front NotModule read none = no_module read none
+no_front WantOfMemory read none = want_of_memory read
 
 -- the answer on bytes, by their front
 pub by_front : (front : Fronted) (answer : Result (Unit {0}) ValidError) (read : Result Module Stop) → found read ≡ found (opened front) → JudgesRead answer (opened front) → JudgesRead answer read
