@@ -1,4 +1,4 @@
-use Rattle.std.proofs.Common.{◌≡◌, ◌<◌, ℕ, List, length, map, Some, Ok, Bor, subst, rules, arith}
+use Rattle.std.proofs.Common.{◌≡◌, ◌<◌, ℕ, List, length, map, Option, Some, Ok, Bor, subst, rules, arith}
 use Rattle.std.proofs.lemmas.List.{length-map}
 use Rattle.output_check.specs.Told.{Finds}
 use Rattle.output_check.proofs.Few.{few}
@@ -15,9 +15,11 @@ number_of-requires-clause-within g c =
     let cx = c.in_ok-context.context in
     let at = c.in-Ok-Some.at in
     let lent = c.args.front.now.parts in
+    let is : c.in-Ok-Some.field-0 ≡ Some at = search rules in
     let f : Finds cx m.functions (map (λ p. p.now) lent) (Ok (Some at)) =
         subst (λ (fs : List ℕ). Finds cx fs (map (λ p. p.now) lent) (Ok (Some at))) c.as_slice-functions.ensures
-        (subst (λ (ps : List (Bor (List ℕ))). Finds cx c.as_slice-functions.result.now (map (λ p. p.now) ps) (Ok (Some at))) c.as_slice.ensures c.in-Ok-Some.ensures) in
+        (subst (λ (ps : List (Bor (List ℕ))). Finds cx c.as_slice-functions.result.now (map (λ p. p.now) ps) (Ok (Some at))) c.as_slice.ensures
+        (subst (λ (o : Option ℕ). Finds cx c.as_slice-functions.result.now (map (λ p. p.now) c.as_slice.result.now) (Ok o)) is c.in-Ok-Some.ensures)) in
     let below = below_all m (map (λ p. p.now) lent) cx c.in_ok-context.ensures.ok.0 c.in_ok-context.ensures.ok.1 at f in
     let same = length-map lent (λ p. p.now) in
     let long : length lent ≡ length m.functions = search rules in
@@ -29,7 +31,9 @@ returns-in-Ok-Some g c =
     let cx = c.in_ok-context.context in
     let at = c.in-Ok-Some.at in
     let lent = c.args.front.now.parts in
+    let is : c.in-Ok-Some.field-0 ≡ Some at = search rules in
     let f : Finds cx m.functions (map (λ p. p.now) lent) (Ok (Some at)) =
         subst (λ (fs : List ℕ). Finds cx fs (map (λ p. p.now) lent) (Ok (Some at))) c.as_slice-functions.ensures
-        (subst (λ (ps : List (Bor (List ℕ))). Finds cx c.as_slice-functions.result.now (map (λ p. p.now) ps) (Ok (Some at))) c.as_slice.ensures c.in-Ok-Some.ensures) in
+        (subst (λ (ps : List (Bor (List ℕ))). Finds cx c.as_slice-functions.result.now (map (λ p. p.now) ps) (Ok (Some at))) c.as_slice.ensures
+        (subst (λ (o : Option ℕ). Finds cx c.as_slice-functions.result.now (map (λ p. p.now) c.as_slice.result.now) (Ok o)) is c.in-Ok-Some.ensures)) in
     one_untyped m (map (λ p. p.now) lent) cx c.in_ok-context.ensures.ok.0 c.in_ok-context.ensures.ok.1 at c.number_of.result c.number_of.ensures f
