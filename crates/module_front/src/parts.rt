@@ -30,11 +30,7 @@ fn parts_at<'a>(
 
 /// The contents of a code section: as many parts as are counted at the front.
 #[tactic(auto, unfolding(wasm_grammar::specs::Reading::whole, wasm_grammar::specs::Reading::vector_at))]
-fn whole_parts<'a>(
-    alloc: Global,
-    end: usize,
-    bytes: &'a [u8],
-) -> Result<Seq<&'a [u8]>, ReadFault>
+fn whole_parts<'a>(alloc: Global, end: usize, bytes: &'a [u8]) -> Result<Seq<&'a [u8]>, ReadFault>
     ensures { Gives (λ x. map (λ p. p.now) x) result (whole (vector_at part_at) end bytes.now) }
 {
     let (count, rest) = u32_at(end, bytes)?;

@@ -59,7 +59,14 @@ fn validated<R: Threads + Sync>(
     }
     let context = context_in(alloc, m)?;
     let functions = m.functions.as_slice();
-    match first_untyped_by(rt, alloc, &context, functions, front.parts.as_slice(), workers) {
+    match first_untyped_by(
+        rt,
+        alloc,
+        &context,
+        functions,
+        front.parts.as_slice(),
+        workers,
+    ) {
         Ok(None) => Ok(()),
         Ok(Some(at)) => Err(ValidError::Invalid(InvalidAt::Body(number_of(&context, m, at)))),
         Err(e) => Err(refused(e)),

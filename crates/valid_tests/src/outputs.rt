@@ -74,14 +74,16 @@ fn invalid(at: InvalidAt) -> Result<(), ValidError> {
 fn an_output_is_judged_as_the_module_that_it_is(rt: HostRuntime) -> Result<(), Fail> {
     let alloc = rt.alloc();
     // the second of two bodies leaves a number
-    let text = b"\0asm\x01\0\0\0\x01\x04\x01\x60\0\0\x03\x03\x02\0\0\x0a\x09\x02\x02\0\x0b\x04\0A\x01\x0b";
+    let text =
+        b"\0asm\x01\0\0\0\x01\x04\x01\x60\0\0\x03\x03\x02\0\0\x0a\x09\x02\x02\0\x0b\x04\0A\x01\x0b";
     assert!(rt; is_answer(&rt, alloc, text.as_slice(), invalid(InvalidAt::Body(1))));
     // both do nothing
     let text =
         b"\0asm\x01\0\0\0\x01\x04\x01\x60\0\0\x03\x03\x02\0\0\x0a\x07\x02\x02\0\x0b\x02\0\x0b";
     assert!(rt; is_answer(&rt, alloc, text.as_slice(), Ok(())));
     // the same with an export of a function that isn't there
-    let text = b"\0asm\x01\0\0\0\x01\x04\x01\x60\0\0\x03\x03\x02\0\0\x07\x05\x01\x01f\0\x02\x0a\x07\x02\x02\0\x0b\x02\0\x0b";
+    let text =
+        b"\0asm\x01\0\0\0\x01\x04\x01\x60\0\0\x03\x03\x02\0\0\x07\x05\x01\x01f\0\x02\x0a\x07\x02\x02\0\x0b\x02\0\x0b";
     assert!(rt; is_answer(&rt, alloc, text.as_slice(), invalid(InvalidAt::Module)));
     Ok(())
 }
@@ -115,7 +117,9 @@ fn an_output_that_is_not_to_be_checked_passes(rt: HostRuntime) -> Result<(), Fai
         assert!(rt; false);
         return Ok(());
     };
-    assert!(rt; check_output(&rt, alloc, &plan(alloc, false), b"none".as_slice(), workers) == Ok(()));
+    assert!(rt;
+        check_output(&rt, alloc, &plan(alloc, false), b"none".as_slice(), workers) == Ok(())
+    );
     Ok(())
 }
 
@@ -161,9 +165,30 @@ fn several_workers_answer_as_one_does(rt: HostRuntime) -> Result<(), Fail> {
     let untyped = b"A\x01\x0b";
     let unread = b"\x01\xff\x0b";
     assert!(rt; is_told_of_long(&rt, alloc, &[good, good, good], Ok(())));
-    assert!(rt; is_told_of_long(&rt, alloc, &[good, untyped, untyped], invalid(InvalidAt::Body(1))));
+    assert!(rt;
+        is_told_of_long(
+            &rt,
+            alloc,
+            &[good, untyped, untyped],
+            invalid(InvalidAt::Body(1))
+        )
+    );
     // what is no body is told of the whole, before or behind one that has no typing
-    assert!(rt; is_told_of_long(&rt, alloc, &[untyped, good, unread], invalid(InvalidAt::Module)));
-    assert!(rt; is_told_of_long(&rt, alloc, &[unread, untyped, good], invalid(InvalidAt::Module)));
+    assert!(rt;
+        is_told_of_long(
+            &rt,
+            alloc,
+            &[untyped, good, unread],
+            invalid(InvalidAt::Module)
+        )
+    );
+    assert!(rt;
+        is_told_of_long(
+            &rt,
+            alloc,
+            &[unread, untyped, good],
+            invalid(InvalidAt::Module)
+        )
+    );
     Ok(())
 }

@@ -17,9 +17,9 @@ number_of-requires-clause-within g c =
     let lent = c.args.front.now.parts in
     let is : c.in-Ok-Some.field-0 ≡ Some at = search rules in
     let f : Finds cx m.functions (map (λ p. p.now) lent) (Ok (Some at)) =
-        subst (λ (fs : List ℕ). Finds cx fs (map (λ p. p.now) lent) (Ok (Some at))) c.as_slice-functions.ensures
-        (subst (λ (ps : List (Bor (List ℕ))). Finds cx c.as_slice-functions.result.now (map (λ p. p.now) ps) (Ok (Some at))) c.as_slice.ensures
-        (subst (λ (o : Option ℕ). Finds cx c.as_slice-functions.result.now (map (λ p. p.now) c.as_slice.result.now) (Ok o)) is c.in-Ok-Some.ensures)) in
+    subst (λ (fs : List ℕ). Finds cx fs (map (λ p. p.now) lent) (Ok (Some at))) c.as_slice-functions.ensures
+    (subst (λ (ps : List (Bor (List ℕ))). Finds cx c.as_slice-functions.result.now (map (λ p. p.now) ps) (Ok (Some at))) c.as_slice.ensures
+    (subst (λ (o : Option ℕ). Finds cx c.as_slice-functions.result.now (map (λ p. p.now) c.as_slice.result.now) (Ok o)) is c.in-Ok-Some.ensures)) in
     let below = below_all m (map (λ p. p.now) lent) cx c.in_ok-context.ensures.ok.0 c.in_ok-context.ensures.ok.1 at f in
     let same = length-map lent (λ p. p.now) in
     let long : length lent ≡ length m.functions = search rules in
@@ -33,7 +33,7 @@ returns-in-Ok-Some g c =
     let lent = c.args.front.now.parts in
     let is : c.in-Ok-Some.field-0 ≡ Some at = search rules in
     let f : Finds cx m.functions (map (λ p. p.now) lent) (Ok (Some at)) =
-        subst (λ (fs : List ℕ). Finds cx fs (map (λ p. p.now) lent) (Ok (Some at))) c.as_slice-functions.ensures
-        (subst (λ (ps : List (Bor (List ℕ))). Finds cx c.as_slice-functions.result.now (map (λ p. p.now) ps) (Ok (Some at))) c.as_slice.ensures
-        (subst (λ (o : Option ℕ). Finds cx c.as_slice-functions.result.now (map (λ p. p.now) c.as_slice.result.now) (Ok o)) is c.in-Ok-Some.ensures)) in
+    subst (λ (fs : List ℕ). Finds cx fs (map (λ p. p.now) lent) (Ok (Some at))) c.as_slice-functions.ensures
+    (subst (λ (ps : List (Bor (List ℕ))). Finds cx c.as_slice-functions.result.now (map (λ p. p.now) ps) (Ok (Some at))) c.as_slice.ensures
+    (subst (λ (o : Option ℕ). Finds cx c.as_slice-functions.result.now (map (λ p. p.now) c.as_slice.result.now) (Ok o)) is c.in-Ok-Some.ensures)) in
     one_untyped m (map (λ p. p.now) lent) cx c.in_ok-context.ensures.ok.0 c.in_ok-context.ensures.ok.1 at c.number_of.result c.number_of.ensures f

@@ -10,4 +10,4 @@ returns g c =
     let are = c.in-Ok.ensures.ranges in
     let parts = c.args.parts.now in
     found_by_runs c.args.context.now c.args.functions.now (map (λ p. p.now) parts) r.cuts r.count are.rising (c.in-Ok.ensures.count ∙ sym (length-map parts (λ p. p.now))) c.in-Ok-each_told.slots.items
-        c.in-Ok-each_told.ensures c.merged.result (c.merged.ensures ∙ ap (merged None) c.as_slice.ensures.value)
+    c.in-Ok-each_told.ensures c.merged.result (c.merged.ensures ∙ ap (merged None) c.as_slice.ensures.value)
