@@ -1,6 +1,5 @@
 -- The verdict on a module by its front, by the first of its bodies that has no typing.
-use Rattle.std.proofs.Common.{◌≡◌, ℕ, ◌+◌, ◌<◌, Bool, true, false, List, [], ◌∷◌, length, Option, Some, None, Result, Ok, Err, refl, ap, sym, subst, ◌∙◌, arith}
-use Rattle.wl_base.specs.declared.fault.InvalidAt.{InvalidAt}
+use Rattle.std.proofs.Common.{◌≡◌, ℕ, ◌+◌, ◌<◌, true, false, List, length, Option, Some, None, Result, Ok, Err, refl, sym, subst, ◌∙◌, arith}
 use Rattle.wl_base.specs.declared.fault.InvalidAt.TheVariants as places
 use Rattle.wasm_module.specs.wasm_instr.wasm_grammar.declared.fault.Stop.{Stop}
 use Rattle.wasm_module.specs.wasm_instr.wasm_grammar.Reading.{◌>>=◌}
@@ -9,10 +8,10 @@ use Rattle.wasm_module.specs.declared.structure.Module.{Module}
 use Rattle.wasm_module.specs.declared.fault.ModuleFault.{ModuleFault}
 use Rattle.wasm_module.specs.declared.fault.ModuleFault.TheVariants.{NotModule, OutOfMemory as WantOfMemory}
 use Rattle.valid_bodies.specs.declared.types.Context.{Context}
-use Rattle.valid_bodies.specs.First.{TypedAt, IsFirst}
+use Rattle.valid_bodies.specs.First.{IsFirst}
 use Rattle.wasm_valid.specs.declared.fault.ValidError.{ValidError}
 use Rattle.wasm_valid.specs.declared.fault.ValidError.TheVariants.{Invalid, OutOfMemory}
-use Rattle.wasm_valid.specs.Spaces.{a_function, imported, functions_of, spaces_of, context_of}
+use Rattle.wasm_valid.specs.Spaces.{a_function, imported, spaces_of, context_of}
 use Rattle.wasm_valid.specs.Rules.{stands}
 use Rattle.wasm_valid.specs.Valid.{IsValid, IsUntyped, Judges, FailsOutside}
 use Rattle.module_front.specs.Front.{bodies_of, with_bodies, opened, found, Fronted, Refuses}

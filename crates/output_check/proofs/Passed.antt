@@ -1,17 +1,14 @@
 -- What passes the check is a valid output, and a valid output passes it, whether a plan asks for it or not.
-use Rattle.std.proofs.Common.{◌≡◌, ℕ, List, Bool, true, false, if◌then◌else◌, length, Option, Some, None, Result, Ok, Err, refl, ap, sym, subst, ◌∙◌}
+use Rattle.std.proofs.Common.{◌≡◌, ℕ, List, Bool, true, false, if◌then◌else◌, length, Option, Some, None, Result, Ok, Err, refl, ap, sym, ◌∙◌}
 use Rattle.std.specs.Prelude.{option_map, IfOk}
 use Rattle.wl_base.specs.declared.fault.Fault.TheVariants.{Invalid as InvalidFault}
 use Rattle.wl_base.specs.declared.fault.InvalidAt.{InvalidAt}
-use Rattle.wl_base.specs.declared.fault.InvalidAt.TheVariants as places
 use Rattle.wasm_module.specs.wasm_instr.wasm_grammar.declared.fault.Stop.{Stop}
 use Rattle.wasm_module.specs.declared.structure.Module.{Module}
-use Rattle.wasm_module.specs.Modules.{IsModule}
 use Rattle.wasm_module.specs.ModuleReading.{module_of}
 use Rattle.wasm_module.proofs.ModuleLaws.{module_found}
 use Rattle.wasm_valid.specs.declared.fault.ValidError.{ValidError}
 use Rattle.wasm_valid.specs.declared.fault.ValidError.TheVariants.{Invalid, OutOfMemory}
-use Rattle.wasm_valid.specs.Valid.{IsValid}
 use Rattle.wasm_valid.specs.Computed.{Tells}
 use Rattle.wasm_valid.proofs.Computed.{judged_is_computed}
 use Rattle.link_plan.specs.declared.plan.Plan.{Plan}

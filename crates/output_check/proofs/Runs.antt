@@ -1,5 +1,5 @@
 -- What workers tell of runs of parts, put together.
-use Rattle.std.proofs.Common.{◌≡◌, ℕ, zero, suc, ◌+◌, ◌-◌, ◌<◌, ◌≤◌, Bool, true, false, List, [], ◌∷◌, ◌++◌, length, take, drop, Option, Some, None, Result, Ok, Err, refl, ap, subst, sym, ◌∙◌, arith}
+use Rattle.std.proofs.Common.{◌≡◌, ℕ, zero, suc, ◌+◌, ◌-◌, ◌<◌, ◌≤◌, Bool, true, false, List, [], ◌∷◌, length, take, drop, Option, Some, None, Result, Ok, Err, refl, ap, subst, sym, ◌∙◌, arith}
 use Rattle.std.specs.Prelude.{slice_get, slice_set, nat_lt, nat_le, IfOk}
 use Rattle.std.proofs.lemmas.Bool.{ltb-true, ltb-false, leb-true, leb-false}
 use Rattle.std.proofs.lemmas.Option.{same_Some, slice_get_within}
@@ -10,12 +10,11 @@ use Rattle.wl_fan.specs.Slices.{piece, Works}
 use Rattle.wl_rows.specs.Ranges.{first_at, Rising}
 use Rattle.wl_rows.proofs.Cuts.{first_past}
 use Rattle.valid_bodies.specs.declared.types.Context.{Context}
-use Rattle.valid_bodies.specs.First.{TypedAt, IsFirst, IsFirstIn}
+use Rattle.valid_bodies.specs.First.{TypedAt, IsFirstIn}
 use Rattle.valid_bodies.specs.Shares.{AreTold as AreTyped, first_told}
-use Rattle.valid_bodies.specs.Went.{Decides}
 use Rattle.valid_bodies.proofs.Shares.{first_of_runs}
 use Rattle.module_front.specs.Front.{bodies_of}
-use Rattle.output_check.specs.Told.{IsRead, AreUnread, AreRead, TellsAt, TellsRun, IsTold, AreTold, Finds, earlier, merged}
+use Rattle.output_check.specs.Told.{IsRead, AreRead, TellsAt, TellsRun, IsTold, AreTold, Finds, earlier, merged}
 use Rattle.output_check.proofs.OneByOne.{all_read, as_many}
 
 abbrev Told : Type 0

@@ -4,7 +4,6 @@ use Rattle.wasm_module.specs.wasm_instr.wasm_grammar.declared.fault.Stop.{Stop}
 use Rattle.wasm_module.specs.declared.structure.Module.{Module}
 use Rattle.wasm_module.specs.declared.fault.ModuleFault.{ModuleFault}
 use Rattle.wasm_module.specs.declared.fault.ModuleFault.TheVariants.{NotModule, OutOfMemory as WantOfMemory}
-use Rattle.wl_base.specs.declared.fault.InvalidAt.{InvalidAt}
 use Rattle.wl_base.specs.declared.fault.InvalidAt.TheVariants as places
 use Rattle.wasm_valid.specs.declared.fault.ValidError.{ValidError}
 use Rattle.wasm_valid.specs.declared.fault.ValidError.TheVariants.{Invalid, OutOfMemory}

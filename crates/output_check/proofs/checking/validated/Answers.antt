@@ -1,4 +1,4 @@
-use Rattle.std.proofs.Common.{◌≡◌, ◌<◌, ℕ, List, length, map, Option, Some, Ok, Bor, subst, rules, arith}
+use Rattle.std.proofs.Common.{◌≡◌, ℕ, List, length, map, Option, Some, Ok, Bor, subst, rules, arith}
 use Rattle.std.proofs.lemmas.List.{length-map}
 use Rattle.output_check.specs.Told.{Finds}
 use Rattle.output_check.proofs.Few.{few}

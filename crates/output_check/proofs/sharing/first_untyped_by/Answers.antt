@@ -1,4 +1,4 @@
-use Rattle.std.proofs.Common.{length, map, ap, sym, ◌∙◌, None}
+use Rattle.std.proofs.Common.{map, ap, sym, ◌∙◌, None}
 use Rattle.std.proofs.lemmas.List.{length-map}
 use Rattle.output_check.specs.Told.{merged}
 use Rattle.output_check.proofs.Runs.{found_by_runs}
