@@ -1,2 +1,5 @@
 pub mod Few
 pub mod Passed
+pub mod OneByOne
+pub mod Runs
+pub mod Judging

@@ -30,3 +30,9 @@ abbrev pub Judges : Result (Unit {0}) ValidError → Module → Type 0
 Judges (Ok valid) m = IsValid m
 Judges (Err (Invalid at)) m = IsInvalid m at
 Judges (Err OutOfMemory) m = Unit {0}
+
+-- A rule outside the bodies fails, or memory was refused.
+abbrev pub FailsOutside : ValidError → Module → Type 0
+FailsOutside (Invalid places.Module) m = stands (spaces_of m) m ≡ false
+FailsOutside (Invalid (places.Body n)) m = ⊥
+FailsOutside OutOfMemory m = Unit {0}

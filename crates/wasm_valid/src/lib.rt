@@ -11,4 +11,4 @@ mod spaces;
 mod validating;
 
 pub use fault::ValidError;
-pub use validating::{validate, validate_by};
+pub use validating::{context_in, validate, validate_by};

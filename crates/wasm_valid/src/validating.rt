@@ -3,7 +3,7 @@ ghost use Rattle.std.specs.Prelude.{◌≡◌, ◌+◌, ◌<◌, ◌^◌, true, 
 ghost use Rattle.valid_bodies.specs.First.{IsFirst};
 ghost use Rattle.wasm_valid.specs.Rules.{stands};
 ghost use Rattle.wasm_valid.specs.Spaces.{functions_of, spaces_of, context_of, context_with};
-ghost use Rattle.wasm_valid.specs.Valid.{Judges};
+ghost use Rattle.wasm_valid.specs.Valid.{FailsOutside, Judges};
 ghost use Rattle.wasm_valid.specs.Computed.{Tells, module_fault};
 
 use crate::fault::ValidError;
@@ -55,10 +55,14 @@ fn context(alloc: Global, s: &Spaces, m: &Module) -> Result<Context, OutOfMemory
     })
 }
 
-/// What a body of the module may name, where the rules outside the bodies hold.
-fn context_in(alloc: Global, m: &Module) -> Result<Context, ValidError>
+/// What a body of the module may name, where the rules outside the bodies hold. The bodies aren't looked at.
+///
+/// # Errors
+/// `Invalid` with `Module` where one of these rules fails. Want of memory.
+pub fn context_in(alloc: Global, m: &Module) -> Result<Context, ValidError>
     ensures ok { IfOk result (λ c. (stands (spaces_of m.now) m.now ≡ true) × (c ≡ context_of m.now)) }
     ensures err { IfErr result (λ e. Judges (Err e) m.now) }
+    ensures outside { IfErr result (λ e. FailsOutside e m.now) }
 {
     let s = spaces_in(alloc, m)?;
     if !stands(alloc, &s, m)? {
