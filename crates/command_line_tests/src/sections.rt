@@ -21,7 +21,7 @@ struct Case<'a> {
 }
 
 // What is saved, if anything.
-fn saved(line: &[u8], whole: &[u8]) -> Option<&[u8]> {
+fn saved<'a>(line: &[u8], whole: &'a [u8]) -> Option<&'a [u8]> {
     if line.is_empty() { Some(whole) } else { None }
 }
 
