@@ -51,6 +51,11 @@ next_read : (p : Placed) (r : Result (List Placed) Stop) → is_read (with_next 
 next_read p (Ok code) = refl
 next_read p (Err s) = refl
 
+pub next_reads : (end : ℕ) (nest : Nest) (bytes : List ℕ) (x : Instr) (mid rest : List ℕ) → 0 < length nest → instr_at end bytes ≡ Ok (x, mid, rest) → (next : Nest) → outline_step nest (outline_of x) ≡ Some next
+    → is_read (code_at (length bytes) end nest bytes) ≡ is_read (code_at (length rest) end next rest)
+next_reads end nest bytes x mid rest some e next turned =
+    ap is_read (goes end nest bytes x mid rest some e next (steps_agree nest x ∙ turned)) ∙ next_read (placed end x bytes mid rest) (code_at (length rest) end next rest)
+
 pub skims_on : (end : ℕ) (nest : Nest) (bytes : List ℕ) (o : Outline) (mid rest : List ℕ) (next : Nest) (total : Bool) → 0 < length nest → skim_at end bytes ≡ Ok (o, mid, rest) → outline_step nest o ≡ Some next
     → is_read (code_at (length bytes) end nest bytes) ≡ total → is_read (code_at (length rest) end next rest) ≡ total
 skims_on end nest bytes o mid rest next total some e s so_far =

@@ -6,6 +6,8 @@
 #![tactic(auto)]
 
 mod locals;
+mod opcodes;
+mod quick;
 mod skimming;
 mod typing;
 mod verdict;

@@ -7,6 +7,7 @@ ghost use Rattle.valid_bodies.specs.Shapes.{shape};
 ghost use Rattle.body_check.specs.Judging.{judged, verdict};
 
 use crate::locals::locals_at;
+use crate::quick::types_quickly;
 use crate::skimming::{turns, unfit};
 use crate::verdict::Verdict;
 use std::alloc::Global;
@@ -74,18 +75,24 @@ fn judge_code(
     opens.push(false)?;
     let mut around = begin(alloc, kind.results.as_slice())?;
     let mut rest = bytes;
-    while let Some(frame) = around.pop() {
+    while let Some(inner) = around.pop() {
+        let mut frame = inner;
         if opens.len() == 0 {
             return unfit(opens, end, rest);
         }
-        match instr_at(alloc, end, rest) {
+        let Some(there) =
+            types_quickly(context, kind, locals, &around, &mut frame, end, rest)?
+        else {
+            return unfit(opens, end, rest);
+        };
+        match instr_at(alloc, end, there) {
             Err(ReadFault::OutOfMemory) => return Err(OutOfMemory),
             Err(ReadFault::Stopped(_)) => return Ok(Verdict::Unread),
             Ok((instr, _, after)) => {
                 let Some(outline) =
                     types(alloc, context, kind, locals, &mut around, frame, instr)?
                 else {
-                    return unfit(opens, end, rest);
+                    return unfit(opens, end, there);
                 };
                 if !turns(&mut opens, outline)? {
                     return Ok(Verdict::Unread);
