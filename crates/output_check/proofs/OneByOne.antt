@@ -1,22 +1,24 @@
 -- Bodies that are read one by one are those that are read together.
-use Rattle.std.proofs.Common.{◌≡◌, ℕ, Bool, map, zero, suc, ◌<◌, List, [], ◌∷◌, length, Option, Some, None, Result, Ok, Err, refl, sym, ap, subst, ◌∙◌, arith}
+use Rattle.std.proofs.Common.{◌≡◌, ℕ, Bool, true, false, map, zero, suc, ◌<◌, List, [], ◌∷◌, length, Option, Some, None, Result, Ok, Err, refl, sym, ap, subst, ◌∙◌, arith}
 use Rattle.std.specs.Prelude.{slice_get, option_and_then, option_map}
 use Rattle.std.proofs.lemmas.Option.{slice_get-map}
 use Rattle.wasm_module.specs.wasm_instr.wasm_grammar.declared.fault.Stop.{Stop}
-use Rattle.wasm_module.specs.wasm_instr.wasm_grammar.declared.fault.ReadFault.{ReadFault}
-use Rattle.wasm_module.specs.wasm_instr.wasm_grammar.declared.fault.ReadFault.TheVariants.{Stopped, OutOfMemory as WantOfMemory}
-use Rattle.wasm_module.specs.wasm_instr.wasm_grammar.Fault.{Fails}
 use Rattle.wasm_module.specs.wasm_instr.wasm_grammar.Reading.{◌>>=◌}
+use Rattle.wasm_module.specs.wasm_instr.wasm_types.declared.function.FuncType.{FuncType}
 use Rattle.wasm_module.specs.wasm_instr.declared.body.Body.{Body}
 use Rattle.wasm_module.specs.wasm_instr.Bodies.{body_at}
 use Rattle.wasm_module.specs.declared.fault.ModuleFault.{ModuleFault}
 use Rattle.wasm_module.specs.declared.fault.ModuleFault.TheVariants.{NotModule, OutOfMemory}
-use Rattle.wasm_module.specs.ModuleReading.{module_fault}
 use Rattle.valid_bodies.specs.declared.types.Context.{Context}
-use Rattle.valid_bodies.specs.First.{HasTyping, IsFirst}
-use Rattle.valid_bodies.specs.Went.{Decides}
+use Rattle.valid_bodies.specs.First.{HasTyping}
+use Rattle.valid_bodies.specs.Shapes.{shapes_in}
+use Rattle.valid_bodies.specs.Went.{Decides, accepts}
+use Rattle.valid_bodies.proofs.Deciding.{decides}
 use Rattle.module_front.specs.Front.{bodies_of, found}
-use Rattle.output_check.specs.Told.{IsRead, AreUnread, TellsBody, TellsAt}
+use Rattle.body_check.specs.declared.verdict.Verdict.{Verdict}
+use Rattle.body_check.specs.declared.verdict.Verdict.TheVariants.{Unread, Untyped, Typed}
+use Rattle.body_check.specs.Judging.{is_read, told, verdict}
+use Rattle.output_check.specs.Told.{IsRead, AreUnread, TellsPart, TellsAt}
 
 abbrev put : Result Body Stop → Result (List Body) Stop → Result (List Body) Stop
 put body bodies = body >>= λ b. bodies >>= λ bs. Ok (b ∷ bs)
@@ -78,29 +80,66 @@ as_many (p ∷ parts) bodies e = step (body_at p) (bodies_of parts) bodies (λ b
 
 -- ---- one body
 
-pub one_typed : (c : Context) (functions : List ℕ) (at index : ℕ) (body : Body) → slice_get functions at ≡ Some index → IsFirst c (index ∷ []) (body ∷ []) None → HasTyping c (option_and_then (slice_get c.types) (slice_get functions at)) (Some body)
-one_typed c functions at index body is all = subst (λ (i : Option ℕ). HasTyping c (option_and_then (slice_get c.types) i) (Some body)) (sym is) (all 0 (omega arith))
+is_typed : (so : Bool) → Typed ≡ told so → so ≡ true
+is_typed true e = refl
+is_typed false e = absurd cc
 
-pub one_untyped : (c : Context) (functions : List ℕ) (at index : ℕ) (body : Body) (k : ℕ) → slice_get functions at ≡ Some index → IsFirst c (index ∷ []) (body ∷ []) (Some k) → HasTyping c (option_and_then (slice_get c.types) (slice_get functions at)) (Some body) → ⊥
-one_untyped c functions at index body zero is first typed = first.2 (subst (λ (i : Option ℕ). HasTyping c (option_and_then (slice_get c.types) i) (Some body)) is typed)
-one_untyped c functions at index body (suc k) is first typed = absurd (let below = first.0 in omega (arith, below))
+is_untyped : (so : Bool) → Untyped ≡ told so → so ≡ false
+is_untyped true e = absurd cc
+is_untyped false e = refl
+
+not_unread : (so : Bool) → Unread ≡ told so → ⊥
+not_unread true e = absurd cc
+not_unread false e = absurd cc
+
+module _ (c : Context) (part : List ℕ) where
+  -- the answer by the verdict
+  pub when_typed : (kind : Option FuncType) (t : FuncType) (v : Verdict) → kind ≡ Some t → v ≡ verdict c t (body_at part) → v ≡ Typed → TellsPart c kind part (Ok true)
+  when_typed kind t v here is typed = subst (λ (k : Option FuncType). TellsPart c k part (Ok true)) (sym here) (of (body_at part) refl (sym typed ∙ is))
+    where
+      of : (read : Result Body Stop) → body_at part ≡ read → Typed ≡ verdict c t read → TellsPart c (Some t) part (Ok true)
+      of (Ok body) e told_so = (body, e, decides t.results (shapes_in c t body) true (sym (is_typed (accepts t.results (shapes_in c t body)) told_so)))
+      of (Err d) e told_so = absurd cc
+
+  pub when_untyped : (kind : Option FuncType) (t : FuncType) (v : Verdict) → kind ≡ Some t → v ≡ verdict c t (body_at part) → v ≡ Untyped → TellsPart c kind part (Ok false)
+  when_untyped kind t v here is untyped = subst (λ (k : Option FuncType). TellsPart c k part (Ok false)) (sym here) (of (body_at part) refl (sym untyped ∙ is))
+    where
+      of : (read : Result Body Stop) → body_at part ≡ read → Untyped ≡ verdict c t read → TellsPart c (Some t) part (Ok false)
+      of (Ok body) e told_so = (body, e, decides t.results (shapes_in c t body) false (sym (is_untyped (accepts t.results (shapes_in c t body)) told_so)))
+      of (Err d) e told_so = absurd cc
+
+  pub when_unread : (t : FuncType) (v : Verdict) → v ≡ verdict c t (body_at part) → v ≡ Unread → TellsPart c (Some t) part (Err NotModule)
+  when_unread t v is unread = of (body_at part) (sym unread ∙ is)
+    where
+      of : (read : Result Body Stop) → Unread ≡ verdict c t read → found read ≡ None
+      of (Ok body) e = absurd (not_unread (accepts t.results (shapes_in c t body)) e)
+      of (Err d) e = refl
+
+  -- of a function without a type
+  pub when_read : (so : Bool) → so ≡ is_read (body_at part) → so ≡ true → TellsPart c None part (Ok false)
+  when_read so is true_is = of (body_at part) refl (sym true_is ∙ is)
+    where
+      of : (read : Result Body Stop) → body_at part ≡ read → true ≡ is_read read → TellsPart c None part (Ok false)
+      of (Ok body) e so_read = (body, e, λ none. none)
+      of (Err d) e so_read = absurd cc
+
+  pub when_no_body : (so : Bool) → so ≡ is_read (body_at part) → so ≡ false → TellsPart c None part (Err NotModule)
+  when_no_body so is false_is = of (body_at part) (sym false_is ∙ is)
+    where
+      of : (read : Result Body Stop) → false ≡ is_read read → found read ≡ None
+      of (Ok body) e = absurd cc
+      of (Err d) e = refl
 
 -- ---- what is told of a part
 
-pub stops : (e : ReadFault) (part : List ℕ) → Fails e (body_at part) → TellsBody (Err (module_fault e)) part
-stops (Stopped s) part is = ap found is
-stops WantOfMemory part is = tt
-
-module _ (c : Context) (functions : List ℕ) (parts : List (List ℕ)) (at : ℕ) (part : List ℕ) (here : slice_get parts at ≡ Some part) where
-  pub told_at : (body : Body) (so : Bool) → body_at part ≡ Ok body → Decides so (HasTyping c (option_and_then (slice_get c.types) (slice_get functions at)) (Some body)) → TellsAt c functions parts at (Ok so)
-  told_at body so is typed = (
-    subst IsRead (sym here) (body, is),
-    λ bodies all. subst (λ (b : Option Body). Decides so (HasTyping c (option_and_then (slice_get c.types) (slice_get functions at)) b)) (sym (nth_read parts at part body bodies here is all)) typed,
-  )
-
-  pub not_told : (e : ModuleFault) → TellsBody (Err e) part → TellsAt c functions parts at (Err e)
-  not_told NotModule none = unread parts at part here none
-  not_told OutOfMemory none = tt
+pub part_told : (c : Context) (functions : List ℕ) (parts : List (List ℕ)) (at : ℕ) (part : List ℕ) (r : Result Bool ModuleFault) → slice_get parts at ≡ Some part
+    → TellsPart c (option_and_then (slice_get c.types) (slice_get functions at)) part r → TellsAt c functions parts at r
+part_told c functions parts at part (Ok so) here tells = (
+  subst IsRead (sym here) (tells.0, tells.1),
+  λ bodies all. subst (λ (b : Option Body). Decides so (HasTyping c (option_and_then (slice_get c.types) (slice_get functions at)) b)) (sym (nth_read parts at part tells.0 bodies here tells.1 all)) tells.2,
+)
+part_told c functions parts at part (Err NotModule) here tells = unread parts at part here tells
+part_told c functions parts at part (Err OutOfMemory) here tells = tt
 
 -- a part that is lent
 pub seen_at : {P : Type 0} (parts : List P) (see : P → List ℕ) (at : ℕ) (p : P) → slice_get parts at ≡ Some p → slice_get (map see parts) at ≡ Some (see p)

@@ -1,12 +1,13 @@
 -- What is told of the bodies of a module that are read and judged in one go, by several workers.
 use Rattle.std.specs.Prelude.{◌≡◌, ◌+◌, ◌<◌, ◌≤◌, ℕ, List, [], ◌∷◌, length, Bool, Option, Some, None, slice_get, Result, Ok, Err}
 use Rattle.wl_rows.specs.Ranges.{first_at}
+use Rattle.wasm_module.specs.wasm_instr.wasm_types.declared.function.FuncType.{FuncType}
 use Rattle.wasm_module.specs.wasm_instr.declared.body.Body.{Body}
 use Rattle.wasm_module.specs.wasm_instr.Bodies.{body_at}
 use Rattle.wasm_module.specs.declared.fault.ModuleFault.{ModuleFault}
 use Rattle.wasm_module.specs.declared.fault.ModuleFault.TheVariants.{NotModule, OutOfMemory}
 use Rattle.valid_bodies.specs.declared.types.Context.{Context}
-use Rattle.valid_bodies.specs.First.{TypedAt, IsFirst, IsFirstIn}
+use Rattle.valid_bodies.specs.First.{HasTyping, TypedAt, IsFirst, IsFirstIn}
 use Rattle.valid_bodies.specs.Went.{Decides}
 use Rattle.module_front.specs.Front.{bodies_of, found}
 
@@ -19,11 +20,11 @@ IsRead (Some part) = (body : Body) × (body_at part ≡ Ok body)
 abbrev pub AreUnread : List (List ℕ) → Type 0
 AreUnread parts = found (bodies_of parts) ≡ None
 
--- Reads one body, or says that there is none.
-abbrev pub TellsBody : Result Body ModuleFault → List ℕ → Type 0
-TellsBody (Ok body) part = body_at part ≡ Ok body
-TellsBody (Err NotModule) part = found (body_at part) ≡ None
-TellsBody (Err OutOfMemory) part = Unit {0}
+-- A part is a body, and the answer says whether it has a typing as that of a function of this type. Else it is no body.
+abbrev pub TellsPart : Context → Option FuncType → List ℕ → Result Bool ModuleFault → Type 0
+TellsPart c kind part (Ok so) = (body : Body) × (body_at part ≡ Ok body) × Decides so (HasTyping c kind (Some body))
+TellsPart c kind part (Err NotModule) = found (body_at part) ≡ None
+TellsPart c kind part (Err OutOfMemory) = Unit {0}
 
 module _ (c : Context) (functions : List ℕ) (parts : List (List ℕ)) where
   -- The part at this place is a body, and the answer says whether it has a typing. Else some part is no body.

@@ -1,54 +1,55 @@
 //! Bodies that are read from their bytes, judged and given back one by one.
-ghost use Rattle.std.specs.Prelude.{◌≡◌, Some, IfOk, map, slice_get, option_and_then};
-ghost use Rattle.valid_bodies.specs.First.{HasTyping};
-ghost use Rattle.valid_bodies.specs.Went.{Decides};
-ghost use Rattle.output_check.specs.Told.{TellsBody, TellsAt, TellsRun, earlier};
+ghost use Rattle.std.specs.Prelude.{◌≡◌, Some, None, MatchOption, map, slice_get, option_and_then};
+ghost use Rattle.output_check.specs.Told.{TellsPart, TellsAt, TellsRun, earlier};
 
+use body_check::{Verdict, is_body, judge};
 use std::alloc::Global;
-use std::slice::from_ref;
-use valid_bodies::{Context, first_untyped};
-use wasm_instr::{Body, body_at};
+use valid_bodies::Context;
 use wasm_module::ModuleFault;
+use wasm_types::FuncType;
 use wl_base::OutOfMemory;
 
 /// What is told of bodies: the first that has no typing, or that one of them is no body, or that memory was refused.
 pub type Told = Result<Option<usize>, ModuleFault>;
 
-/// So many bytes no body has, as its size is a u32.
-const LONG: usize = 1 << 32;
-
-/// The body that these bytes are.
-fn body_of(alloc: Global, part: &[u8]) -> Result<Body, ModuleFault>
-    ensures { TellsBody result part.now }
+/// The type of the function at this place, where it is there.
+fn kind_at<'a>(context: &'a Context, functions: &[u32], at: usize) -> Option<&'a FuncType>
+    ensures { MatchOption result (option_and_then (slice_get context.now.types) (slice_get functions.now at) ≡ None)
+        (λ kind. option_and_then (slice_get context.now.types) (slice_get functions.now at) ≡ Some kind.now) }
 {
-    if part.len() >= LONG {
-        return Err(ModuleFault::OutOfMemory);
+    match functions.get(at) {
+        None => None,
+        Some(index) => context.types.get(*index as usize),
     }
-    Ok(body_at(alloc, part)?)
 }
 
-/// Whether a body has a typing, by the type of the function at this place.
-#[tactic(auto, using(crate::proofs::OneByOne::one_typed, crate::proofs::OneByOne::one_untyped))]
-fn has_typing(
+/// Whether the bytes are a body that has a typing, by the type of the function at this place.
+fn is_typed(
     alloc: Global,
     context: &Context,
     functions: &[u32],
     at: usize,
-    body: &Body,
-) -> Result<bool, OutOfMemory>
-    ensures { IfOk result (λ so. Decides so (HasTyping context.now (option_and_then (slice_get context.now.types) (slice_get functions.now at)) (Some body.now))) }
+    part: &[u8],
+) -> Result<bool, ModuleFault>
+    ensures { TellsPart context.now (option_and_then (slice_get context.now.types) (slice_get functions.now at)) part.now result }
 {
-    let Some(index) = functions.get(at) else {
-        return Ok(false);
+    let Some(kind) = kind_at(context, functions, at) else {
+        return match is_body(alloc, part) {
+            Ok(true) => Ok(false),
+            Ok(false) => Err(ModuleFault::NotModule),
+            Err(OutOfMemory) => Err(ModuleFault::OutOfMemory),
+        };
     };
-    match first_untyped(alloc, context, from_ref(index), from_ref(body))? {
-        None => Ok(true),
-        Some(_) => Ok(false),
+    match judge(alloc, context, kind, part) {
+        Ok(Verdict::Typed) => Ok(true),
+        Ok(Verdict::Untyped) => Ok(false),
+        Ok(Verdict::Unread) => Err(ModuleFault::NotModule),
+        Err(OutOfMemory) => Err(ModuleFault::OutOfMemory),
     }
 }
 
 /// Whether the body at a place has a typing.
-#[tactic(auto, using(crate::proofs::OneByOne::told_at, crate::proofs::OneByOne::not_told, crate::proofs::OneByOne::seen_at))]
+#[tactic(auto, using(crate::proofs::OneByOne::part_told, crate::proofs::OneByOne::seen_at))]
 fn judged_at(
     alloc: Global,
     context: &Context,
@@ -61,11 +62,7 @@ fn judged_at(
     let Some(part) = parts.get(at) else {
         return Err(ModuleFault::OutOfMemory);
     };
-    let body = body_of(alloc, part)?;
-    match has_typing(alloc, context, functions, at, &body) {
-        Ok(so) => Ok(so),
-        Err(OutOfMemory) => Err(ModuleFault::OutOfMemory),
-    }
+    is_typed(alloc, context, functions, at, part)
 }
 
 /// The earlier of two places, where the first one that is there is.

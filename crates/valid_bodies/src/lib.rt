@@ -25,8 +25,14 @@ mod shapes;
 mod sharing;
 mod types;
 
+pub use accesses::access_effect;
 pub use bodies::{begin, first_untyped};
-pub use frames::reads;
-pub use shapes::shape_by;
+pub use effects::{Effect, applies};
+pub use frames::{reads, uses};
+pub use meanings::type_at;
+pub use numeric::numeric_effect;
+pub use operands::{gives, takes_one};
+pub use reading::{reads_at, reads_effect};
+pub use shapes::{effect_at, shape_by};
 pub use sharing::first_untyped_by;
 pub use types::{Context, Meaning};

@@ -1,0 +1,127 @@
+-- What instructions are that are quick to type.
+use Rattle.std.proofs.Common.{◌≡◌, ℕ, ℤ, ◌<◌, ◌≤◌, List, [], ◌∷◌, length, Some, None, Ok, refl, sym, ap, ◌∙◌, arith}
+use Rattle.wasm_types.specs.declared.function.FuncType.{FuncType}
+use Rattle.wasm_types.specs.declared.value.ValType.TheVariants.{I32, I64}
+use Rattle.wasm_instr.specs.wasm_grammar.Reading.{byte_at, u32_at, s32_at, s64_at}
+use Rattle.wasm_instr.specs.declared.class.Class.{Class}
+use Rattle.wasm_instr.specs.declared.class.Class.TheVariants as classes
+use Rattle.wasm_instr.specs.declared.instr.Instr.TheVariants.{Plain, Local, GlobalAt, Access, I32Const, I64Const}
+use Rattle.wasm_instr.specs.declared.outline.Outline.TheVariants.{Other}
+use Rattle.wasm_instr.specs.declared.body.LocalRun.{LocalRun}
+use Rattle.wasm_instr.specs.Classes.{class_of}
+use Rattle.wasm_instr.specs.Reading.{instr_at, immediates_at}
+use Rattle.wasm_instr.specs.Bodies.{Nest, code_at}
+use Rattle.wasm_instr.specs.Skimming.{outline_of, outline_step}
+use Rattle.wasm_instr.specs.SkimLaws.{steps_agree}
+use Rattle.wasm_instr.proofs.Loop.{shorter}
+use Rattle.valid_rules.specs.declared.types.Frame.{Frame}
+use Rattle.valid_rules.specs.declared.types.Shape.{Shape}
+use Rattle.valid_rules.specs.Reading.{step}
+use Rattle.valid_bodies.specs.declared.types.Context.{Context}
+use Rattle.valid_bodies.specs.Accesses.{access}
+use Rattle.valid_bodies.specs.Numeric.{to}
+use Rattle.valid_bodies.specs.Shapes.{plain, shape}
+use Rattle.body_check.specs.declared.verdict.Verdict.{Verdict}
+use Rattle.body_check.specs.Judging.{is_read, unfit, judged}
+use Rattle.body_check.specs.Passing.{Does, Passes, IsUnfit}
+use Rattle.body_check.proofs.Going.{next_reads}
+use Rattle.body_check.proofs.Judges.{goes_on, is_untyped}
+
+-- an opcode of this class
+opcode : (end : ℕ) (bytes : List ℕ) (op : ℕ) (behind : List ℕ) (k : Class) → byte_at end bytes ≡ Ok (op, behind) → class_of op ≡ k → instr_at end bytes ≡ immediates_at k op end behind
+unfolding instr_at
+opcode end bytes op behind k e class = rw (e, class) refl
+
+module _ (c : Context) (t : FuncType) (ls : List LocalRun) (end : ℕ) where
+  module _ (bytes : List ℕ) (op : ℕ) (behind : List ℕ) (e : byte_at end bytes ≡ Ok (op, behind)) where
+    pub does_numeric : (s : Shape) → class_of op ≡ classes.Plain → outline_of (Plain op) ≡ Other → plain t.results op ≡ s → Does c t ls end bytes s behind
+    does_numeric s class outline same = record {
+      is = Plain op;
+      mid = behind;
+      reads = opcode end bytes op behind classes.Plain e class;
+      shaped = same;
+      stays = λ nest. ap (outline_step nest) outline;
+    }
+
+    pub does_local : (x : ℕ) (rest : List ℕ) (s : Shape) → class_of op ≡ classes.Local → u32_at end behind ≡ Ok (x, rest) → s ≡ shape c t ls (Local op x) → Does c t ls end bytes s rest
+    does_local x rest s class number same = record {
+      is = Local op x;
+      mid = behind;
+      reads = opcode end bytes op behind classes.Local e class ∙ (rw number refl);
+      shaped = sym same;
+      stays = λ nest. refl;
+    }
+
+    pub does_global : (x : ℕ) (rest : List ℕ) (s : Shape) → class_of op ≡ classes.GlobalAt → u32_at end behind ≡ Ok (x, rest) → s ≡ shape c t ls (GlobalAt op x) → Does c t ls end bytes s rest
+    does_global x rest s class number same = record {
+      is = GlobalAt op x;
+      mid = behind;
+      reads = opcode end bytes op behind classes.GlobalAt e class ∙ (rw number refl);
+      shaped = sym same;
+      stays = λ nest. refl;
+    }
+
+    pub does_access : (align offset : ℕ) (mid rest : List ℕ) (s : Shape) → class_of op ≡ classes.Access → u32_at end behind ≡ Ok (align, mid) → u32_at end mid ≡ Ok (offset, rest) → s ≡ access c.memory op align → Does c t ls end bytes s rest
+    does_access align offset mid rest s class first second same = record {
+      is = Access op align offset;
+      mid = mid;
+      reads = opcode end bytes op behind classes.Access e class ∙ (rw (first, second) refl);
+      shaped = sym same;
+      stays = λ nest. refl;
+    }
+
+    pub does_constant : (n : ℤ) (rest : List ℕ) → class_of op ≡ classes.I32Const → s32_at end behind ≡ Ok (n, rest) → Does c t ls end bytes (to [] (I32 ∷ [])) rest
+    does_constant n rest class number = record {
+      is = I32Const n;
+      mid = behind;
+      reads = opcode end bytes op behind classes.I32Const e class ∙ (rw number refl);
+      shaped = refl;
+      stays = λ nest. refl;
+    }
+
+    pub does_long_constant : (n : ℤ) (rest : List ℕ) → class_of op ≡ classes.I64Const → s64_at end behind ≡ Ok (n, rest) → Does c t ls end bytes (to [] (I64 ∷ [])) rest
+    does_long_constant n rest class number = record {
+      is = I64Const n;
+      mid = behind;
+      reads = opcode end bytes op behind classes.I64Const e class ∙ (rw number refl);
+      shaped = refl;
+      stays = λ nest. refl;
+    }
+
+  pub does_shorter : (bytes : List ℕ) (s : Shape) (rest : List ℕ) → Does c t ls end bytes s rest → length rest < length bytes
+  does_shorter bytes s rest does = shorter end bytes does.is does.mid rest does.reads
+
+  -- ---- the pass
+
+  pub passes_none : (around : List Frame) (frame : Frame) (bytes : List ℕ) → Passes c t ls end around frame bytes frame bytes
+  passes_none around frame bytes = record { less = omega arith; read = λ nest some. refl; same = λ nest some. refl }
+
+  module _ (around : List Frame) (old : Frame) (bytes : List ℕ) (frame : Frame) (rest : List ℕ) (s : Shape) (after : List ℕ) (so_far : Passes c t ls end around old bytes frame rest) (does : Does c t ls end rest s after) where
+    abbrev turned : (nest : Nest) → outline_step nest (outline_of does.is) ≡ Some nest
+    turned nest = does.stays nest
+
+    pub passes_on : (new : Frame) → step around frame s ≡ Some (new ∷ around) → Passes c t ls end around old bytes new after
+    passes_on new went = record {
+      less = omega (arith, so_far.less, shorter end rest does.is does.mid after does.reads);
+      read = λ nest some. so_far.read nest some ∙ next_reads end nest rest does.is does.mid after some does.reads nest (turned nest);
+      same = λ nest some.
+          so_far.same nest some
+          ∙ sym (goes_on c t ls end nest rest does.is does.mid after frame around (frame ∷ around) (judged c t ls (frame ∷ around) (code_at (length rest) end nest rest)) some does.reads refl refl (new ∷ around) nest (ap (step around frame) does.shaped ∙ went) (turned nest));
+    }
+
+    pub unfit_here : step around frame s ≡ None → IsUnfit c t ls end around old bytes
+    unfit_here went = λ nest some.
+        so_far.same nest some
+        ∙ sym (is_untyped c t ls end nest rest does.is does.mid after frame around (frame ∷ around) (judged c t ls (frame ∷ around) (code_at (length rest) end nest rest)) some does.reads refl refl (ap (step around frame) does.shaped ∙ went))
+        ∙ sym (ap unfit (so_far.read nest some))
+
+  -- what is left to tell behind the pass
+  pub from_there : (around : List Frame) (frame : Frame) (bytes : List ℕ) (new : Frame) (there : List ℕ) (frames : List Frame) (nest : Nest) (total : Verdict) → Passes c t ls end around frame bytes new there → frames ≡ frame ∷ around → 0 < length nest
+      → judged c t ls frames (code_at (length bytes) end nest bytes) ≡ total → judged c t ls (new ∷ around) (code_at (length there) end nest there) ≡ total
+  from_there around frame bytes new there frames nest total p top some so_far =
+      sym (p.same nest some) ∙ ap (λ fs. judged c t ls fs (code_at (length bytes) end nest bytes)) (sym top) ∙ so_far
+
+  pub told_unfit : (around : List Frame) (frame : Frame) (bytes : List ℕ) (frames : List Frame) (nest : Nest) (total : Verdict) → IsUnfit c t ls end around frame bytes → frames ≡ frame ∷ around → 0 < length nest
+      → judged c t ls frames (code_at (length bytes) end nest bytes) ≡ total → unfit (is_read (code_at (length bytes) end nest bytes)) ≡ total
+  told_unfit around frame bytes frames nest total never top some so_far =
+      sym (never nest some) ∙ ap (λ fs. judged c t ls fs (code_at (length bytes) end nest bytes)) (sym top) ∙ so_far

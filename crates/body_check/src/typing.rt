@@ -1,0 +1,123 @@
+//! One pass over a body: each instruction is read, typed in the innermost block, and forgotten.
+ghost use Rattle.std.specs.Prelude.{◌≡◌, [], ◌∷◌, false, length, Some, None, IfOk, MatchOption};
+ghost use Rattle.wasm_instr.specs.Bodies.{code_at, body_at};
+ghost use Rattle.wasm_instr.specs.Skimming.{outline_of};
+ghost use Rattle.valid_rules.specs.Reading.{whole, step};
+ghost use Rattle.valid_bodies.specs.Shapes.{shape};
+ghost use Rattle.body_check.specs.Judging.{judged, verdict};
+
+use crate::locals::locals_at;
+use crate::quick::types_quickly;
+use crate::skimming::{turns, unfit};
+use crate::verdict::Verdict;
+use std::alloc::Global;
+use valid_bodies::{Context, begin, reads_at};
+use valid_rules::Frame;
+use wasm_grammar::ReadFault;
+use wasm_instr::{Instr, LocalRun, Outline, instr_at};
+use wasm_types::FuncType;
+use wl_base::{OutOfMemory, Seq};
+use wl_stack::Stack;
+
+/// What the bytes behind the instruction that closed the last block are, where these blocks are open by the grammar.
+fn closed(
+    _context: &Context,
+    _kind: &FuncType,
+    _locals: &[LocalRun],
+    opens: Seq<bool>,
+    end: usize,
+    bytes: &[u8],
+) -> Result<Verdict, OutOfMemory>
+    ensures { IfOk result (λ found. found ≡ judged _context.now _kind.now _locals.now [] (code_at (length bytes.now) end opens bytes.now)) }
+{
+    if opens.len() > 0 {
+        return unfit(opens, end, bytes);
+    }
+    match bytes {
+        [] => Ok(Verdict::Typed),
+        _ => Ok(Verdict::Unread),
+    }
+}
+
+/// Types an instruction in the innermost frame, which is taken off `frames` before: its outline, where it has a typing.
+fn types(
+    alloc: Global,
+    context: &Context,
+    kind: &FuncType,
+    locals: &[LocalRun],
+    frames: &mut Stack<Frame>,
+    frame: Frame,
+    instr: Instr,
+) -> Result<Option<Outline>, OutOfMemory>
+    ensures { IfOk result (λ found. MatchOption found (step frames.old frame (shape context.now kind.now locals.now instr) ≡ None)
+        (λ outline. (step frames.old frame (shape context.now kind.now locals.now instr) ≡ Some frames.new) × (outline ≡ outline_of instr))) }
+{
+    let outline = instr.outline();
+    if reads_at(alloc, context, kind, locals, frames, frame, &instr)? {
+        Ok(Some(outline))
+    } else {
+        Ok(None)
+    }
+}
+
+/// What the code is, from the first instruction of a body of this type with these locals on.
+fn judge_code(
+    alloc: Global,
+    context: &Context,
+    kind: &FuncType,
+    locals: &[LocalRun],
+    end: usize,
+    bytes: &[u8],
+) -> Result<Verdict, OutOfMemory>
+    ensures { IfOk result (λ found. found ≡ judged context.now kind.now locals.now (whole kind.now.results ∷ []) (code_at (length bytes.now) end (false ∷ []) bytes.now)) }
+{
+    let mut opens = Seq::new(alloc);
+    opens.push(false)?;
+    let mut around = begin(alloc, kind.results.as_slice())?;
+    let mut rest = bytes;
+    while let Some(inner) = around.pop() {
+        let mut frame = inner;
+        if opens.len() == 0 {
+            return unfit(opens, end, rest);
+        }
+        let Some(there) =
+            types_quickly(context, kind, locals, &around, &mut frame, end, rest)?
+        else {
+            return unfit(opens, end, rest);
+        };
+        match instr_at(alloc, end, there) {
+            Err(ReadFault::OutOfMemory) => return Err(OutOfMemory),
+            Err(ReadFault::Stopped(_)) => return Ok(Verdict::Unread),
+            Ok((instr, _, after)) => {
+                let Some(outline) =
+                    types(alloc, context, kind, locals, &mut around, frame, instr)?
+                else {
+                    return unfit(opens, end, there);
+                };
+                if !turns(&mut opens, outline)? {
+                    return Ok(Verdict::Unread);
+                }
+                rest = after;
+            }
+        }
+    }
+    closed(context, kind, locals, opens, end, rest)
+}
+
+/// What the bytes are, as the body of a function of this type in its context: read whole, and typed as it is read.
+///
+/// Each byte is gone over once, or twice where there is no typing; memory is taken for the runs of locals, the open
+/// blocks and their operands.
+///
+/// # Errors
+/// Want of memory.
+#[tactic(auto, unfolding(wasm_instr::specs::Bodies::body_at))]
+pub fn judge(alloc: Global, context: &Context, kind: &FuncType, bytes: &[u8]) -> Result<Verdict, OutOfMemory>
+    ensures { IfOk result (λ found. found ≡ verdict context.now kind.now (body_at bytes.now)) }
+{
+    match locals_at(alloc, bytes.len(), bytes) {
+        Err(ReadFault::OutOfMemory) => Err(OutOfMemory),
+        Err(ReadFault::Stopped(_)) => Ok(Verdict::Unread),
+        Ok((locals, rest)) => judge_code(alloc, context, kind, locals.as_slice(), bytes.len(), rest),
+    }
+}
