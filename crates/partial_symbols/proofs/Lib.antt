@@ -6,3 +6,5 @@ mod Placed
 mod Sighted
 mod Named
 mod Stands
+mod Numbered
+mod Whole

@@ -7,12 +7,15 @@ ghost use Rattle.partial_symbols.specs.Columns.{changed_at};
 ghost use Rattle.partial_symbols.specs.Facts.{fact_of, facts_of};
 ghost use Rattle.partial_symbols.specs.Standing.{is_at, column_at, is_referenced, stands_for, stands, none_stood, with_number, without_number, stood, all_stood};
 ghost use Rattle.partial_symbols.specs.Sights.{sight_of};
+ghost use Rattle.partial_symbols.specs.Known.{IsSight, AreStanding};
+ghost use Rattle.link_program.specs.link_rules.Program.{Program as Rules};
+ghost use Rattle.link_program.specs.Program.{IsProgram};
 
 use crate::columns::{Column, columns_of};
 use crate::facts::{At, Fact, Spot, fact_at};
 use crate::windows::named_by;
 use crate::winners::winners_of;
-use link_program::{Entries, Program};
+use link_program::{Entries, Program, Tables};
 use linking_section::SymbolKind;
 use std::alloc::Global;
 use std::marker::Model;
@@ -223,26 +226,28 @@ fn add_object(
     Ok(())
 }
 
-/// What is known of the names of a program.
-pub fn sight_of(
+/// What is known of names, by these tables.
+fn sight_in(
     alloc: Global,
-    program: Program<'_>,
+    tables: &Tables,
     entries: Entries<'_>,
 ) -> Result<Sight, OutOfMemory>
     requires { FitsObjects entries }
-    ensures { IfOk result (λ v. v ≡ sight_of program.entry.tables.now entries.entry.names.now.names entries.entry.objects.now) }
+    ensures { IfOk result (λ v. v ≡ sight_of tables.now entries.entry.names.now.names entries.entry.objects.now) }
 {
     let names = entries.names.count() as usize;
-    let tables = program.tables;
+    let winners = winners_of(alloc, tables.winners.as_slice(), names)?;
+    let columns = columns_of(alloc, entries)?;
+    let named = named_by(alloc, tables.symbols.as_slice(), &tables.named, names)?;
     Ok(Sight {
-        winners: winners_of(alloc, tables.winners.as_slice(), names)?,
-        columns: columns_of(alloc, entries)?,
-        named: named_by(alloc, tables.symbols.as_slice(), &tables.named, names)?,
+        winners,
+        columns,
+        named,
     })
 }
 
 /// The symbols that stand in the object, by what is known of names.
-pub fn standing_of(
+fn standing_in(
     alloc: Global,
     sight: &Sight,
     entries: Entries<'_>,
@@ -254,5 +259,37 @@ pub fn standing_of(
     for object in 0..entries.count() {
         add_object(&mut standing, sight, entries, object)?;
     }
+    Ok(standing)
+}
+
+/// What is known of the names of a program, by their numbers. `entries` is the view of its objects.
+pub fn sight_of(
+    alloc: Global,
+    program: Program<'_>,
+    entries: Entries<'_>,
+) -> Result<Sight, OutOfMemory>
+    requires fits { FitsObjects entries }
+    requires objects { entries.objects.now ≡ program.objects.now }
+    requires names { entries.names.now ≡ program.names.now }
+    ensures { IfOk result (λ v. (p : Rules) → IsProgram program.entry p → IsSight p program.entry.names.now.names v) }
+{
+    let sight = sight_in(alloc, program.tables, entries)?;
+    Ok(sight)
+}
+
+/// The symbols that stand in the object that a partial link makes of a program, and their numbers there. `entries` is the view of its
+/// objects.
+pub fn standing_of(
+    alloc: Global,
+    program: Program<'_>,
+    entries: Entries<'_>,
+    sight: &Sight,
+) -> Result<Standing, OutOfMemory>
+    requires fits { FitsObjects entries }
+    requires objects { entries.objects.now ≡ program.objects.now }
+    requires names { entries.names.now ≡ program.names.now }
+    ensures { IfOk result (λ s. (p : Rules) → IsProgram program.entry p → IsSight p program.entry.names.now.names sight.now → AreStanding p program.entry.names.now.names s) }
+{
+    let standing = standing_in(alloc, sight, entries)?;
     Ok(standing)
 }
