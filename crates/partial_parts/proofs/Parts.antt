@@ -15,7 +15,7 @@ use Rattle.link_program.specs.Program.{IsProgram, ChunksDiffer}
 use Rattle.link_program.specs.Seen.{SeenPart, seen_part, told_part}
 use Rattle.link_program.proofs.Chunks.{chunk_is, chunk_itself}
 use Rattle.partial_rules.specs.Partial as partial
-use Rattle.partial_parts.specs.Kept.{Kept, none_kept, passed, a_function, a_segment, a_global, by_kind, kept_chunk, kept_parts, place_at, AreKept}
+use Rattle.partial_parts.specs.Kept.{Kept, none_kept, passed, a_function, a_segment, a_global, by_kind, kept_chunk, kept_parts, place_at, place_in, AreKept}
 
 -- ---- first places
 
@@ -27,6 +27,10 @@ position_next p x xs e = rw e (shift (position_or_len p xs) (length xs))
 
 position_first : {A : Type 0} (p : A → Bool) (x : A) (xs : List A) → p x ≡ true → position p (x ∷ xs) ≡ Some 0
 position_first p x xs e = rw e (grind (arith, nat_tests))
+
+one_later : (l : ℕ) (o : Option ℕ) → option_map (λ i. l + 1 + i) o ≡ option_map (λ i. l + i) (option_map suc o)
+one_later l None = refl
+one_later l (Some i) = ap (λ (j : ℕ). Some j) (let e : l + 1 + i ≡ l + suc i = omega arith in e)
 
 -- ---- one part more
 
@@ -84,9 +88,6 @@ module _ (kind : ℕ) (list : Kept → List ℕ) (steps : Steps kind list) where
           ∙ ap (λ m. list k ++ numbers kind m cs) (one_place k c))
 
   -- ---- which parts they are
-
-  chunk_part : (part : Part) → keeps kind part.chunk ≡ (is_object_part part && (part.chunk.kind == kind))
-  chunk_part part = refl
 
   numbered_parts : (before xs : List Part) → map (slice_get (before ++ xs)) (numbers kind (length before) (map (λ (part : Part). part.chunk) xs))
       ≡ map Some (filter (λ (part : Part). is_object_part part && (part.chunk.kind == kind)) xs)
@@ -184,10 +185,6 @@ module _ (kind : ℕ) (list : Kept → List ℕ) (steps : Steps kind list) where
                   ∙ (ap (λ l. option_map (λ i. l + i) (position (same_chunk c) rest)) (longer (list k) (length k.places))
                   ∙ (one_later (length (list k)) (position (same_chunk c) rest) ∙ ap (option_map (λ i. length (list k) + i)) (sym (position_next (same_chunk c) x rest is))))
               shifted false x_is = ap (λ (ns : List ℕ). option_map (λ i. length ns + i) (position (same_chunk c) rest)) (steps.other k x x_is)
-
-              one_later : (l : ℕ) (o : Option ℕ) → option_map (λ i. l + 1 + i) o ≡ option_map (λ i. l + i) (option_map suc o)
-              one_later l None = refl
-              one_later l (Some i) = ap (λ (j : ℕ). Some j) (let e : l + 1 + i ≡ l + suc i = omega arith in e)
 
           by_rest : (o : Option ℕ) → position (same_chunk c) cs ≡ o
               → Some (get_or (fold kept_chunk (kept_chunk k x) cs).places (length k.places + n) 0) ≡ option_map (λ i. length (list k) + i) (position (same_chunk c) (cond (keeps kind x) (x ∷ rest) rest))
@@ -407,3 +404,11 @@ no_place p kind c linkers = ap (λ o. unwrap_or o 0) (nowhere p.parts)
             → position (same_chunk c) (map (λ (part : Part). part.chunk) (cond b (x ∷ filter (λ (part : Part). is_object_part part && (part.chunk.kind == kind)) xs) (filter (λ (part : Part). is_object_part part && (part.chunk.kind == kind)) xs))) ≡ None
         by true is again = position_next (same_chunk c) x.chunk rest (other x (both (is_object_part x) (x.chunk.kind == kind) is).0) ∙ ap (option_map suc) again
         by false is again = again
+
+-- The place of a chunk is that of the definition.
+pub place_is_told : (p : Program) (k : Kept) (chunks : List Chunk) (c : Chunk) → c.kind < 3 → chunks ≡ map (λ (part : Part). part.chunk) p.parts → AreKept p k → place_in k chunks c ≡ partial.place_of p c.kind c
+place_is_told p k chunks c below same are = by (c.input == 0) refl
+  where
+    by : (b : Bool) → (c.input == 0) ≡ b → (if b then 0 else place_at k (position (same_chunk c) chunks)) ≡ partial.place_of p c.kind c
+    by true linkers = sym (no_place p c.kind c linkers)
+    by false object = ap (λ cs. place_at k (position (same_chunk c) cs)) same ∙ are.places c object below

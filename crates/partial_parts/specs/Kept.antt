@@ -44,6 +44,10 @@ abbrev pub place_at : Kept → Option ℕ → ℕ
 place_at k None = 0
 place_at k (Some n) = slice_index_or k.places n 0
 
+-- The place of a chunk by the chunks of all parts.
+abbrev pub place_in : Kept → List Chunk → Chunk → ℕ
+place_in k chunks c = if c.input == 0 then 0 else place_at k (position (same_chunk c) chunks)
+
 pub record AreKept (p : Program) (k : Kept) : Type 0 where
   pub functions : map (slice_get p.parts) k.functions ≡ map Some (kept p 0)
   pub segments : map (slice_get p.parts) k.segments ≡ map Some (kept p 1)

@@ -3,7 +3,7 @@ ghost use Rattle.std.specs.Prelude.{◌≡◌, ◌<◌, ◌∷◌, ◌++◌, [],
 ghost use Rattle.link_program.specs.link_rules.Program.{Program as Rules};
 ghost use Rattle.link_program.specs.Program.{IsProgram};
 ghost use Rattle.partial_rules.specs.Partial as partial;
-ghost use Rattle.partial_parts.specs.Kept.{none_kept, passed, a_function, a_segment, a_global, by_kind, kept_chunk, kept_parts, AreKept};
+ghost use Rattle.partial_parts.specs.Kept.{none_kept, passed, a_function, a_segment, a_global, by_kind, kept_chunk, kept_parts, place_in, AreKept};
 
 use link_program::{Part, Program, chunk_number};
 use mark_bits::{Chunk, ChunkTable, kinds};
@@ -166,10 +166,9 @@ pub fn kept_of(alloc: Global, program: Program<'_>) -> Result<Kept, OutOfMemory>
     Ok(kept)
 }
 
-/// The place of a function, a segment or a global of an object among those of its kind, or 0.
-pub fn place_of(chunks: &ChunkTable, kept: &Kept, chunk: Chunk) -> u32
-    requires { chunk.kind < 3 }
-    ensures { (p : Rules) → chunks.now ≡ map (λ part. part.chunk) p.parts → AreKept p kept.now → result ≡ partial.place_of p chunk.kind chunk }
+/// The place of a part of an object among those of its kind, by the chunks of all parts.
+fn place_in(chunks: &ChunkTable, kept: &Kept, chunk: Chunk) -> u32
+    ensures { result ≡ place_in kept.now chunks.now chunk }
 {
     if chunk.input == 0 {
         return 0;
@@ -178,4 +177,13 @@ pub fn place_of(chunks: &ChunkTable, kept: &Kept, chunk: Chunk) -> u32
         Some(part) => kept.place(part),
         None => 0,
     }
+}
+
+/// The place of a function, a segment or a global of an object among those of its kind, or 0. `chunks` has the chunks of all parts.
+pub fn place_of(chunks: &ChunkTable, kept: &Kept, chunk: Chunk) -> u32
+    requires { chunk.kind < 3 }
+    ensures { (p : Rules) → chunks.now ≡ map (λ part. part.chunk) p.parts → AreKept p kept.now → result ≡ partial.place_of p chunk.kind chunk }
+{
+    let place = place_in(chunks, kept, chunk);
+    place
 }

@@ -8,3 +8,4 @@ mod Named
 mod Stands
 mod Numbered
 mod Whole
+mod Referring

@@ -1,7 +1,9 @@
 -- The symbols that stand, one after another, and their numbers.
 use Rattle.std.proofs.Common.{◌≡◌, ℕ, zero, suc, ◌+◌, ◌<◌, ◌==◌, Bool, true, false, not, ◌&&◌, cond, nat_lt, List, [], ◌∷◌, ◌++◌, map, filter, flat_map, find, fold, length, slice_get, get_or, replicate, position, Option, Some, None, option_map, refl, sym, ap, subst, ◌∙◌, arith, append_assoc, append-nil}
-use Rattle.std.specs.Prelude.{if◌then◌else◌, bytes_eq, option_or}
+use Rattle.std.specs.Prelude.{if◌then◌else◌, bytes_eq}
+use Rattle.std.specs.Option.{option_or}
 use Rattle.std.specs.List.{position_or_len, AllByRecursion, IsDistinct}
+use Rattle.std.proofs.lemmas.Bool.{eqb-true, eq-eqb}
 use Rattle.std.proofs.lemmas.Bool.Decides.{nat_tests}
 use Rattle.std.proofs.lemmas.List.{length-append}
 use Rattle.std.proofs.lemmas.Option.{slice_get_within, same_Some, none-some}
@@ -42,6 +44,22 @@ one_later m (Some i) = ap (λ (n : ℕ). Some n) (let e : m + 1 + i ≡ m + suc 
 from_none : (o : Option ℕ) → option_map (λ i. 0 + i) o ≡ o
 from_none None = refl
 from_none (Some i) = ap (λ (n : ℕ). Some n) (let e : 0 + i ≡ i = omega arith in e)
+
+position_none : {A : Type 0} (p : A → Bool) (xs : List A) → AllByRecursion (λ x. p x ≡ false) xs → position p xs ≡ None
+position_none p [] none = refl
+position_none p (x ∷ xs) none = position_next p x xs none.0 ∙ ap (option_map suc) (position_none p xs none.1)
+
+eq_turned : (a b : ℕ) → (a == b) ≡ (b == a)
+eq_turned a b = by (a == b) (b == a) refl refl
+  where
+    by : (r s : Bool) → (a == b) ≡ r → (b == a) ≡ s → r ≡ s
+    by true true h k = refl
+    by false false h k = refl
+    by true false h k = absurd (let f : true ≡ false = sym (eq-eqb b a (sym (eqb-true a b h))) ∙ k in cc)
+    by false true h k = absurd (let f : true ≡ false = sym (eq-eqb a b (sym (eqb-true b a k))) ∙ h in cc)
+
+entry_turned : (a b : InputSymbol) → same_entry a b ≡ same_entry b a
+entry_turned a b = let i = eq_turned a.input b.input in let q = eq_turned a.place b.place in λ t. i t && q t
 
 -- ---- what the passes leave
 
@@ -101,7 +119,7 @@ module _ (v : Sight) where
 
 pub Differ : List InputSymbol → Type 0
 Differ [] = Unit {0}
-Differ (e ∷ es) = AllByRecursion (λ x. same_entry x e ≡ false) es × Differ es
+Differ (e ∷ es) = AllByRecursion (λ (x : InputSymbol). same_entry x e ≡ false) es × Differ es
 
 differ_both : (xs ys : List InputSymbol) → Differ xs → Differ ys → AllByRecursion (λ x. AllByRecursion (λ y. same_entry y x ≡ false) ys) xs → Differ (xs ++ ys)
 differ_both [] ys a b c = b
@@ -118,7 +136,7 @@ other_input : (a b : InputSymbol) → b.input < a.input → same_entry a b ≡ f
 other_input a b less = ap (λ r. r && (a.place == b.place)) (let e : (a.input == b.input) ≡ false = grind (arith, nat_tests) in e)
 
 module _ (objects : List Object) where
-  later_places : (o : Object) (e : InputSymbol) (p : ℕ) (ss : List Symbol) → e.place < p → AllByRecursion (λ x. same_entry x e ≡ false) (entries_from objects o p ss)
+  later_places : (o : Object) (e : InputSymbol) (p : ℕ) (ss : List Symbol) → e.place < p → AllByRecursion (λ (x : InputSymbol). same_entry x e ≡ false) (entries_from objects o p ss)
   later_places o e p [] less = tt
   later_places o e p (s ∷ ss) less = (other_place (entry_in objects o p s) e less, later_places o e (p + 1) ss (omega (arith, less)))
 
@@ -154,6 +172,42 @@ module _ (objects : List Object) where
 
 -- ---- by the definition
 
+module _ (p : Program) where
+  abbrev stands_in : InputSymbol → Bool
+  stands_in = partial.stands p
+
+  none_kept : (e : InputSymbol) (es : List InputSymbol) → AllByRecursion (λ (x : InputSymbol). same_entry x e ≡ false) es → position (same_entry e) (filter stands_in es) ≡ None
+  none_kept e es differ = position_none (same_entry e) (filter stands_in es) (kept es differ)
+    where
+      kept : (es : List InputSymbol) → AllByRecursion (λ (x : InputSymbol). same_entry x e ≡ false) es → AllByRecursion (λ x. same_entry e x ≡ false) (filter stands_in es)
+      kept [] all = tt
+      kept (x ∷ es) all = by (stands_in x)
+        where
+          by : (b : Bool) → AllByRecursion (λ y. same_entry e y ≡ false) (cond b (x ∷ filter stands_in es) (filter stands_in es))
+          by true = (entry_turned e x ∙ all.0, kept es all.1)
+          by false = kept es all.1
+
+  -- one that doesn't stand has none
+  pub absent : (es : List InputSymbol) → Differ es → (k : ℕ) (e : InputSymbol) → slice_get es k ≡ Some e → stands_in e ≡ false → position (same_entry e) (filter stands_in es) ≡ None
+  absent [] differ k e at goes = absurd (none-some e at)
+  absent (x ∷ es) differ zero e at goes =
+      let is : x ≡ e = same_Some x e at in
+      ap (λ b. position (same_entry e) (cond b (x ∷ filter stands_in es) (filter stands_in es))) (ap stands_in is ∙ goes)
+      ∙ none_kept e es (subst (λ y. AllByRecursion (λ z. same_entry z y ≡ false) es) is differ.0)
+  absent (x ∷ es) differ (suc k) e at goes = by (stands_in x)
+    where
+      pick : (ys : List InputSymbol) (i : ℕ) → AllByRecursion (λ y. same_entry y x ≡ false) ys → slice_get ys i ≡ Some e → same_entry e x ≡ false
+      pick [] i all there = absurd cc
+      pick (y ∷ ys) zero all there = ap (λ z. same_entry z x) (sym (same_Some y e there)) ∙ all.0
+      pick (y ∷ ys) (suc i) all there = pick ys i all.1 there
+
+      rest : position (same_entry e) (filter stands_in es) ≡ None
+      rest = absent es differ.1 k e at goes
+
+      by : (b : Bool) → position (same_entry e) (cond b (x ∷ filter stands_in es) (filter stands_in es)) ≡ None
+      by true = position_next (same_entry e) x (filter stands_in es) (pick es k differ.0 at) ∙ ap (option_map suc) rest
+      by false = rest
+
 module _ (p : Program) (names : List (List ℕ)) (v : Sight) where
   abbrev pub StandAlike : Placed → Type 0
   StandAlike s = stands v (fact_at names s) ≡ partial.stands p s.entry
@@ -185,9 +239,9 @@ module _ (p : Program) (names : List (List ℕ)) (v : Sight) where
 
   -- the number of a symbol
   number_at : (m : ℕ) (ss : List Placed) → AllByRecursion StandAlike ss → Differ (map entry_of ss) → (k : ℕ) (e : InputSymbol) → slice_get (map entry_of ss) k ≡ Some e
-      → get_or (numbers v m (map (fact_at names) ss)) k None ≡ (if stands_here e then option_map (λ i. m + i) (position (same_entry e) (filter stands_here (map entry_of ss))) else None)
+      → get_or (numbers v m (map (fact_at names) ss)) k None ≡ option_map (λ i. m + i) (position (same_entry e) (filter stands_here (map entry_of ss)))
   number_at m [] alike differ k e at = absurd cc
-  number_at m (s ∷ ss) alike differ zero e at = by (stands v (fact_at names s)) (stands_here s.entry) alike.0 refl
+  number_at m (s ∷ ss) alike differ zero e at = by (stands v (fact_at names s)) (stands_here s.entry) alike.0
     where
       is : s.entry ≡ e
       is = same_Some s.entry e at
@@ -199,19 +253,15 @@ module _ (p : Program) (names : List (List ℕ)) (v : Sight) where
       facts = map (fact_at names) ss
 
       itself : (x : InputSymbol) → same_entry x x ≡ true
-      itself x = grind (arith, nat_tests)
+      itself x = let i = eq-eqb x.input x.input refl in let q = eq-eqb x.place x.place refl in λ t. i t && q t
 
-      by : (a b : Bool) → a ≡ b → stands_here s.entry ≡ b
-          → get_or (if a then Some m ∷ numbers v (m + 1) facts else None ∷ numbers v m facts) 0 None ≡ (if stands_here e then option_map (λ i. m + i) (position (same_entry e) (cond b (s.entry ∷ kept) kept)) else None)
-      by true true same stays =
-          let here : stands_here e ≡ true = ap stands_here (sym is) ∙ stays in
-          let first : position (same_entry e) (s.entry ∷ kept) ≡ Some 0 = position_first (same_entry e) s.entry kept (ap (same_entry e) is ∙ itself e) in
-          none_first m ∙ (ap (option_map (λ i. m + i)) (sym first) ∙ sym (ap (λ b. if b then option_map (λ i. m + i) (position (same_entry e) (s.entry ∷ kept)) else None) here))
-      by false false same goes =
-          let here : stands_here e ≡ false = ap stands_here (sym is) ∙ goes in
-          sym (ap (λ b. if b then option_map (λ i. m + i) (position (same_entry e) kept) else None) here)
-      by true false same stays = absurd cc
-      by false true same stays = absurd cc
+      by : (a b : Bool) → a ≡ b
+          → get_or (if a then Some m ∷ numbers v (m + 1) facts else None ∷ numbers v m facts) 0 None ≡ option_map (λ i. m + i) (position (same_entry e) (cond b (s.entry ∷ kept) kept))
+      by true true same = none_first m ∙ ap (option_map (λ i. m + i)) (sym (position_first (same_entry e) s.entry kept (ap (same_entry e) is ∙ itself e)))
+      by false false same =
+          ap (option_map (λ i. m + i)) (sym (none_kept p e (map entry_of ss) (subst (λ x. AllByRecursion (λ y. same_entry y x ≡ false) (map entry_of ss)) is differ.0)))
+      by true false same = absurd cc
+      by false true same = absurd cc
   number_at m (s ∷ ss) alike differ (suc k) e at = by (stands v (fact_at names s)) (stands_here s.entry) alike.0
     where
       kept : List InputSymbol
@@ -228,23 +278,32 @@ module _ (p : Program) (names : List (List ℕ)) (v : Sight) where
       other : same_entry e s.entry ≡ false
       other = pick (map entry_of ss) k differ.0 at
 
-      later : (b : Bool) → (if b then option_map (λ i. m + 1 + i) (position (same_entry e) kept) else None) ≡ (if b then option_map (λ i. m + i) (position (same_entry e) (s.entry ∷ kept)) else None)
-      later true = one_later m (position (same_entry e) kept) ∙ ap (option_map (λ i. m + i)) (sym (position_next (same_entry e) s.entry kept other))
-      later false = refl
-
       by : (a b : Bool) → a ≡ b
-          → get_or (if a then Some m ∷ numbers v (m + 1) facts else None ∷ numbers v m facts) (suc k) None ≡ (if stands_here e then option_map (λ i. m + i) (position (same_entry e) (cond b (s.entry ∷ kept) kept)) else None)
-      by true true same = number_at (m + 1) ss alike.1 differ.1 k e at ∙ later (stands_here e)
+          → get_or (if a then Some m ∷ numbers v (m + 1) facts else None ∷ numbers v m facts) (suc k) None ≡ option_map (λ i. m + i) (position (same_entry e) (cond b (s.entry ∷ kept) kept))
+      by true true same =
+          number_at (m + 1) ss alike.1 differ.1 k e at
+          ∙ (one_later m (position (same_entry e) kept) ∙ ap (option_map (λ i. m + i)) (sym (position_next (same_entry e) s.entry kept other)))
       by false false same = number_at m ss alike.1 differ.1 k e at
       by true false same = absurd cc
       by false true same = absurd cc
 
+  pub count_is : (n : ℕ) (ss : List Placed) → length (all_stood v n (map (fact_at names) ss)).of_symbols ≡ length (map entry_of ss)
+  count_is n ss = ap length (numbers_left v (none_stood n) (map (fact_at names) ss)) ∙ as_many 0 ss
+    where
+      as_many : (m : ℕ) (ss : List Placed) → length (numbers v m (map (fact_at names) ss)) ≡ length (map entry_of ss)
+      as_many m [] = refl
+      as_many m (s ∷ ss) = by (stands v (fact_at names s))
+        where
+          by : (b : Bool) → length (if b then Some m ∷ numbers v (m + 1) (map (fact_at names) ss) else None ∷ numbers v m (map (fact_at names) ss)) ≡ suc (length (map entry_of ss))
+          by true = ap suc (as_many (m + 1) ss)
+          by false = ap suc (as_many m ss)
+
   pub of_symbols_are : (n : ℕ) (ss : List Placed) → AllByRecursion StandAlike ss → Differ (map entry_of ss) → (k : ℕ) (e : InputSymbol) → slice_get (map entry_of ss) k ≡ Some e
-      → get_or (all_stood v n (map (fact_at names) ss)).of_symbols k None ≡ (if stands_here e then position (same_entry e) (filter stands_here (map entry_of ss)) else None)
+      → get_or (all_stood v n (map (fact_at names) ss)).of_symbols k None ≡ position (same_entry e) (filter stands_here (map entry_of ss))
   of_symbols_are n ss alike differ k e at =
       ap (λ ns. get_or ns k None) (numbers_left v (none_stood n) (map (fact_at names) ss))
       ∙ (number_at 0 ss alike differ k e at
-      ∙ ap (λ o. if stands_here e then o else None) (from_none (position (same_entry e) (filter stands_here (map entry_of ss)))))
+      ∙ from_none (position (same_entry e) (filter stands_here (map entry_of ss))))
 
   -- the number of the symbol that stands for a name
   module _ (differ : IsDistinct bytes_eq names) (n : ℕ) (name : List ℕ) (at : slice_get names n ≡ Some name) where
@@ -287,5 +346,5 @@ module _ (p : Program) (names : List (List ℕ)) (v : Sight) where
         → get_or (all_stood v (length names) (map (fact_at names) ss)).of_names n None ≡ position is_of (filter stands_here (map entry_of ss))
     of_names_are ss alike =
         ap (λ ns. get_or ns n None) (names_left v (none_stood (length names)) (map (fact_at names) ss))
-        ∙ (firsts_of None (λ (x : Numbered). x.fact.number) (λ x o. option_or o (Some x.number)) (λ o. o) (λ x. true) (λ (x : Numbered). x.number) (λ x o. refl) (length names) (numbered v 0 (map (fact_at names) ss)) n refl (slice_get_within names n name at)
+        ∙ (firsts_of None (λ (x : Numbered). x.fact.number) (λ (x : Numbered) (o : Option ℕ). option_or o (Some x.number)) (λ (o : Option ℕ). o) (λ (x : Numbered). true) (λ (x : Numbered). x.number) (λ x o. refl) (length names) (numbered v 0 (map (fact_at names) ss)) n refl (slice_get_within names n name at)
         ∙ (first_numbered 0 ss alike ∙ from_none (position is_of (filter stands_here (map entry_of ss)))))

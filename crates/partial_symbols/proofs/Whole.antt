@@ -1,6 +1,5 @@
 -- What the passes find over the tables of a program is what the definition says.
 use Rattle.std.proofs.Common.{◌≡◌, ℕ, ◌==◌, Bool, not, ◌&&◌, ◌||◌, List, [], ◌∷◌, ◌++◌, map, filter, flat_map, find, fold, length, get_or, replicate, slice_get, position, Option, Some, None, option_map, refl, sym, ap, subst, ◌∙◌}
-use Rattle.std.specs.Prelude.{if◌then◌else◌}
 use Rattle.std.specs.List.{list_any, AllByRecursion}
 use Rattle.link_program.specs.linking_section.Flags.{is_weak, is_explicit}
 use Rattle.link_program.specs.object_file.declared.object.Object.{Object}
@@ -23,7 +22,7 @@ use Rattle.partial_symbols.proofs.Placed.{Placed, placed_of, fact_at, entry_of, 
 use Rattle.partial_symbols.proofs.Sighted.{winner_seen, least_seen, referenced_seen, strong_seen, explicit_seen, import_seen, explicit_import_seen}
 use Rattle.partial_symbols.proofs.Named.{flag_seen}
 use Rattle.partial_symbols.proofs.Stands.{stands_seen}
-use Rattle.partial_symbols.proofs.Numbered.{StandAlike, Differ, all_differ, symbols_are, of_symbols_are, of_names_are}
+use Rattle.partial_symbols.proofs.Numbered.{StandAlike, Differ, all_differ, count_is, symbols_are, of_symbols_are, of_names_are}
 
 module _ (d : Data) (p : Program) (is : IsProgram d p) where
   abbrev names : List (List ℕ)
@@ -41,7 +40,7 @@ module _ (d : Data) (p : Program) (is : IsProgram d p) where
         ∙ ap (λ es. option_map entry_spot (find (λ (e : InputSymbol). not (e.input == 0) && is_named name e) es)) (sym is.entries);
     referenced = λ n name at.
         let a = referenced_seen Plain p.objects names is.numbers.differ n name at ∙ ap (λ es. not (length (references (named es name)) == 0)) (sym is.entries) in
-        let b = flag_seen names is.numbers.differ n name at d.tables.now.symbols d.tables.now.types d.resolution.now.imports d.tables.now.named p.parts is.tables.named in
+        let b = flag_seen p names is.numbers.differ n name at d.tables.now.symbols d.tables.now.types d.resolution.now.imports d.tables.now.named p.parts is.tables.named in
         λ i. a i || b i;
     strong = λ n name at. strong_seen Plain p.objects names is.numbers.differ n name at ∙ ap (λ es. list_any (λ (r : InputSymbol). not (is_weak r.symbol)) (references (named es name))) (sym is.entries);
     explicit = λ n name at. explicit_seen Plain p.objects names is.numbers.differ n name at ∙ ap (λ es. list_any (λ (r : InputSymbol). is_explicit r.symbol) (references (named es name))) (sym is.entries);
@@ -60,7 +59,7 @@ module _ (d : Data) (p : Program) (is : IsProgram d p) where
   by_object [] = refl
   by_object (o ∷ os) = ap (λ es. symbols_of p.objects o ++ es) (by_object os)
 
-  symbols_all : all_symbols p ≡ flat_map (symbols_of p.objects) p.objects
+  pub symbols_all : all_symbols p ≡ flat_map (symbols_of p.objects) p.objects
   unfolding resolve
   symbols_all = ap (flat_map (λ (r : Resolved). r.symbols)) is.resolved ∙ by_object p.objects
 
@@ -78,12 +77,13 @@ module _ (d : Data) (p : Program) (is : IsProgram d p) where
 
     by_facts : AreStanding p names (all_stood v (length names) (map (fact_at names) placed))
     by_facts = record {
+      count = count_is p names v (length names) placed ∙ ap length entries_all;
       symbols = symbols_are p names v (length names) placed (all_there p.objects) alike ∙ ap (λ es. map Some (filter (partial.stands p) es)) entries_all;
       of_names = λ n name at. of_names_are p names v is.numbers.differ n name at placed alike
           ∙ ap (λ es. position (λ (x : InputSymbol). is_entry x && is_named name x) (filter (partial.stands p) es)) entries_all;
       of_symbols = λ k e at.
           of_symbols_are p names v (length names) placed alike (subst Differ (sym (entries_are p.objects)) (all_differ p.objects is.rise)) k e (ap (λ es. slice_get es k) entries_all ∙ at)
-          ∙ ap (λ es. if partial.stands p e then position (same_entry e) (filter (partial.stands p) es) else None) entries_all;
+          ∙ ap (λ es. position (same_entry e) (filter (partial.stands p) es)) entries_all;
     }
 
     -- The symbols that stand in the object.

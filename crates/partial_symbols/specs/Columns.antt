@@ -1,5 +1,6 @@
 -- The columns by the numbers of names, as they are filled.
-use Rattle.std.specs.Prelude.{ℕ, ◌==◌, Bool, true, false, not, ◌&&◌, ◌||◌, List, slice_set, slice_index_or, if◌then◌else◌, Option, Some, None, option_or}
+use Rattle.std.specs.Prelude.{ℕ, ◌==◌, Bool, true, false, not, ◌&&◌, ◌||◌, List, slice_set, slice_index_or, if◌then◌else◌, Option, Some, None}
+use Rattle.std.specs.Option.{option_or}
 use Rattle.link_program.specs.wl_base.Choice.{given}
 use Rattle.link_program.specs.declared.symbol.Symbol.{Symbol}
 use Rattle.link_program.specs.declared.symbol.Winner.{Winner}

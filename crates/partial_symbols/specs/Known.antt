@@ -1,5 +1,5 @@
 -- What a sight and the symbols that stand tell of a program.
-use Rattle.std.specs.Prelude.{◌≡◌, ℕ, not, ◌&&◌, List, [], map, filter, position, slice_get, slice_index_or, if◌then◌else◌, Option, Some, None, option_map, option_and_then}
+use Rattle.std.specs.Prelude.{◌≡◌, ℕ, not, ◌&&◌, List, [], map, filter, length, position, slice_get, slice_index_or, Option, Some, None, option_map, option_and_then}
 use Rattle.std.specs.List.{list_any}
 use Rattle.link_program.specs.linking_section.Flags.{is_weak, is_explicit}
 use Rattle.link_program.specs.object_file.declared.object.Object.{Object}
@@ -37,10 +37,11 @@ pub record IsSight (p : Program) (names : List (List ℕ)) (v : Sight) : Type 0 
       → option_map (import_there p.objects) (column_at v n).explicit_import ≡ option_map Some (least_import (filter (λ r. is_explicit r.symbol) (partial.name_references p name)))
 
 -- The symbols of the object, by input and place; by the number of a name the number of the symbol that stands for it; and of each
--- symbol of the loaded objects its number, where it stands there.
+-- symbol of the loaded objects its own number, where it stands there.
 pub record AreStanding (p : Program) (names : List (List ℕ)) (s : Stood) : Type 0 where
+  pub count : length s.of_symbols ≡ length (all_symbols p)
   pub symbols : map (symbol_there p.objects) s.symbols ≡ map Some (partial.standing p)
   pub of_names : (n : ℕ) (name : List ℕ) → slice_get names n ≡ Some name
       → slice_index_or s.of_names n None ≡ position (λ x. is_entry x && is_named name x) (partial.standing p)
   pub of_symbols : (k : ℕ) (e : InputSymbol) → slice_get (all_symbols p) k ≡ Some e
-      → slice_index_or s.of_symbols k None ≡ (if partial.stands p e then position (same_entry e) (partial.standing p) else None)
+      → slice_index_or s.of_symbols k None ≡ position (same_entry e) (partial.standing p)

@@ -1,5 +1,6 @@
 -- The symbols that stand in the object, and their numbers, as they are found.
-use Rattle.std.specs.Prelude.{ℕ, ◌==◌, Bool, true, false, not, ◌&&◌, ◌||◌, List, [], ◌∷◌, ◌++◌, length, replicate, fold, slice_index_or, if◌then◌else◌, Option, Some, None, option_or}
+use Rattle.std.specs.Prelude.{ℕ, ◌==◌, Bool, true, false, not, ◌&&◌, ◌||◌, List, [], ◌∷◌, ◌++◌, length, replicate, fold, slice_index_or, if◌then◌else◌, Option, Some, None}
+use Rattle.std.specs.Option.{option_or}
 use Rattle.link_program.specs.linking_section.declared.symbol.SymbolKind.TheVariants.{Section}
 use Rattle.link_program.specs.linking_section.Flags.{kind_code}
 use Rattle.link_program.specs.declared.program.Program.{Program}

@@ -1,5 +1,6 @@
 //! What is asked of the entries that objects have of each name, by the name's number.
-ghost use Rattle.std.specs.Prelude.{◌≡◌, [], Some, option_or, map, option_map, fold, replicate, length, slice_index_or, IfOk};
+ghost use Rattle.std.specs.Prelude.{◌≡◌, [], Some, map, option_map, fold, replicate, length, slice_index_or, IfOk};
+ghost use Rattle.std.specs.Option.{option_or};
 ghost use Rattle.link_program.specs.wl_base.Choice.{given};
 ghost use Rattle.link_program.specs.name_entries.View.{rows_of, entry_at};
 ghost use Rattle.link_program.specs.name_entries.Fits.{FitsObjects};

@@ -7,6 +7,7 @@
 
 mod columns;
 mod facts;
+pub mod laws;
 mod standing;
 mod windows;
 mod winners;

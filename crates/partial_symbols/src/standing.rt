@@ -1,5 +1,6 @@
 //! Which symbols stand in the object, and their numbers there.
-ghost use Rattle.std.specs.Prelude.{◌≡◌, [], Some, None, option_or, false, map, option_map, fold, length, slice_index_or, IfOk, OnOk};
+ghost use Rattle.std.specs.Prelude.{◌≡◌, [], Some, None, false, unwrap_or, map, option_map, fold, length, slice_index_or, IfOk, OnOk};
+ghost use Rattle.std.specs.Option.{option_or};
 ghost use Rattle.link_program.specs.name_entries.View.{rows_of, entry_at};
 ghost use Rattle.link_program.specs.name_entries.Fits.{FitsObjects};
 ghost use Rattle.partial_symbols.specs.declared.facts.Fact.{Fact as Seen};
@@ -8,6 +9,7 @@ ghost use Rattle.partial_symbols.specs.Facts.{fact_of, facts_of};
 ghost use Rattle.partial_symbols.specs.Standing.{is_at, column_at, is_referenced, stands_for, stands, none_stood, with_number, without_number, stood, all_stood};
 ghost use Rattle.partial_symbols.specs.Sights.{sight_of};
 ghost use Rattle.partial_symbols.specs.Known.{IsSight, AreStanding};
+ghost use Rattle.partial_symbols.specs.Referring.{number_for};
 ghost use Rattle.link_program.specs.link_rules.Program.{Program as Rules};
 ghost use Rattle.link_program.specs.Program.{IsProgram};
 
@@ -15,7 +17,7 @@ use crate::columns::{Column, columns_of};
 use crate::facts::{At, Fact, Spot, fact_at};
 use crate::windows::named_by;
 use crate::winners::winners_of;
-use link_program::{Entries, Program, Tables};
+use link_program::{Entries, Program, Symbol, Tables, symbol_at};
 use linking_section::SymbolKind;
 use std::alloc::Global;
 use std::marker::Model;
@@ -189,6 +191,46 @@ impl Standing {
             self.put(fact)
         } else {
             self.pass()
+        }
+    }
+}
+
+impl Standing {
+    /// Where they stand, in their order.
+    pub fn symbols(&self) -> &[At]
+        ensures { result.now ≡ self.now.symbols }
+    {
+        self.symbols.as_slice()
+    }
+
+    /// The number of the symbol that stands for the name of a number, or 0.
+    fn of_name(&self, number: u32) -> u32
+        ensures { result ≡ unwrap_or (slice_index_or self.now.of_names number None) 0 }
+    {
+        match self.of_names.get(number as usize) {
+            Some(number) => number.unwrap_or(0),
+            None => 0,
+        }
+    }
+
+    /// The own number of the symbol at a place among those of all objects, or 0.
+    fn of_symbol(&self, symbol: u32) -> u32
+        ensures { result ≡ unwrap_or (slice_index_or self.now.of_symbols symbol None) 0 }
+    {
+        match self.of_symbols.get(symbol as usize) {
+            Some(number) => number.unwrap_or(0),
+            None => 0,
+        }
+    }
+
+    /// The number of the symbol that stands for the one at a place among those of all objects: that of its name, or its own; 0 where
+    /// none stands.
+    pub fn number_for(&self, symbols: &[Symbol], symbol: u32) -> u32
+        ensures { result ≡ number_for self.now symbols.now symbol }
+    {
+        match symbol_at(symbols, symbol).name {
+            Some(name) => self.of_name(name),
+            None => self.of_symbol(symbol),
         }
     }
 }

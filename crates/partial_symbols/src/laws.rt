@@ -1,0 +1,8 @@
+//! What the numbers tell, as calls that do nothing: their contracts are the laws.
+ghost use Rattle.partial_symbols.specs.Laws.{NumbersAre};
+
+/// The number that is found for what a window names is the one that the definition gives.
+#[tactic(auto, using(crate::proofs::Referring::number_is))]
+pub fn numbers_are()
+    ensures { NumbersAre }
+{}
