@@ -1,2 +1,4 @@
 mod Marked
 mod Loops
+mod Parts
+mod Whole

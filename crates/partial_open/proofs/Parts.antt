@@ -149,6 +149,36 @@ module _ (objects : List Object) (r : Resolved) (means : InputSymbol → Meaning
     or_false true = refl
     or_false false = refl
 
+    -- where no symbol of the object is it
+    module _ (none : (s : ℕ) → is_e s ≡ false) where
+      functions_none : (i : ℕ) (fs : List FunctionDef) → list_any kept_names (indexed (function_part all objects r) i fs) ≡ false
+      functions_none i [] = refl
+      functions_none i (f ∷ fs) =
+          let n = operands_are f.operands ∙ any_none is_e none (filter_map symbol_named f.operands) in
+          let h = and_false (keeps (function_part all objects r i f)) in
+          let t = functions_none (i + 1) fs in
+          (λ j. (keeps (function_part all objects r i f) && n j) || t j) ∙ (λ j. h j || false)
+
+      segments_none : (i : ℕ) (gs : List SegmentDef) → list_any kept_names (indexed (segment_part all objects r) i gs) ≡ false
+      segments_none i [] = refl
+      segments_none i (g ∷ gs) =
+          let n = windows_are g.windows ∙ any_none is_e none (map (λ (w : Reloc). w.index) g.windows) in
+          let h = and_false (keeps (segment_part all objects r i g)) in
+          let t = segments_none (i + 1) gs in
+          (λ j. (keeps (segment_part all objects r i g) && n j) || t j) ∙ (λ j. h j || false)
+
+      pub parts_none : list_any part_names (parts_in all objects r) ≡ false
+      parts_none =
+          let fs = indexed (function_part all objects r) 0 r.object.functions in
+          let gs = indexed (segment_part all objects r) 0 r.object.segments in
+          let hs = indexed (global_part all objects r) 0 r.object.globals in
+          let a = functions_none 0 r.object.functions in
+          let b = segments_none 0 r.object.segments in
+          let c = globals_from 0 r.object.globals in
+          any_filter part_names keeps (fs ++ gs ++ hs)
+          ∙ (list_any-append kept_names (fs ++ gs) hs
+          ∙ (λ j. (list_any-append kept_names fs gs ∙ (λ k. a k || b k)) j || c j))
+
     -- all kept parts of the object
     pub parts_name : (functions segments : List Bool)
         → ((i : ℕ) (f : FunctionDef) → keeps (function_part all objects r i f) ≡ not (get_or functions i false))

@@ -7,4 +7,4 @@
 mod flags;
 mod lost;
 
-pub use lost::first_lost;
+pub use lost::open_local;

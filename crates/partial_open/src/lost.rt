@@ -3,6 +3,10 @@ ghost use Rattle.std.specs.Prelude.{◌≡◌, [], Some, false, option_map, slic
 ghost use Rattle.std.specs.List.{list_any};
 ghost use Rattle.link_program.specs.name_entries.View.{rows_of, entry_at};
 ghost use Rattle.link_program.specs.name_entries.Fits.{FitsObjects};
+ghost use Rattle.link_program.specs.link_rules.Program.{Program as Rules};
+ghost use Rattle.link_program.specs.declared.program.Program.{Program as Data};
+ghost use Rattle.link_program.specs.Program.{IsProgram};
+ghost use Rattle.partial_rules.specs.Partial.{open_local};
 ghost use Rattle.partial_open.specs.Lost.{is_lost, is_lost_one, fault_of, first_flagged, object_fault, first_fault};
 
 use crate::flags::flags_of;
@@ -107,10 +111,9 @@ fn object_fault(
     Ok(fault)
 }
 
-/// `Unresolved` with the least symbol, by input and place, that is a local definition in a part that isn't kept and that a kept part
-/// refers to; `None` exactly where there is none.
+/// The fault of the first object that has one.
 #[tactic(auto, using(crate::proofs::Loops::fault_on, crate::proofs::Loops::fault_found, crate::proofs::Loops::fault_none, crate::proofs::Loops::fault_no_parts))]
-pub fn first_lost(alloc: Global, entries: Entries<'_>) -> Result<Option<Fault>, OutOfMemory>
+fn first_fault(alloc: Global, entries: Entries<'_>) -> Result<Option<Fault>, OutOfMemory>
     requires { FitsObjects entries }
     ensures { IfOk result (λ f. f ≡ first_fault entries.entry.objects.now entries.entry.objects.now entries.entry.parts.now) }
 {
@@ -127,4 +130,14 @@ pub fn first_lost(alloc: Global, entries: Entries<'_>) -> Result<Option<Fault>, 
         }
     }
     Ok(None)
+}
+
+/// `Unresolved` with the least symbol, by input and place, that is a local definition in a part that isn't kept and that a kept part
+/// refers to; `None` exactly where there is none. `entries` is the view of a program's objects.
+pub fn open_local(alloc: Global, entries: Entries<'_>) -> Result<Option<Fault>, OutOfMemory>
+    requires { FitsObjects entries }
+    ensures { IfOk result (λ f. (d : Data) (p : Rules) → IsProgram d p → p.plan.loose_calls ≡ false → entries.entry.objects.now ≡ d.objects.now → f ≡ open_local p) }
+{
+    let fault = first_fault(alloc, entries)?;
+    Ok(fault)
 }
