@@ -14,7 +14,9 @@ use Rattle.partial_open.specs.Lost.{is_lost, is_lost_one, fault_of, first_flagge
 dropped_at : {A : Type 0} (xs : List A) (i : ℕ) (x : A) → slice_get xs i ≡ Some x → drop i xs ≡ x ∷ drop (i + 1) xs
 dropped_at [] i x at = absurd (none-some x at)
 dropped_at (y ∷ xs) zero x at = let same : y ≡ x = cc in ap (λ z. z ∷ xs) same
-dropped_at (y ∷ xs) (suc i) x at = dropped_at xs i x at
+dropped_at {A} (y ∷ xs) (suc i) x at =
+    let moved : suc (i + 1) ≡ suc i + 1 = omega arith in
+    dropped_at xs i x at ∙ ap (λ k. x ∷ drop {A = A} k (y ∷ xs)) moved
 
 there : {A : Type 0} (xs : List A) (i : ℕ) → i < length xs → (x : A) × (slice_get xs i ≡ Some x)
 there [] i lt = absurd (omega (arith, lt))

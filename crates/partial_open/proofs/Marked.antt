@@ -23,12 +23,12 @@ numbers_name (suc n) = numbers_name n
 pub references_are : (rs : List Reference) (behind : ℕ) (flags : List Bool) → fold by_reference flags rs ≡ fold marked flags (filter_map symbol_named (spread rs behind))
 references_are [] behind flags = ap (fold marked flags) (sym (numbers_name behind))
 references_are (r ∷ rs) behind flags =
-    by (symbol_named (operand_of r)) refl
+    by (symbol_named (operand_of r)) refl (references_are rs behind)
     ∙ ap (fold marked flags) (sym (filter_map-append symbol_named (replicate r.numbers Number) (operand_of r ∷ spread rs behind) ∙ ap (λ ns. ns ++ filter_map symbol_named (operand_of r ∷ spread rs behind)) (numbers_name r.numbers)))
   where
-    by : (o : Option ℕ) → symbol_named (operand_of r) ≡ o → fold by_reference (marked_by flags (symbol_named (operand_of r))) rs ≡ fold marked flags (filter_map symbol_named (operand_of r ∷ spread rs behind))
-    by None is = rw is (references_are rs behind flags)
-    by (Some n) is = rw is (references_are rs behind (marked flags n))
+    by : (o : Option ℕ) → symbol_named (operand_of r) ≡ o → ((fs : List Bool) → fold by_reference fs rs ≡ fold marked fs (filter_map symbol_named (spread rs behind))) → fold by_reference (marked_by flags (symbol_named (operand_of r))) rs ≡ fold marked flags (filter_map symbol_named (operand_of r ∷ spread rs behind))
+    by None is again = rw is (again flags)
+    by (Some n) is again = rw is (again (marked flags n))
 
 pub windows_are : (ws : List Reloc) (flags : List Bool) → fold by_window flags ws ≡ fold marked flags (map (λ (w : Reloc). w.index) ws)
 windows_are [] flags = refl
@@ -48,15 +48,14 @@ none_listed f (y ∷ xs) (suc i) at = none_listed f xs i at
 
 -- ---- lists one behind another
 
-kept_from : (dropped : List Bool) (xss : List (List ℕ)) (n i : ℕ) → i < length xss
-    → kept_lists dropped (n + i) (drop i xss) ≡ (if get_or dropped (n + i) false then [] else get_or xss i []) ++ kept_lists dropped (n + i + 1) (drop (i + 1) xss)
-kept_from dropped [] n i lt = absurd (omega (arith, lt))
-kept_from dropped (xs ∷ xss) n zero lt = refl
-kept_from dropped (xs ∷ xss) n (suc i) lt =
-    let e : n + suc i ≡ n + 1 + i = omega arith in
-    ap (λ k. kept_lists dropped k (drop i xss)) e
-    ∙ (kept_from dropped xss (n + 1) i (omega (arith, lt))
-    ∙ ap (λ k. (if get_or dropped k false then [] else get_or xss i []) ++ kept_lists dropped (k + 1) (drop (i + 1) xss)) (sym e))
+kept_from : (dropped : List Bool) (xss : List (List ℕ)) (m i : ℕ) → i < length xss
+    → kept_lists dropped m (drop i xss) ≡ (if get_or dropped m false then [] else get_or xss i []) ++ kept_lists dropped (m + 1) (drop (i + 1) xss)
+kept_from dropped [] m i lt = absurd (omega (arith, lt))
+kept_from dropped (xs ∷ xss) m zero lt = refl
+kept_from dropped (xs ∷ xss) m (suc i) lt =
+    let moved : suc (i + 1) ≡ suc i + 1 = omega arith in
+    kept_from dropped xss m i (omega (arith, lt))
+    ∙ ap (λ k. (if get_or dropped m false then [] else get_or xss i []) ++ kept_lists dropped (m + 1) (drop {A = List ℕ} k (xs ∷ xss))) moved
 
 -- one list more
 pub list_more : (dropped : List Bool) (xss : List (List ℕ)) (i : ℕ) (old new whole : List Bool) → i < length xss
@@ -67,7 +66,7 @@ list_more dropped xss i old new whole lt step so_far =
     let first = if get_or dropped i false then [] else get_or xss i [] in
     ap (λ flags. fold marked flags rest) step
     ∙ (sym (fold_append marked old first rest)
-    ∙ (ap (fold marked old) (sym (kept_from dropped xss 0 i lt)) ∙ so_far))
+    ∙ (ap (fold marked old) (sym (kept_from dropped xss i i lt)) ∙ so_far))
 
 pub lists_end : (dropped : List Bool) (xss : List (List ℕ)) (i : ℕ) (old whole : List Bool) → length xss ≤ i → fold marked old (kept_lists dropped i (drop i xss)) ≡ whole → old ≡ whole
 lists_end dropped xss i old whole past so_far = sym (ap (λ (yss : List (List ℕ)). fold marked old (kept_lists dropped i yss)) (drop_of_length-le xss past)) ∙ so_far

@@ -56,7 +56,7 @@ symbol_at objects o p (s ∷ ss) (suc i) x at =
 
 -- ---- what references name
 
-module _ (objects : List Object) (r : Resolved) (means : InputSymbol → Meaning) (symbols : r.symbols ≡ symbols_of objects r.object) (meanings : r.meanings ≡ map means r.symbols) (e : InputSymbol) where
+module _ (objects : List Object) (r : Resolved) (means : InputSymbol → Meaning) (meanings : r.meanings ≡ map means r.symbols) (e : InputSymbol) where
   -- whether a reference names the symbol
   abbrev pub names_e : Ref → Bool
   names_e ref = same_entry ref.entry e

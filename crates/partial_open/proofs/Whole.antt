@@ -141,7 +141,7 @@ get_drop (suc m) (x ∷ xs) i = get_drop m xs i ∙ ap (λ k. get_or (x ∷ xs) 
 
 insert_any : (p : InitCall → Bool) (c : InitCall) (ds : List InitCall) → list_any p (insert_call c ds) ≡ (p c || list_any p ds)
 insert_any p c [] = refl
-insert_any p c (d ∷ ds) = by (nat_le c.priority d.priority)
+insert_any p c (d ∷ ds) = by (nat_le c.priority d.priority) (insert_any p c ds)
   where
     swapped : (a b e : Bool) → (a || (b || e)) ≡ (b || (a || e))
     swapped true true e = refl
@@ -149,9 +149,9 @@ insert_any p c (d ∷ ds) = by (nat_le c.priority d.priority)
     swapped false true e = refl
     swapped false false e = refl
 
-    by : (b : Bool) → list_any p (cond b (c ∷ d ∷ ds) (d ∷ insert_call c ds)) ≡ (p c || (p d || list_any p ds))
-    by true = refl
-    by false = ap (λ r. p d || r) (insert_any p c ds) ∙ swapped (p d) (p c) (list_any p ds)
+    by : (b : Bool) → list_any p (insert_call c ds) ≡ (p c || list_any p ds) → list_any p (cond b (c ∷ d ∷ ds) (d ∷ insert_call c ds)) ≡ (p c || (p d || list_any p ds))
+    by true again = refl
+    by false again = ap (λ r. p d || r) again ∙ swapped (p d) (p c) (list_any p ds)
 
 sorted_any : (p : InitCall → Bool) (cs : List InitCall) → list_any p (by_priority cs) ≡ list_any p cs
 sorted_any p [] = refl
@@ -223,12 +223,12 @@ module _ (p : Program) (strict : p.plan.loose_calls ≡ false) (rise : InputsRis
     by_object x = list_any names_it (parts_in all p.objects (resolved x))
 
     not_own : (x : Object) → (x.input == o.input) ≡ false → by_object x ≡ false
-    not_own x differ = parts_none p.objects (resolved x) means refl refl e all (other_symbol x differ)
+    not_own x differ = parts_none p.objects (resolved x) means refl e all (other_symbol x differ)
 
     own : (parts : ObjectParts) → ArePartsOf p.objects o parts → by_object o ≡ list_any (λ m. m == k) (named_in o parts)
     own parts are =
-        parts_name p.objects (resolved o) means refl refl e all (drop (length parts.imports.functions) parts.dropped_functions) parts.dropped_segments of_functions are.segments
-        ∙ any_agree (is_e p.objects (resolved o) means refl refl e) (λ m. m == k) own_symbol (named_in o parts)
+        parts_name p.objects (resolved o) means refl e all (drop (length parts.imports.functions) parts.dropped_functions) parts.dropped_segments of_functions are.segments
+        ∙ any_agree (is_e p.objects (resolved o) means refl e) (λ m. m == k) own_symbol (named_in o parts)
       where
         imported : length (function_imports o) ≡ length parts.imports.functions
         imported = sym (sym (length-map parts.imports.functions (slice_get o.imports)) ∙ (ap length (are.imports Function) ∙ length-map (function_imports o) (λ (i : Import). Some i)))
@@ -241,10 +241,10 @@ module _ (p : Program) (strict : p.plan.loose_calls ≡ false) (rise : InputsRis
 
     -- ---- the linker's parts
 
-    call_names : InitCall → Bool
+    abbrev call_names : InitCall → Bool
     call_names c = same_entry c.ref.entry e
 
-    kept_call : InitCall → Bool
+    abbrev kept_call : InitCall → Bool
     kept_call c = not (is_skipped c) && call_names c
 
     and_false : (b : Bool) → (b && false) ≡ false
@@ -313,7 +313,7 @@ module _ (p : Program) (strict : p.plan.loose_calls ≡ false) (rise : InputsRis
 
     made_none : (place : ℕ) (ms : List MadeSymbol) → list_any names_it (made_parts_from calls place ms) ≡ false
     made_none place [] = refl
-    made_none place (m ∷ ms) = by (made_kind m.kind)
+    made_none place (m ∷ ms) = by (made_kind m.kind) (made_none (place + 1) ms)
       where
         rest : List Part
         rest = made_parts_from calls (place + 1) ms
@@ -326,14 +326,14 @@ module _ (p : Program) (strict : p.plan.loose_calls ≡ false) (rise : InputsRis
         named_none true = ap (list_any (λ (ref : Ref). same_entry ref.entry e)) (symbols_refs calls) ∙ calls_none
         named_none false = refl
 
-        by : (o : Option ℕ) → list_any names_it (option_onto (option_map (λ (kind : ℕ). record {
+        by : (o : Option ℕ) → list_any names_it rest ≡ false → list_any names_it (option_onto (option_map (λ (kind : ℕ). record {
           chunk = record { input = 0; kind = kind; index = place };
           content = linker_made m;
           source = no_source;
           named = cond ((kind == 0) && (place == 0)) (map a_symbol calls) [];
         }) o) rest) ≡ false
-        by None = made_none (place + 1) ms
-        by (Some kind) = let h = named_none ((kind == 0) && (place == 0)) in let t = made_none (place + 1) ms in λ j. h j || t j
+        by None again = again
+        by (Some kind) again = let h = named_none ((kind == 0) && (place == 0)) in λ j. h j || again j
 
     -- ---- all of them
 

@@ -39,7 +39,7 @@ abbrev keeps : ℕ → Chunk → Bool
 keeps kind c = not (c.input == 0) && (c.kind == kind)
 
 -- The numbers of the kept chunks of a kind, from a number on.
-numbers : ℕ → ℕ → List Chunk → List ℕ
+abbrev numbers : ℕ → ℕ → List Chunk → List ℕ
 numbers kind m [] = []
 numbers kind m (c ∷ cs) = if keeps kind c then m ∷ numbers kind (m + 1) cs else numbers kind (m + 1) cs
 
@@ -73,17 +73,17 @@ pub record Steps (kind : ℕ) (list : Kept → List ℕ) : Type 0 where
 module _ (kind : ℕ) (list : Kept → List ℕ) (steps : Steps kind list) where
   list_left : (k : Kept) (cs : List Chunk) → list (fold kept_chunk k cs) ≡ list k ++ numbers kind (length k.places) cs
   list_left k [] = sym (append-nil (list k))
-  list_left k (c ∷ cs) = by (keeps kind c) refl
+  list_left k (c ∷ cs) = by (keeps kind c) refl (list_left (kept_chunk k c) cs)
     where
-      by : (b : Bool) → keeps kind c ≡ b → list (fold kept_chunk (kept_chunk k c) cs)
+      by : (b : Bool) → keeps kind c ≡ b → list (fold kept_chunk (kept_chunk k c) cs) ≡ list (kept_chunk k c) ++ numbers kind (length (kept_chunk k c).places) cs → list (fold kept_chunk (kept_chunk k c) cs)
           ≡ list k ++ (if b then length k.places ∷ numbers kind (length k.places + 1) cs else numbers kind (length k.places + 1) cs)
-      by true is =
-          list_left (kept_chunk k c) cs
+      by true is again =
+          again
           ∙ (ap (λ ns. ns ++ numbers kind (length (kept_chunk k c).places) cs) (steps.one k c is).0
           ∙ (append_assoc (list k) (length k.places ∷ []) (numbers kind (length (kept_chunk k c).places) cs)
           ∙ ap (λ m. list k ++ length k.places ∷ numbers kind m cs) (one_place k c)))
-      by false is =
-          list_left (kept_chunk k c) cs
+      by false is again =
+          again
           ∙ (ap (λ ns. ns ++ numbers kind (length (kept_chunk k c).places) cs) (steps.other k c is)
           ∙ ap (λ m. list k ++ numbers kind m cs) (one_place k c))
 
@@ -92,16 +92,16 @@ module _ (kind : ℕ) (list : Kept → List ℕ) (steps : Steps kind list) where
   numbered_parts : (before xs : List Part) → map (slice_get (before ++ xs)) (numbers kind (length before) (map (λ (part : Part). part.chunk) xs))
       ≡ map Some (filter (λ (part : Part). is_object_part part && (part.chunk.kind == kind)) xs)
   numbered_parts before [] = refl
-  numbered_parts before (x ∷ xs) = by (keeps kind x.chunk) (subst Rest moved again)
+  numbered_parts before (x ∷ xs) =
+      by (keeps kind x.chunk)
+      (subst Rest moved
+      (ap (λ m. map (slice_get ((before ++ x ∷ []) ++ xs)) (numbers kind m (map (λ (part : Part). part.chunk) xs))) (sym (length-append before (x ∷ []))) ∙ numbered_parts (before ++ x ∷ []) xs))
     where
-      Rest : List Part → Type 0
+      abbrev Rest : List Part → Type 0
       Rest whole = map (slice_get whole) (numbers kind (length before + 1) (map (λ (part : Part). part.chunk) xs)) ≡ map Some (filter (λ (part : Part). is_object_part part && (part.chunk.kind == kind)) xs)
 
       moved : (before ++ x ∷ []) ++ xs ≡ before ++ x ∷ xs
       moved = append_assoc before (x ∷ []) xs
-
-      again : Rest ((before ++ x ∷ []) ++ xs)
-      again = ap (λ m. map (slice_get ((before ++ x ∷ []) ++ xs)) (numbers kind m (map (λ (part : Part). part.chunk) xs))) (sym (length-append before (x ∷ []))) ∙ numbered_parts (before ++ x ∷ []) xs
 
       at_end : (ys zs : List Part) (z : Part) → slice_get (ys ++ z ∷ zs) (length ys) ≡ Some z
       at_end [] zs z = refl
@@ -149,14 +149,18 @@ module _ (kind : ℕ) (list : Kept → List ℕ) (steps : Steps kind list) where
   place_found : (k : Kept) (cs : List Chunk) (c : Chunk) (n : ℕ) → keeps kind c ≡ true → position (same_chunk c) cs ≡ Some n
       → Some (get_or (fold kept_chunk k cs).places (length k.places + n) 0) ≡ option_map (λ i. length (list k) + i) (position (same_chunk c) (filter (keeps kind) cs))
   place_found k [] c n kept at = absurd cc
-  place_found k (x ∷ cs) c n kept at = by (same_chunk c x) refl
+  place_found k (x ∷ cs) c n kept at = by (same_chunk c x) refl (λ m there. place_found (kept_chunk k x) cs c m kept there)
     where
+      abbrev Again : Type 0
+      Again = (m : ℕ) → position (same_chunk c) cs ≡ Some m
+          → Some (get_or (fold kept_chunk (kept_chunk k x) cs).places (length (kept_chunk k x).places + m) 0) ≡ option_map (λ i. length (list (kept_chunk k x)) + i) (position (same_chunk c) (filter (keeps kind) cs))
+
       rest : List Chunk
       rest = filter (keeps kind) cs
 
-      by : (b : Bool) → same_chunk c x ≡ b
+      by : (b : Bool) → same_chunk c x ≡ b → Again
           → Some (get_or (fold kept_chunk (kept_chunk k x) cs).places (length k.places + n) 0) ≡ option_map (λ i. length (list k) + i) (position (same_chunk c) (cond (keeps kind x) (x ∷ rest) rest))
-      by true is =
+      by true is again =
           let same : c ≡ x = chunk_is c x is in
           let x_kept : keeps kind x ≡ true = ap (keeps kind) (sym same) ∙ kept in
           let none : n ≡ 0 = same_Some n 0 (sym at ∙ position_first (same_chunk c) x cs is) in
@@ -170,14 +174,14 @@ module _ (kind : ℕ) (list : Kept → List ℕ) (steps : Steps kind list) where
           ap (λ (i : ℕ). Some i) (value ∙ zero_more)
           ∙ (ap (option_map (λ i. length (list k) + i)) (sym (position_first (same_chunk c) x rest is))
           ∙ ap (λ b. option_map (λ i. length (list k) + i) (position (same_chunk c) (cond b (x ∷ rest) rest))) (sym x_kept))
-      by false is = by_rest (position (same_chunk c) cs) refl
+      by false is again = by_rest (position (same_chunk c) cs) refl
         where
           by_kept : (m : ℕ) (b : Bool) → keeps kind x ≡ b → position (same_chunk c) cs ≡ Some m → n ≡ suc m
               → Some (get_or (fold kept_chunk (kept_chunk k x) cs).places (length k.places + n) 0) ≡ option_map (λ i. length (list k) + i) (position (same_chunk c) (cond b (x ∷ rest) rest))
           by_kept m b x_is there next =
               let e : length (kept_chunk k x).places ≡ length k.places + 1 = one_place k x in
               let moved : length k.places + n ≡ length (kept_chunk k x).places + m = omega (arith, next, e) in
-              ap (λ i. Some (get_or (fold kept_chunk (kept_chunk k x) cs).places i 0)) moved ∙ (place_found (kept_chunk k x) cs c m kept there ∙ shifted b x_is)
+              ap (λ i. Some (get_or (fold kept_chunk (kept_chunk k x) cs).places i 0)) moved ∙ (again m there ∙ shifted b x_is)
             where
               shifted : (b : Bool) → keeps kind x ≡ b → option_map (λ i. length (list (kept_chunk k x)) + i) (position (same_chunk c) rest) ≡ option_map (λ i. length (list k) + i) (position (same_chunk c) (cond b (x ∷ rest) rest))
               shifted true x_is =
@@ -196,7 +200,7 @@ module _ (kind : ℕ) (list : Kept → List ℕ) (steps : Steps kind list) where
 
   none_kept_there : (p : Chunk → Bool) (cs : List Chunk) → position p cs ≡ None → position p (filter (keeps kind) cs) ≡ None
   none_kept_there p [] none = none
-  none_kept_there p (x ∷ cs) none = by_head (p x) refl
+  none_kept_there p (x ∷ cs) none = by_head (p x) refl (none_kept_there p cs)
     where
       rest : List Chunk
       rest = filter (keeps kind) cs
@@ -209,9 +213,9 @@ module _ (kind : ℕ) (list : Kept → List ℕ) (steps : Steps kind list) where
       by_kept true is again = position_next p x rest is ∙ ap (option_map suc) again
       by_kept false is again = again
 
-      by_head : (b : Bool) → p x ≡ b → position p (cond (keeps kind x) (x ∷ rest) rest) ≡ None
-      by_head true is = absurd (none-some 0 (sym none ∙ position_first p x cs is))
-      by_head false is = by_kept (keeps kind x) is (none_kept_there p cs (empty (position p cs) (sym (position_next p x cs is) ∙ none)))
+      by_head : (b : Bool) → p x ≡ b → (position p cs ≡ None → position p rest ≡ None) → position p (cond (keeps kind x) (x ∷ rest) rest) ≡ None
+      by_head true is again = absurd (none-some 0 (sym none ∙ position_first p x cs is))
+      by_head false is again = by_kept (keeps kind x) is (again (empty (position p cs) (sym (position_next p x cs is) ∙ none)))
 
   chunks_kept : (xs : List Part) → filter (keeps kind) (map (λ (part : Part). part.chunk) xs) ≡ map (λ (part : Part). part.chunk) (filter (λ (part : Part). is_object_part part && (part.chunk.kind == kind)) xs)
   chunks_kept [] = refl

@@ -34,7 +34,10 @@ rows_from : (names : List (List ℕ)) (object : ℕ) (rows : List (List InputSym
     → facts_rows names object (drop i rows) ≡ map (fact_of names object) (get_or rows i []) ++ facts_rows names (object + 1) (drop (i + 1) rows)
 rows_from names object [] i lt = absurd (omega (arith, lt))
 rows_from names object (row ∷ rows) zero lt = refl
-rows_from names object (row ∷ rows) (suc i) lt = rows_from names object rows i (omega (arith, lt))
+rows_from names object (row ∷ rows) (suc i) lt =
+    let moved : suc (i + 1) ≡ suc i + 1 = omega arith in
+    rows_from names object rows i (omega (arith, lt))
+    ∙ ap (λ k. map (fact_of names object) (get_or rows i []) ++ facts_rows names (object + 1) (drop {A = List InputSymbol} k (row ∷ rows))) moved
 
 pub row_more : {C : Type 0} (g : C → Fact → C) (names : List (List ℕ)) (rows : List (List InputSymbol)) (i : ℕ) → i < length rows → (old new whole : C)
     → new ≡ fold g old (map (fact_of names i) (get_or rows i [])) → fold g old (facts_rows names i (drop i rows)) ≡ whole

@@ -41,15 +41,15 @@ module _ (names : List (List ℕ)) where
   held_symbols : (objects : List Object) (o : Object) (p : ℕ) (ss : List Symbol) → All (Held names) (map symbol_name (filter is_entry_symbol ss))
       → AllByRecursion HeldWhere (entries_from objects o p ss)
   held_symbols objects o p [] all = tt
-  held_symbols objects o p (s ∷ ss) all = by (is_entry_symbol s) refl all
+  held_symbols objects o p (s ∷ ss) all = by (is_entry_symbol s) refl (held_symbols objects o (p + 1) ss) all
     where
-      by : (b : Bool) → is_entry_symbol s ≡ b → All (Held names) (map symbol_name (cond b (s ∷ filter is_entry_symbol ss) (filter is_entry_symbol ss)))
+      by : (b : Bool) → is_entry_symbol s ≡ b → (All (Held names) (map symbol_name (filter is_entry_symbol ss)) → AllByRecursion HeldWhere (entries_from objects o (p + 1) ss)) → All (Held names) (map symbol_name (cond b (s ∷ filter is_entry_symbol ss) (filter is_entry_symbol ss)))
           → HeldWhere (entry_in objects o p s) × AllByRecursion HeldWhere (entries_from objects o (p + 1) ss)
-      by true is all = (
+      by true is again all = (
         λ entry. All-head (Held names) (symbol_name s) (map symbol_name (filter is_entry_symbol ss)) all,
-        held_symbols objects o (p + 1) ss (All-tail (Held names) (symbol_name s) (map symbol_name (filter is_entry_symbol ss)) all),
+        again (All-tail (Held names) (symbol_name s) (map symbol_name (filter is_entry_symbol ss)) all),
       )
-      by false is all = (λ entry. absurd (let f : false ≡ true = sym is ∙ entry in cc), held_symbols objects o (p + 1) ss all)
+      by false is again all = (λ entry. absurd (let f : false ≡ true = sym is ∙ entry in cc), again all)
 
   pub held_objects : (objects os : List Object) → All (λ o. All (Held names) (entry_names o)) os → AllByRecursion HeldWhere (flat_map (symbols_of objects) os)
   held_objects objects [] all = tt

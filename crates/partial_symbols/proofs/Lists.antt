@@ -1,5 +1,5 @@
 -- Lists that are mapped, filtered and asked.
-use Rattle.std.proofs.Common.{◌≡◌, ℕ, zero, suc, ◌+◌, ◌==◌, Bool, true, false, not, ◌&&◌, ◌||◌, List, [], ◌∷◌, ◌++◌, map, filter, flat_map, find, fold, length, Option, Some, None, option_map, refl, sym, ap, ◌∙◌}
+use Rattle.std.proofs.Common.{◌≡◌, ℕ, zero, suc, ◌+◌, ◌==◌, Bool, true, false, not, ◌&&◌, ◌||◌, List, [], ◌∷◌, ◌++◌, map, filter, flat_map, find, fold, length, Option, Some, None, option_map, refl, sym, ap, ◌∙◌, arith, ne_eqb}
 use Rattle.std.specs.Prelude.{cond}
 use Rattle.std.specs.Option.{option_or}
 use Rattle.std.specs.List.{list_any, AllByRecursion}
@@ -82,7 +82,7 @@ module _ {A : Type 0} where
   some_kept p (x ∷ xs) = by (p x) (some_kept p xs)
     where
       by : (b : Bool) → list_any p xs ≡ not (length (filter p xs) == 0) → (b || list_any p xs) ≡ not (length (cond b (x ∷ filter p xs) (filter p xs)) == 0)
-      by true rest = refl
+      by true rest = sym (ap not (ne_eqb (suc (length (filter p xs))) 0 (λ e. omega (arith, e))))
       by false rest = rest
 
   pub fold_rows : {C : Type 0} (g : C → A → C) (c : C) (rows : List (List A)) → fold (fold g) c rows ≡ fold g c (flat_map (λ r. r) rows)

@@ -21,7 +21,7 @@ use Rattle.partial_symbols.proofs.Placed.{entry_is}
 
 module _ (p : rules.Program) (names : List (List ℕ)) (differ : IsDistinct bytes_eq names) (n : ℕ) (name : List ℕ) (at : slice_get names n ≡ Some name) where
   -- whether what is seen, or told, names the name
-  names_number : SeenNamed → Bool
+  abbrev names_number : SeenNamed → Bool
   names_number (seen_symbol r) = is_number n r.symbol.name
   names_number (seen_type place t) = false
 

@@ -70,54 +70,54 @@ record Numbered : Type 0 where
 
 module _ (v : Sight) where
   -- by symbol its number, from a number on
-  numbers : ℕ → List Fact → List (Option ℕ)
+  abbrev numbers : ℕ → List Fact → List (Option ℕ)
   numbers m [] = []
   numbers m (f ∷ fs) = if stands v f then Some m ∷ numbers (m + 1) fs else None ∷ numbers m fs
 
-  numbered : ℕ → List Fact → List Numbered
+  abbrev numbered : ℕ → List Fact → List Numbered
   numbered m [] = []
   numbered m (f ∷ fs) = if stands v f then record { fact = f; number = m } ∷ numbered (m + 1) fs else numbered m fs
 
   symbols_left : (s : Stood) (fs : List Fact) → (fold (stood v) s fs).symbols ≡ s.symbols ++ map at_of (filter (stands v) fs)
   symbols_left s [] = sym (append-nil s.symbols)
-  symbols_left s (f ∷ fs) = by (stands v f)
+  symbols_left s (f ∷ fs) = by (stands v f) (λ t. symbols_left t fs)
     where
-      by : (b : Bool) → (fold (stood v) (if b then with_number s f (length s.symbols) else without_number s) fs).symbols ≡ s.symbols ++ map at_of (cond b (f ∷ filter (stands v) fs) (filter (stands v) fs))
-      by true = symbols_left (with_number s f (length s.symbols)) fs ∙ append_assoc s.symbols (at_of f ∷ []) (map at_of (filter (stands v) fs))
-      by false = symbols_left (without_number s) fs
+      by : (b : Bool) → ((t : Stood) → (fold (stood v) t fs).symbols ≡ t.symbols ++ map at_of (filter (stands v) fs)) → (fold (stood v) (if b then with_number s f (length s.symbols) else without_number s) fs).symbols ≡ s.symbols ++ map at_of (cond b (f ∷ filter (stands v) fs) (filter (stands v) fs))
+      by true again = again (with_number s f (length s.symbols)) ∙ append_assoc s.symbols (at_of f ∷ []) (map at_of (filter (stands v) fs))
+      by false again = again (without_number s)
 
   one_longer : (s : Stood) (f : Fact) → length (s.symbols ++ at_of f ∷ []) ≡ length s.symbols + 1
   one_longer s f = length-append s.symbols (at_of f ∷ [])
 
   numbers_left : (s : Stood) (fs : List Fact) → (fold (stood v) s fs).of_symbols ≡ s.of_symbols ++ numbers (length s.symbols) fs
   numbers_left s [] = sym (append-nil s.of_symbols)
-  numbers_left s (f ∷ fs) = by (stands v f)
+  numbers_left s (f ∷ fs) = by (stands v f) (λ t. numbers_left t fs)
     where
-      by : (b : Bool) → (fold (stood v) (if b then with_number s f (length s.symbols) else without_number s) fs).of_symbols
+      by : (b : Bool) → ((t : Stood) → (fold (stood v) t fs).of_symbols ≡ t.of_symbols ++ numbers (length t.symbols) fs) → (fold (stood v) (if b then with_number s f (length s.symbols) else without_number s) fs).of_symbols
           ≡ s.of_symbols ++ (if b then Some (length s.symbols) ∷ numbers (length s.symbols + 1) fs else None ∷ numbers (length s.symbols) fs)
-      by true =
-          numbers_left (with_number s f (length s.symbols)) fs
+      by true again =
+          again (with_number s f (length s.symbols))
           ∙ (append_assoc s.of_symbols (Some (length s.symbols) ∷ []) (numbers (length (s.symbols ++ at_of f ∷ [])) fs)
           ∙ ap (λ m. s.of_symbols ++ Some (length s.symbols) ∷ numbers m fs) (one_longer s f))
-      by false = numbers_left (without_number s) fs ∙ append_assoc s.of_symbols (None ∷ []) (numbers (length s.symbols) fs)
+      by false again = again (without_number s) ∙ append_assoc s.of_symbols (None ∷ []) (numbers (length s.symbols) fs)
 
-  named : List (Option ℕ) → Numbered → List (Option ℕ)
+  abbrev named : List (Option ℕ) → Numbered → List (Option ℕ)
   named ns x = changed_at None (λ o. option_or o (Some x.number)) ns x.fact.number
 
   names_left : (s : Stood) (fs : List Fact) → (fold (stood v) s fs).of_names ≡ fold named s.of_names (numbered (length s.symbols) fs)
   names_left s [] = refl
-  names_left s (f ∷ fs) = by (stands v f)
+  names_left s (f ∷ fs) = by (stands v f) (λ t. names_left t fs)
     where
-      by : (b : Bool) → (fold (stood v) (if b then with_number s f (length s.symbols) else without_number s) fs).of_names
+      by : (b : Bool) → ((t : Stood) → (fold (stood v) t fs).of_names ≡ fold named t.of_names (numbered (length t.symbols) fs)) → (fold (stood v) (if b then with_number s f (length s.symbols) else without_number s) fs).of_names
           ≡ fold named s.of_names (if b then record { fact = f; number = length s.symbols } ∷ numbered (length s.symbols + 1) fs else numbered (length s.symbols) fs)
-      by true =
-          names_left (with_number s f (length s.symbols)) fs
+      by true again =
+          again (with_number s f (length s.symbols))
           ∙ ap (λ m. fold named (with_number s f (length s.symbols)).of_names (numbered m fs)) (one_longer s f)
-      by false = names_left (without_number s) fs
+      by false again = again (without_number s)
 
 -- ---- the symbols of the loaded objects differ
 
-pub Differ : List InputSymbol → Type 0
+abbrev pub Differ : List InputSymbol → Type 0
 Differ [] = Unit {0}
 Differ (e ∷ es) = AllByRecursion (λ (x : InputSymbol). same_entry x e ≡ false) es × Differ es
 
@@ -181,11 +181,11 @@ module _ (p : Program) where
     where
       kept : (es : List InputSymbol) → AllByRecursion (λ (x : InputSymbol). same_entry x e ≡ false) es → AllByRecursion (λ x. same_entry e x ≡ false) (filter stands_in es)
       kept [] all = tt
-      kept (x ∷ es) all = by (stands_in x)
+      kept (x ∷ es) all = by (stands_in x) (kept es all.1)
         where
-          by : (b : Bool) → AllByRecursion (λ y. same_entry e y ≡ false) (cond b (x ∷ filter stands_in es) (filter stands_in es))
-          by true = (entry_turned e x ∙ all.0, kept es all.1)
-          by false = kept es all.1
+          by : (b : Bool) → AllByRecursion (λ y. same_entry e y ≡ false) (filter stands_in es) → AllByRecursion (λ y. same_entry e y ≡ false) (cond b (x ∷ filter stands_in es) (filter stands_in es))
+          by true rest = (entry_turned e x ∙ all.0, rest)
+          by false rest = rest
 
   -- one that doesn't stand has none
   pub absent : (es : List InputSymbol) → Differ es → (k : ℕ) (e : InputSymbol) → slice_get es k ≡ Some e → stands_in e ≡ false → position (same_entry e) (filter stands_in es) ≡ None
@@ -194,19 +194,16 @@ module _ (p : Program) where
       let is : x ≡ e = same_Some x e at in
       ap (λ b. position (same_entry e) (cond b (x ∷ filter stands_in es) (filter stands_in es))) (ap stands_in is ∙ goes)
       ∙ none_kept e es (subst (λ y. AllByRecursion (λ z. same_entry z y ≡ false) es) is differ.0)
-  absent (x ∷ es) differ (suc k) e at goes = by (stands_in x)
+  absent (x ∷ es) differ (suc k) e at goes = by (stands_in x) (absent es differ.1 k e at goes)
     where
       pick : (ys : List InputSymbol) (i : ℕ) → AllByRecursion (λ y. same_entry y x ≡ false) ys → slice_get ys i ≡ Some e → same_entry e x ≡ false
       pick [] i all there = absurd cc
       pick (y ∷ ys) zero all there = ap (λ z. same_entry z x) (sym (same_Some y e there)) ∙ all.0
       pick (y ∷ ys) (suc i) all there = pick ys i all.1 there
 
-      rest : position (same_entry e) (filter stands_in es) ≡ None
-      rest = absent es differ.1 k e at goes
-
-      by : (b : Bool) → position (same_entry e) (cond b (x ∷ filter stands_in es) (filter stands_in es)) ≡ None
-      by true = position_next (same_entry e) x (filter stands_in es) (pick es k differ.0 at) ∙ ap (option_map suc) rest
-      by false = rest
+      by : (b : Bool) → position (same_entry e) (filter stands_in es) ≡ None → position (same_entry e) (cond b (x ∷ filter stands_in es) (filter stands_in es)) ≡ None
+      by true rest = position_next (same_entry e) x (filter stands_in es) (pick es k differ.0 at) ∙ ap (option_map suc) rest
+      by false rest = rest
 
 module _ (p : Program) (names : List (List ℕ)) (v : Sight) where
   abbrev pub StandAlike : Placed → Type 0
@@ -262,7 +259,7 @@ module _ (p : Program) (names : List (List ℕ)) (v : Sight) where
           ap (option_map (λ i. m + i)) (sym (none_kept p e (map entry_of ss) (subst (λ x. AllByRecursion (λ y. same_entry y x ≡ false) (map entry_of ss)) is differ.0)))
       by true false same = absurd cc
       by false true same = absurd cc
-  number_at m (s ∷ ss) alike differ (suc k) e at = by (stands v (fact_at names s)) (stands_here s.entry) alike.0
+  number_at m (s ∷ ss) alike differ (suc k) e at = by (stands v (fact_at names s)) (stands_here s.entry) alike.0 (λ n. number_at n ss alike.1 differ.1 k e at)
     where
       kept : List InputSymbol
       kept = filter stands_here (map entry_of ss)
@@ -279,24 +276,25 @@ module _ (p : Program) (names : List (List ℕ)) (v : Sight) where
       other = pick (map entry_of ss) k differ.0 at
 
       by : (a b : Bool) → a ≡ b
+          → ((n : ℕ) → get_or (numbers v n facts) k None ≡ option_map (λ i. n + i) (position (same_entry e) kept))
           → get_or (if a then Some m ∷ numbers v (m + 1) facts else None ∷ numbers v m facts) (suc k) None ≡ option_map (λ i. m + i) (position (same_entry e) (cond b (s.entry ∷ kept) kept))
-      by true true same =
-          number_at (m + 1) ss alike.1 differ.1 k e at
+      by true true same again =
+          again (m + 1)
           ∙ (one_later m (position (same_entry e) kept) ∙ ap (option_map (λ i. m + i)) (sym (position_next (same_entry e) s.entry kept other)))
-      by false false same = number_at m ss alike.1 differ.1 k e at
-      by true false same = absurd cc
-      by false true same = absurd cc
+      by false false same again = again m
+      by true false same again = absurd cc
+      by false true same again = absurd cc
 
   pub count_is : (n : ℕ) (ss : List Placed) → length (all_stood v n (map (fact_at names) ss)).of_symbols ≡ length (map entry_of ss)
   count_is n ss = ap length (numbers_left v (none_stood n) (map (fact_at names) ss)) ∙ as_many 0 ss
     where
       as_many : (m : ℕ) (ss : List Placed) → length (numbers v m (map (fact_at names) ss)) ≡ length (map entry_of ss)
       as_many m [] = refl
-      as_many m (s ∷ ss) = by (stands v (fact_at names s))
+      as_many m (s ∷ ss) = by (stands v (fact_at names s)) (λ n. as_many n ss)
         where
-          by : (b : Bool) → length (if b then Some m ∷ numbers v (m + 1) (map (fact_at names) ss) else None ∷ numbers v m (map (fact_at names) ss)) ≡ suc (length (map entry_of ss))
-          by true = ap suc (as_many (m + 1) ss)
-          by false = ap suc (as_many m ss)
+          by : (b : Bool) → ((n : ℕ) → length (numbers v n (map (fact_at names) ss)) ≡ length (map entry_of ss)) → length (if b then Some m ∷ numbers v (m + 1) (map (fact_at names) ss) else None ∷ numbers v m (map (fact_at names) ss)) ≡ suc (length (map entry_of ss))
+          by true again = ap suc (again (m + 1))
+          by false again = ap suc (again m)
 
   pub of_symbols_are : (n : ℕ) (ss : List Placed) → AllByRecursion StandAlike ss → Differ (map entry_of ss) → (k : ℕ) (e : InputSymbol) → slice_get (map entry_of ss) k ≡ Some e
       → get_or (all_stood v n (map (fact_at names) ss)).of_symbols k None ≡ position (same_entry e) (filter stands_here (map entry_of ss))
@@ -319,7 +317,7 @@ module _ (p : Program) (names : List (List ℕ)) (v : Sight) where
     first_numbered : (m : ℕ) (ss : List Placed) → AllByRecursion StandAlike ss
         → option_map (λ (x : Numbered). x.number) (find test (numbered v m (map (fact_at names) ss))) ≡ option_map (λ i. m + i) (position is_of (filter stands_here (map entry_of ss)))
     first_numbered m [] alike = refl
-    first_numbered m (s ∷ ss) alike = by (stands v (fact_at names s)) (stands_here s.entry) alike.0
+    first_numbered m (s ∷ ss) alike = by (stands v (fact_at names s)) (stands_here s.entry) alike.0 (λ n. first_numbered n ss alike.1)
       where
         kept : List InputSymbol
         kept = filter stands_here (map entry_of ss)
@@ -327,20 +325,23 @@ module _ (p : Program) (names : List (List ℕ)) (v : Sight) where
         facts : List Fact
         facts = map (fact_at names) ss
 
-        by_test : (c d : Bool) → c ≡ d → is_of s.entry ≡ d
-            → option_map (λ (x : Numbered). x.number) (cond c (Some (record { fact = fact_at names s; number = m })) (find test (numbered v (m + 1) facts))) ≡ option_map (λ i. m + i) (position is_of (s.entry ∷ kept))
-        by_test true true same passes = none_first m ∙ ap (option_map (λ i. m + i)) (sym (position_first is_of s.entry kept passes))
-        by_test false false same fails = first_numbered (m + 1) ss alike.1 ∙ (one_later m (position is_of kept) ∙ ap (option_map (λ i. m + i)) (sym (position_next is_of s.entry kept fails)))
-        by_test true false same passes = absurd cc
-        by_test false true same passes = absurd cc
+        abbrev Rest : Type 0
+        Rest = (n : ℕ) → option_map (λ (x : Numbered). x.number) (find test (numbered v n facts)) ≡ option_map (λ i. n + i) (position is_of kept)
 
-        by : (a b : Bool) → a ≡ b
+        by_test : Rest → (c d : Bool) → c ≡ d → is_of s.entry ≡ d
+            → option_map (λ (x : Numbered). x.number) (cond c (Some (record { fact = fact_at names s; number = m })) (find test (numbered v (m + 1) facts))) ≡ option_map (λ i. m + i) (position is_of (s.entry ∷ kept))
+        by_test again true true same passes = none_first m ∙ ap (option_map (λ i. m + i)) (sym (position_first is_of s.entry kept passes))
+        by_test again false false same fails = again (m + 1) ∙ (one_later m (position is_of kept) ∙ ap (option_map (λ i. m + i)) (sym (position_next is_of s.entry kept fails)))
+        by_test again true false same passes = absurd cc
+        by_test again false true same passes = absurd cc
+
+        by : (a b : Bool) → a ≡ b → Rest
             → option_map (λ (x : Numbered). x.number) (find test (if a then record { fact = fact_at names s; number = m } ∷ numbered v (m + 1) facts else numbered v m facts))
             ≡ option_map (λ i. m + i) (position is_of (cond b (s.entry ∷ kept) kept))
-        by true true same = by_test (is_number n (fact_at names s).number && true) (is_of s.entry) (same_test s) refl
-        by false false same = first_numbered m ss alike.1
-        by true false same = absurd cc
-        by false true same = absurd cc
+        by true true same again = by_test again (is_number n (fact_at names s).number && true) (is_of s.entry) (same_test s) refl
+        by false false same again = again m
+        by true false same again = absurd cc
+        by false true same again = absurd cc
 
     pub of_names_are : (ss : List Placed) → AllByRecursion StandAlike ss
         → get_or (all_stood v (length names) (map (fact_at names) ss)).of_names n None ≡ position is_of (filter stands_here (map entry_of ss))

@@ -6,9 +6,10 @@ use Rattle.std.proofs.lemmas.List.{length-map}
 use Rattle.std.proofs.lemmas.Option.{slice_get-map, get_or_from_slice_get, same_Some, none-some}
 use Rattle.link_program.specs.wl_base.Names.{number_of}
 use Rattle.link_program.specs.object_file.declared.object.Object.{Object}
+use Rattle.link_program.specs.linking_section.declared.symbol.SymbolKind.TheVariants.{Section}
 use Rattle.link_program.specs.made_symbols.declared.mode.Mode.TheVariants.{Plain}
-use Rattle.link_program.specs.name_rules.Entries.{InputSymbol, ImportKey, is_entry, is_named, name_of, same_entry, symbols_of}
-use Rattle.link_program.specs.name_rules.Meanings.{Meaning, here, imported, null, nothing, Resolved, resolve, resolved_in, uses_of, meaning, own_meaning}
+use Rattle.link_program.specs.name_rules.Entries.{InputSymbol, ImportKey, is_entry, is_named, is_kind, name_of, named, same_entry, symbols_of}
+use Rattle.link_program.specs.name_rules.Meanings.{Meaning, here, imported, null, nothing, Resolved, resolve, resolved_in, uses_of, meaning, by_rules, own_meaning}
 use Rattle.link_program.specs.name_entries.View.{entry_number}
 use Rattle.link_program.specs.link_rules.Program.{Program, loose_variants}
 use Rattle.link_program.specs.link_rules.Marks.{all_symbols}
@@ -153,7 +154,7 @@ module _ (d : Data) (p : Program) (is : IsProgram d p) (strict : p.plan.loose_ca
 
   -- ---- what is no entry
 
-  own_number : InputSymbol → ℕ
+  abbrev own_number : InputSymbol → ℕ
   own_number e = unwrap_or (position (same_entry e) (partial.standing p)) 0
 
   no_name : (e : InputSymbol) → is_entry e ≡ false → partial.symbol_number p e ≡ own_number e
@@ -162,7 +163,8 @@ module _ (d : Data) (p : Program) (is : IsProgram d p) (strict : p.plan.loose_ca
   -- one that defines nothing doesn't stand
   not_standing : (e : InputSymbol) → is_entry e ≡ false → e.defines ≡ false → partial.stands p e ≡ false
   not_standing e none defines =
-      ap (λ b. if b then partial.stands_for_name p e (partial.object_winner p (name_of e)) else (e.defines && _)) none ∙ ap (λ b. b && _) defines
+      ap (λ b. if b then partial.stands_for_name p e (partial.object_winner p (name_of e)) else (e.defines && not (is_kind Section e))) none
+      ∙ ap (λ b. b && not (is_kind Section e)) defines
 
   absent_number : (e : InputSymbol) (m : Meaning) → Known e m → is_entry e ≡ false → e.defines ≡ false → own_number e ≡ 0
   absent_number e m known none defines = ap (λ o. unwrap_or o 0) (absent p (all_symbols p) they_differ known.at e known.there (not_standing e none defines))
@@ -170,7 +172,7 @@ module _ (d : Data) (p : Program) (is : IsProgram d p) (strict : p.plan.loose_ca
   -- its number by another symbol that is told alike
   module _ (k : ℕ) (e : InputSymbol) (m : Meaning) (known : Known e m) (none : is_entry e ≡ false) where
     own : means e ≡ own_meaning e
-    own = ap (λ b. if b then _ else own_meaning e) none
+    own = ap (λ b. if b then by_rules Plain (uses_of Plain p.objects) p.plan.allow_undefined (named p.entries (name_of e)) e else own_meaning e) none
 
     lead_of : (b : Bool) → e.defines ≡ b → told_lead imports m ≡ (if b then leads.Here (told_definition e) else leads.Nothing)
     lead_of true defines = ap (told_lead imports) (known.is_meant ∙ (own ∙ ap (λ b. if b then here e else nothing) defines))
@@ -201,7 +203,7 @@ module _ (d : Data) (p : Program) (is : IsProgram d p) (strict : p.plan.loose_ca
         f_known = record { at = k; there = there; is_meant = refl }
 
         f_own : means f ≡ own_meaning f
-        f_own = ap (λ b. if b then _ else own_meaning f) no_entry
+        f_own = ap (λ b. if b then by_rules Plain (uses_of Plain p.objects) p.plan.allow_undefined (named p.entries (name_of f)) f else own_meaning f) no_entry
 
         f_lead : (b : Bool) → f.defines ≡ b → told_lead imports (means f) ≡ told_lead imports (if b then here f else nothing)
         f_lead b defines = ap (told_lead imports) (f_own ∙ ap (λ b. if b then here f else nothing) defines)

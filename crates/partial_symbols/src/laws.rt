@@ -2,7 +2,6 @@
 ghost use Rattle.partial_symbols.specs.Laws.{NumbersAre};
 
 /// The number that is found for what a window names is the one that the definition gives.
-#[tactic(auto, using(crate::proofs::Referring::number_is))]
 pub fn numbers_are()
     ensures { NumbersAre }
 {}
