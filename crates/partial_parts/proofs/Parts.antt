@@ -97,7 +97,7 @@ module _ (kind : ℕ) (list : Kept → List ℕ) (steps : Steps kind list) where
       (subst Rest moved
       (ap (λ m. map (slice_get ((before ++ x ∷ []) ++ xs)) (numbers kind m (map (λ (part : Part). part.chunk) xs))) (sym (length-append before (x ∷ []))) ∙ numbered_parts (before ++ x ∷ []) xs))
     where
-      abbrev Rest : List Part → Type 0
+      Rest : List Part → Type 0
       Rest whole = map (slice_get whole) (numbers kind (length before + 1) (map (λ (part : Part). part.chunk) xs)) ≡ map Some (filter (λ (part : Part). is_object_part part && (part.chunk.kind == kind)) xs)
 
       moved : (before ++ x ∷ []) ++ xs ≡ before ++ x ∷ xs
@@ -148,10 +148,10 @@ module _ (kind : ℕ) (list : Kept → List ℕ) (steps : Steps kind list) where
   -- the place of a kept chunk that stands first at a place
   place_found : (k : Kept) (cs : List Chunk) (c : Chunk) (n : ℕ) → keeps kind c ≡ true → position (same_chunk c) cs ≡ Some n
       → Some (get_or (fold kept_chunk k cs).places (length k.places + n) 0) ≡ option_map (λ i. length (list k) + i) (position (same_chunk c) (filter (keeps kind) cs))
-  place_found k [] c n kept at = absurd cc
+  place_found k [] c n kept at = absurd (none-some n at)
   place_found k (x ∷ cs) c n kept at = by (same_chunk c x) refl (λ m there. place_found (kept_chunk k x) cs c m kept there)
     where
-      abbrev Again : Type 0
+      Again : Type 0
       Again = (m : ℕ) → position (same_chunk c) cs ≡ Some m
           → Some (get_or (fold kept_chunk (kept_chunk k x) cs).places (length (kept_chunk k x).places + m) 0) ≡ option_map (λ i. length (list (kept_chunk k x)) + i) (position (same_chunk c) (filter (keeps kind) cs))
 

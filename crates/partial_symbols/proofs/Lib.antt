@@ -1,11 +1,11 @@
 mod Lists
 mod Folds
 mod Cells
-mod Held
+pub mod Held
 mod Placed
 mod Sighted
 mod Named
 mod Stands
 mod Numbered
-mod Whole
+pub mod Whole
 mod Referring

@@ -325,7 +325,7 @@ module _ (p : Program) (names : List (List ℕ)) (v : Sight) where
         facts : List Fact
         facts = map (fact_at names) ss
 
-        abbrev Rest : Type 0
+        Rest : Type 0
         Rest = (n : ℕ) → option_map (λ (x : Numbered). x.number) (find test (numbered v n facts)) ≡ option_map (λ i. n + i) (position is_of kept)
 
         by_test : Rest → (c d : Bool) → c ≡ d → is_of s.entry ≡ d

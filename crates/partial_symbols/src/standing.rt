@@ -67,7 +67,7 @@ fn is_at(fact: Fact, spot: Option<Spot>) -> bool
 
 impl Sight {
     /// The winner of the name of a number, where an object defines it.
-    fn winner(&self, number: u32) -> Option<Spot>
+    pub fn winner(&self, number: u32) -> Option<Spot>
         ensures { result ≡ slice_index_or self.now.winners number None }
     {
         match self.winners.get(number as usize) {
