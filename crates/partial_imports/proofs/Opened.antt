@@ -69,7 +69,7 @@ module _ (d : Data) (p : Program) (is : IsProgram d p) (v : Sight) (seen : IsSig
           let first = seen.explicit_import n (name_of e) named in
           let second = seen.import n (name_of e) named in
           let imports : option_map (import_there p.objects) (option_or c.explicit_import c.import)
-              ≡ option_map Some (first_some (least_import (filter (λ (r : InputSymbol). is_explicit r.symbol) (partial.name_references p (name_of e))) ∷ least_import (partial.name_references p (name_of e)) ∷ [])) =
+          ≡ option_map Some (first_some (least_import (filter (λ (r : InputSymbol). is_explicit r.symbol) (partial.name_references p (name_of e))) ∷ least_import (partial.name_references p (name_of e)) ∷ [])) =
           map_or (import_there p.objects) c.explicit_import c.import
           ∙ ((λ i. option_or (first i) (second i))
           ∙ both_first (least_import (filter (λ (r : InputSymbol). is_explicit r.symbol) (partial.name_references p (name_of e)))) (least_import (partial.name_references p (name_of e)))) in
@@ -111,5 +111,5 @@ module _ (d : Data) (p : Program) (is : IsProgram d p) (v : Sight) (seen : IsSig
   opens_are symbols same =
       ap (λ os. map (open_seen p.objects) (filter_map (open_at v names os) symbols)) is.objects
       ∙ each symbols (partial.standing p) same
-        (kept_all (HeldWhere names) (partial.stands p) (all_symbols p)
-        (subst (AllByRecursion (HeldWhere names)) (sym (symbols_all d p is)) (held_objects names p.objects p.objects is.numbers.symbols_held)))
+      (kept_all (HeldWhere names) (partial.stands p) (all_symbols p)
+      (subst (AllByRecursion (HeldWhere names)) (sym (symbols_all d p is)) (held_objects names p.objects p.objects is.numbers.symbols_held)))

@@ -1,5 +1,5 @@
 //! The symbols of open names, with the imports that they take.
-ghost use Rattle.std.specs.Prelude.{◌≡◌, Some, map, option_and_then, filter, filter_map, slice_index_or, None, ◌++◌, IfOk, OnOk};
+ghost use Rattle.std.specs.Prelude.{◌≡◌, ◌++◌, [], Some, map, filter, filter_map, IfOk, OnOk};
 ghost use Rattle.std.specs.List.{cons_option};
 ghost use Rattle.std.specs.Option.{option_or};
 ghost use Rattle.link_program.specs.name_entries.Fits.{FitsObjects};
@@ -59,11 +59,11 @@ fn open_at(sight: &Sight, entries: Entries<'_>, at: At) -> Option<Open>
 }
 
 /// Puts a symbol behind others, where there is one.
-fn put(opens: &mut Seq<Open>, open: Option<Open>) -> Result<(), OutOfMemory>
-    ensures { OnOk result (opens.new ≡ opens.old ++ cons_option open []) }
+fn put(opens: &mut Seq<Open>, found: Option<Open>) -> Result<(), OutOfMemory>
+    ensures { OnOk result (opens.new ≡ opens.old ++ cons_option found []) }
 {
-    if let Some(open) = open {
-        opens.push(open)?;
+    if let Some(symbol) = found {
+        opens.push(symbol)?;
     }
     Ok(())
 }

@@ -137,10 +137,11 @@ impl Kept {
     }
 
     /// The place of the part of a number among those of its kind, or 0.
+    #[tactic(auto, using(link_program::proofs::ReadAt::read))]
     pub fn place(&self, part: u32) -> u32
         ensures { result ≡ slice_index_or self.now.places part 0 }
     {
-        match self.places.get(part as usize) {
+        match self.places.as_slice().get(part as usize) {
             Some(place) => *place,
             None => 0,
         }

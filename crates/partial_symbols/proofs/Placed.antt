@@ -101,8 +101,7 @@ module _ (objects : List Object) where
   from_place o object place [] there = tt
   from_place o object place (s ∷ ss) there =
       let e : InputSymbol = entry_in objects o place s in
-      let none : place ≡ place + 0 = omega arith in
-      (
+      let none : place ≡ place + 0 = omega arith in (
         ap (entry_at objects object) none ∙ there 0 e refl,
         from_place o object (place + 1) ss (λ k x is. let moved : place + 1 + k ≡ place + suc k = omega arith in ap (entry_at objects object) moved ∙ there (suc k) x is),
       )

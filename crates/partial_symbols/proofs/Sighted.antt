@@ -65,7 +65,7 @@ module _ (names : List (List ℕ)) (differ : IsDistinct bytes_eq names) (n : ℕ
   winner_seen ws held =
       firsts_of None winner_number (λ (w : Winner) (c : Option Spot). option_or c (Some (winner_spot w))) (λ (c : Option Spot). c) (λ (w : Winner). true) winner_spot (λ w c. refl) (length names) (map (told_winner names) ws) n refl below
       ∙ found_told (told_winner names) (λ (w : Winner). is_number n (winner_number w) && true) (λ (w : InputSymbol). not (w.input == 0) && is_named name w) winner_spot entry_spot (λ e. refl) ws
-        (all_from (HeldOf names) _ winner_test ws held)
+      (all_from (HeldOf names) _ winner_test ws held)
 
 -- ---- entries
 
@@ -210,5 +210,5 @@ module _ (mode : Mode) (objects : List Object) (names : List (List ℕ)) (differ
       let imported : InputSymbol → Bool = λ e. is_some e.import in
       ap (option_map (import_there objects)) (firsts_of empty_column fact_number one_more (λ (c : Column). c.explicit_import) (λ (f : Fact). stands_on_import f && f.explicit) at_of (λ f c. refl) (length names) facts n refl is_below)
       ∙ (import_at_place (λ (f : Fact). is_number n f.number && (stands_on_import f && f.explicit)) (λ (e : InputSymbol). is_number n (entry_number names e) && (not e.defines && (explicit e && imported e)))
-        (λ s. ap (λ b. is_number n (entry_number names s.entry) && b) (sym (and_assoc (not s.entry.defines) (imported s.entry) (explicit s.entry)) ∙ ap (λ b. not s.entry.defines && b) (and_turned (imported s.entry) (explicit s.entry))))
+      (λ s. ap (λ b. is_number n (entry_number names s.entry) && b) (sym (and_assoc (not s.entry.defines) (imported s.entry) (explicit s.entry)) ∙ ap (λ b. not s.entry.defines && b) (and_turned (imported s.entry) (explicit s.entry))))
       ∙ (ap (option_map (λ (e : InputSymbol). e.import)) (first_ref (λ (e : InputSymbol). explicit e && imported e) ∙ sym (find_filter imported explicit refs_here)) ∙ least_found (filter explicit refs_here)))

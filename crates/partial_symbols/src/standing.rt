@@ -269,11 +269,7 @@ fn add_object(
 }
 
 /// What is known of names, by these tables.
-fn sight_in(
-    alloc: Global,
-    tables: &Tables,
-    entries: Entries<'_>,
-) -> Result<Sight, OutOfMemory>
+fn sight_in(alloc: Global, tables: &Tables, entries: Entries<'_>) -> Result<Sight, OutOfMemory>
     requires { FitsObjects entries }
     ensures { IfOk result (λ v. v ≡ sight_of tables.now entries.entry.names.now.names entries.entry.objects.now) }
 {
@@ -289,11 +285,7 @@ fn sight_in(
 }
 
 /// The symbols that stand in the object, by what is known of names.
-fn standing_in(
-    alloc: Global,
-    sight: &Sight,
-    entries: Entries<'_>,
-) -> Result<Standing, OutOfMemory>
+fn standing_in(alloc: Global, sight: &Sight, entries: Entries<'_>) -> Result<Standing, OutOfMemory>
     requires { FitsObjects entries }
     ensures { IfOk result (λ s. s ≡ all_stood sight.now (length entries.entry.names.now.names) (facts_of entries.entry.names.now.names entries.entry.objects.now)) }
 {
