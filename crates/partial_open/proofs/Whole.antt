@@ -227,7 +227,7 @@ module _ (p : Program) (strict : p.plan.loose_calls ≡ false) (rise : InputsRis
 
     own : (parts : ObjectParts) → ArePartsOf p.objects o parts → by_object o ≡ list_any (λ m. m == k) (named_in o parts)
     own parts are =
-        parts_name p.objects (resolved o) means refl e all (drop (length parts.imports.functions) parts.dropped_functions) parts.dropped_segments of_functions are.segments
+        parts_name p.objects (resolved o) means refl e all (drop (length parts.imports.functions) parts.dropped_functions) parts.dropped_segments of_functions (λ j g. are.segments j)
         ∙ any_agree (is_e p.objects (resolved o) means refl e) (λ m. m == k) own_symbol (named_in o parts)
       where
         imported : length (function_imports o) ≡ length parts.imports.functions

@@ -168,7 +168,7 @@ pub fn kept_of(alloc: Global, program: Program<'_>) -> Result<Kept, OutOfMemory>
 }
 
 /// The place of a part of an object among those of its kind, by the chunks of all parts.
-fn place_in(chunks: &ChunkTable, kept: &Kept, chunk: Chunk) -> u32
+pub fn place_in(chunks: &ChunkTable, kept: &Kept, chunk: Chunk) -> u32
     ensures { result ≡ place_in kept.now chunks.now chunk }
 {
     if chunk.input == 0 {

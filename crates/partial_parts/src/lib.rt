@@ -3,4 +3,4 @@
 
 mod kept;
 
-pub use kept::{Kept, kept_of, place_of};
+pub use kept::{Kept, kept_of, place_in, place_of};

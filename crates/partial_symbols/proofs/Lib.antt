@@ -6,6 +6,6 @@ mod Placed
 mod Sighted
 mod Named
 mod Stands
-mod Numbered
+pub mod Numbered
 pub mod Whole
 mod Referring
