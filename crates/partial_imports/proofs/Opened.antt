@@ -1,8 +1,10 @@
 -- The symbols of open names that are found are those of the definition.
-use Rattle.std.proofs.Common.{◌≡◌, ℕ, Bool, true, false, not, ◌&&◌, cond, List, [], ◌∷◌, map, filter, filter_map, flat_map, slice_get, get_or, Option, Some, None, option_map, option_and_then, refl, sym, ap, subst, ◌∙◌}
+use Rattle.std.proofs.Common.{◌≡◌, ℕ, ◌+◌, ◌<◌, Bool, true, false, not, ◌&&◌, cond, List, [], ◌∷◌, ◌++◌, map, take, length, filter, filter_map, flat_map, slice_get, get_or, Option, Some, None, option_map, option_and_then, refl, sym, ap, subst, ◌∙◌}
 use Rattle.std.specs.Prelude.{if◌then◌else◌}
 use Rattle.std.specs.Option.{option_or}
 use Rattle.std.specs.List.{AllByRecursion, cons_option}
+use Rattle.std.proofs.lemmas.List.{take_more}
+use Rattle.std.proofs.lemmas.List.Elements.{filter_map-append}
 use Rattle.std.proofs.lemmas.Option.{same_Some, none-some}
 use Rattle.link_program.specs.wl_base.Choice.{first_some}
 use Rattle.link_program.specs.wl_base.Names.{number_of}
@@ -27,6 +29,13 @@ use Rattle.partial_symbols.proofs.Held.{HeldWhere, numbered, held_objects}
 use Rattle.partial_symbols.proofs.Whole.{symbols_all}
 use Rattle.partial_imports.specs.declared.opens.Open.{Open}
 use Rattle.partial_imports.specs.Opens.{open_with, open_by, open_at, SeenOpen, open_seen, told_open}
+
+-- one item more that may be found
+pub found_more : {A B : Type 0} (f : A → Option B) (xs : List A) (i : ℕ) (d : A) → i < length xs → (old new : List B) → new ≡ old ++ cons_option (f (get_or xs i d)) [] → old ≡ filter_map f (take i xs)
+    → new ≡ filter_map f (take (i + 1) xs)
+found_more f xs i d lt old new put so_far =
+    put ∙ (ap (λ os. os ++ cons_option (f (get_or xs i d)) []) so_far
+    ∙ sym (ap (filter_map f) (take_more xs i d lt) ∙ filter_map-append f (take i xs) (get_or xs i d ∷ [])))
 
 map_or : {A B : Type 0} (f : A → B) (a b : Option A) → option_map f (option_or a b) ≡ option_or (option_map f a) (option_map f b)
 map_or f None b = refl
