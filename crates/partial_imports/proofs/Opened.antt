@@ -1,16 +1,17 @@
 -- The symbols of open names that are found are those of the definition.
-use Rattle.std.proofs.Common.{◌≡◌, ℕ, ◌+◌, ◌<◌, Bool, true, false, not, ◌&&◌, cond, List, [], ◌∷◌, ◌++◌, map, take, length, filter, filter_map, flat_map, slice_get, get_or, Option, Some, None, option_map, option_and_then, refl, sym, ap, subst, ◌∙◌}
+use Rattle.std.proofs.Common.{◌≡◌, ℕ, suc, append-nil, ◌+◌, ◌<◌, Bool, true, false, not, ◌&&◌, cond, List, [], ◌∷◌, ◌++◌, map, take, length, filter, filter_map, flat_map, slice_get, get_or, Option, Some, None, option_map, option_and_then, refl, sym, ap, subst, ◌∙◌}
 use Rattle.std.specs.Prelude.{if◌then◌else◌}
 use Rattle.std.specs.Option.{option_or}
 use Rattle.std.specs.List.{AllByRecursion, cons_option}
-use Rattle.std.proofs.lemmas.List.{take_more}
-use Rattle.std.proofs.lemmas.List.Elements.{filter_map-append}
+use Rattle.std.proofs.lemmas.List.{take_more, length-append}
+use Rattle.std.proofs.lemmas.List.Elements.{filter_map-append, filter-append}
 use Rattle.std.proofs.lemmas.Option.{same_Some, none-some}
 use Rattle.link_program.specs.wl_base.Choice.{first_some}
 use Rattle.link_program.specs.wl_base.Names.{number_of}
 use Rattle.link_program.specs.linking_section.Flags.{is_explicit}
+use Rattle.link_program.specs.linking_section.declared.symbol.SymbolKind.{SymbolKind}
 use Rattle.link_program.specs.object_file.declared.object.Object.{Object}
-use Rattle.link_program.specs.name_rules.Entries.{InputSymbol, ImportKey, is_entry, name_of, symbols_of}
+use Rattle.link_program.specs.name_rules.Entries.{InputSymbol, ImportKey, is_entry, is_kind, name_of, symbols_of}
 use Rattle.link_program.specs.name_rules.Meanings.{least_import}
 use Rattle.link_program.specs.name_entries.View.{entry_number}
 use Rattle.link_program.specs.link_rules.Program.{Program}
@@ -28,7 +29,7 @@ use Rattle.partial_symbols.specs.Known.{entry_spot, symbol_there, import_there, 
 use Rattle.partial_symbols.proofs.Held.{HeldWhere, numbered, held_objects}
 use Rattle.partial_symbols.proofs.Whole.{symbols_all}
 use Rattle.partial_imports.specs.declared.opens.Open.{Open}
-use Rattle.partial_imports.specs.Opens.{open_with, open_by, open_at, SeenOpen, open_seen, told_open}
+use Rattle.partial_imports.specs.Opens.{open_with, open_by, open_at, SeenOpen, open_seen, told_open, is_of, count_in, one_more}
 
 -- one item more that may be found
 pub found_more : {A B : Type 0} (f : A → Option B) (xs : List A) (i : ℕ) (d : A) → i < length xs → (old new : List B) → new ≡ old ++ cons_option (f (get_or xs i d)) [] → old ≡ filter_map f (take i xs)
@@ -82,7 +83,7 @@ module _ (d : Data) (p : Program) (is : IsProgram d p) (v : Sight) (seen : IsSig
           map_or (import_there p.objects) c.explicit_import c.import
           ∙ ((λ i. option_or (first i) (second i))
           ∙ both_first (least_import (filter (λ (r : InputSymbol). is_explicit r.symbol) (partial.name_references p (name_of e)))) (least_import (partial.name_references p (name_of e)))) in
-          λ i. Some (record { symbol = there i; import = imports i })
+          λ i. Some (record { symbol = there i; kind = e.symbol.kind; import = imports i })
 
   agrees : (at : At) (e : InputSymbol) → symbol_there p.objects at ≡ Some e → HeldWhere names e → Agrees at e
   agrees at e there held = by (is_entry e) refl
@@ -122,3 +123,45 @@ module _ (d : Data) (p : Program) (is : IsProgram d p) (v : Sight) (seen : IsSig
       ∙ each symbols (partial.standing p) same
       (kept_all (HeldWhere names) (partial.stands p) (all_symbols p)
       (subst (AllByRecursion (HeldWhere names)) (sym (symbols_all d p is)) (held_objects names p.objects p.objects is.numbers.symbols_held)))
+
+-- ---- how many there are of a kind
+
+pub counted_more : (kind : SymbolKind) (xs : List Open) (i : ℕ) (d : Open) → i < length xs → (old new : ℕ) → new ≡ one_more old (is_of kind (get_or xs i d).kind) → old ≡ count_in kind (take i xs) → new ≡ count_in kind (take (i + 1) xs)
+counted_more kind xs i d lt old new put so_far =
+    put ∙ (ap (λ n. one_more n (is_of kind (get_or xs i d).kind)) so_far
+    ∙ (by (is_of kind (get_or xs i d).kind)
+    ∙ sym (ap (count_in kind) (take_more xs i d lt) ∙ ap length (filter-append (λ (o : Open). is_of kind o.kind) (take i xs) (get_or xs i d ∷ [])))))
+  where
+    by : (b : Bool) → one_more (count_in kind (take i xs)) b ≡ length (filter (λ (o : Open). is_of kind o.kind) (take i xs) ++ cond b (get_or xs i d ∷ []) [])
+    by true = sym (length-append (filter (λ (o : Open). is_of kind o.kind) (take i xs)) (get_or xs i d ∷ []))
+    by false = ap length (sym (append-nil (filter (λ (o : Open). is_of kind o.kind) (take i xs))))
+
+of_opens : (objects : List Object) (kind : SymbolKind) (opens : List Open) → count_in kind opens ≡ length (filter (λ (s : SeenOpen). is_of kind s.kind) (map (open_seen objects) opens))
+of_opens objects kind [] = refl
+of_opens objects kind (o ∷ opens) = by (is_of kind o.kind) (of_opens objects kind opens)
+  where
+    by : (b : Bool) → count_in kind opens ≡ length (filter (λ (s : SeenOpen). is_of kind s.kind) (map (open_seen objects) opens))
+        → length (cond b (o ∷ filter (λ (o : Open). is_of kind o.kind) opens) (filter (λ (o : Open). is_of kind o.kind) opens))
+        ≡ length (cond b (open_seen objects o ∷ filter (λ (s : SeenOpen). is_of kind s.kind) (map (open_seen objects) opens)) (filter (λ (s : SeenOpen). is_of kind s.kind) (map (open_seen objects) opens)))
+    by true rest = ap suc rest
+    by false rest = rest
+
+of_told : (p : Program) (kind : SymbolKind) (es : List InputSymbol) → length (filter (λ (s : SeenOpen). is_of kind s.kind) (map (told_open p) (filter (partial.is_open p) es))) ≡ length (filter (λ (e : InputSymbol). partial.is_open p e && is_kind kind e) es)
+of_told p kind [] = refl
+of_told p kind (e ∷ es) = by (partial.is_open p e) (is_kind kind e) refl (of_told p kind es)
+  where
+    told : List SeenOpen
+    told = filter (λ (s : SeenOpen). is_of kind s.kind) (map (told_open p) (filter (partial.is_open p) es))
+
+    rest : List InputSymbol
+    rest = filter (λ (e : InputSymbol). partial.is_open p e && is_kind kind e) es
+
+    by : (a b : Bool) → is_kind kind e ≡ b → length told ≡ length rest
+        → length (filter (λ (s : SeenOpen). is_of kind s.kind) (map (told_open p) (cond a (e ∷ filter (partial.is_open p) es) (filter (partial.is_open p) es)))) ≡ length (cond (a && b) (e ∷ rest) rest)
+    by true true is again = ap (λ c. length (cond c (told_open p e ∷ told) told)) is ∙ ap suc again
+    by true false is again = ap (λ c. length (cond c (told_open p e ∷ told) told)) is ∙ again
+    by false b is again = again
+
+-- The count of a kind is that of the definition.
+pub count_is : (p : Program) (kind : SymbolKind) (opens : List Open) → map (open_seen p.objects) opens ≡ map (told_open p) (filter (partial.is_open p) (partial.standing p)) → count_in kind opens ≡ length (partial.open_of p kind)
+count_is p kind opens same = of_opens p.objects kind opens ∙ (ap (λ ss. length (filter (λ (s : SeenOpen). is_of kind s.kind) ss)) same ∙ of_told p kind (partial.standing p))

@@ -1,8 +1,9 @@
 -- The symbols of names that no object defines, with the imports that they take.
-use Rattle.std.specs.Prelude.{ℕ, List, [], ◌∷◌, filter, slice_index_or, Option, Some, None, option_map, option_and_then}
+use Rattle.std.specs.Prelude.{ℕ, ◌+◌, ◌==◌, Bool, List, [], ◌∷◌, filter, length, if◌then◌else◌, slice_index_or, Option, Some, None, option_map, option_and_then}
 use Rattle.std.specs.Option.{option_or}
 use Rattle.link_program.specs.wl_base.Choice.{first_some}
-use Rattle.link_program.specs.linking_section.Flags.{is_explicit}
+use Rattle.link_program.specs.linking_section.Flags.{is_explicit, kind_code}
+use Rattle.link_program.specs.linking_section.declared.symbol.SymbolKind.{SymbolKind}
 use Rattle.link_program.specs.object_file.declared.object.Object.{Object}
 use Rattle.link_program.specs.name_rules.Entries.{InputSymbol, ImportKey, name_of}
 use Rattle.link_program.specs.name_rules.Meanings.{least_import}
@@ -30,17 +31,30 @@ open_at v names objects at = option_and_then (λ e. open_by v at e (entry_number
 
 -- ---- what they tell
 
--- A symbol, and the import that it takes, where it is that of a reference.
+-- A symbol, its kind, and the import that it takes, where it is that of a reference.
 pub record SeenOpen : Type 0 where
   pub symbol : Option InputSymbol
+  pub kind : SymbolKind
   pub import : Option (Option ImportKey)
 
 abbrev pub open_seen : List Object → Open → SeenOpen
-open_seen objects o = record { symbol = symbol_there objects o.at; import = option_map (import_there objects) o.import }
+open_seen objects o = record { symbol = symbol_there objects o.at; kind = o.kind; import = option_map (import_there objects) o.import }
 
 abbrev pub told_open : Program → InputSymbol → SeenOpen
 told_open p e = record {
   symbol = Some e;
+  kind = e.symbol.kind;
   import = option_map Some (first_some
       (least_import (filter (λ r. is_explicit r.symbol) (name_references p (name_of e))) ∷ least_import (name_references p (name_of e)) ∷ []));
 }
+
+-- ---- how many there are of a kind
+
+abbrev pub is_of : SymbolKind → SymbolKind → Bool
+is_of kind other = kind_code other == kind_code kind
+
+abbrev pub count_in : SymbolKind → List Open → ℕ
+count_in kind opens = length (filter (λ o. is_of kind o.kind) opens)
+
+abbrev pub one_more : ℕ → Bool → ℕ
+one_more n b = if b then n + 1 else n

@@ -3,4 +3,4 @@
 
 mod opens;
 
-pub use opens::{Open, opens_of};
+pub use opens::{Open, count_of, opens_of};

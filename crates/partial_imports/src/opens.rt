@@ -1,5 +1,5 @@
 //! The symbols of open names, with the imports that they take.
-ghost use Rattle.std.specs.Prelude.{◌≡◌, ◌++◌, [], Some, map, filter, filter_map, IfOk, OnOk};
+ghost use Rattle.std.specs.Prelude.{◌≡◌, ◌++◌, [], Some, map, filter, filter_map, length, IfOk, OnOk};
 ghost use Rattle.std.specs.List.{cons_option};
 ghost use Rattle.std.specs.Option.{option_or};
 ghost use Rattle.link_program.specs.name_entries.Fits.{FitsObjects};
@@ -8,7 +8,7 @@ ghost use Rattle.link_program.specs.declared.program.Program.{Program as Data};
 ghost use Rattle.link_program.specs.Program.{IsProgram};
 ghost use Rattle.partial_rules.specs.Partial as partial;
 ghost use Rattle.partial_symbols.specs.Known.{symbol_there, IsSight};
-ghost use Rattle.partial_imports.specs.Opens.{open_at, open_seen, told_open};
+ghost use Rattle.partial_imports.specs.Opens.{open_at, open_seen, told_open, is_of, one_more, count_in};
 
 use link_program::Entries;
 use linking_section::SymbolKind;
@@ -99,4 +99,41 @@ pub fn opens_of(
 {
     let opens = opens_in(alloc, sight, entries, symbols)?;
     Ok(opens)
+}
+
+fn is_of(kind: SymbolKind, other: SymbolKind) -> bool
+    ensures { result ≡ is_of kind other }
+{
+    other.code() == kind.code()
+}
+
+/// The number, or one more. One of 2^32 is answered as want of memory.
+fn one_more(count: u32, more: bool) -> Result<u32, OutOfMemory>
+    ensures { IfOk result (λ n. n ≡ one_more count more) }
+{
+    if !more {
+        return Ok(count);
+    }
+    match count.checked_add(1) {
+        Some(n) => Ok(n),
+        None => Err(OutOfMemory),
+    }
+}
+
+fn count_in(opens: &[Open], kind: SymbolKind) -> Result<u32, OutOfMemory>
+    ensures { IfOk result (λ n. n ≡ count_in kind opens.now) }
+{
+    let mut count = 0;
+    for found in opens {
+        count = one_more(count, is_of(kind, found.kind))?;
+    }
+    Ok(count)
+}
+
+/// How many of the open names are of a kind.
+pub fn count_of(opens: &[Open], kind: SymbolKind) -> Result<u32, OutOfMemory>
+    ensures { IfOk result (λ n. (p : Rules) → map (open_seen p.objects) opens.now ≡ map (told_open p) (filter (partial.is_open p) (partial.standing p)) → n ≡ length (partial.open_of p kind)) }
+{
+    let count = count_in(opens, kind)?;
+    Ok(count)
 }

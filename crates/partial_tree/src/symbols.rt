@@ -170,6 +170,13 @@ impl Made {
         }
     }
 
+    /// The records.
+    fn into_rows(self) -> Seq<Row>
+        ensures { result ≡ self.rows }
+    {
+        self.rows
+    }
+
     /// The index of an open symbol.
     fn open_index(&self, kind: SymbolKind) -> u32
         ensures { result ≡ open_index self.now kind }
@@ -230,12 +237,7 @@ impl Made {
     }
 
     /// The symbol at a place more.
-    fn add_at(
-        &mut self,
-        look: Look<'_>,
-        entries: Entries<'_>,
-        at: At,
-    ) -> Result<(), OutOfMemory>
+    fn add_at(&mut self, look: Look<'_>, entries: Entries<'_>, at: At) -> Result<(), OutOfMemory>
         requires { FitsObjects entries }
         ensures { OnOk result (self.new ≡ with_at (look_seen look.entry) entries.entry.names.now.names entries.entry.objects.now self.old at) }
     {
@@ -277,5 +279,6 @@ pub fn rows_of(
         → map (row_seen p.objects) rows ≡ map Some (map (partial.symbol_for p) (partial.standing p))) }
 {
     let made = made_of(alloc, look, entries, symbols)?;
-    Ok(made.rows)
+    let rows = made.into_rows();
+    Ok(rows)
 }

@@ -6,6 +6,7 @@ use Rattle.partial_tree.proofs.symbols.rows_of.Goals as goal
 
 pub returns : goal.returns
 returns c = λ d p is objects names look standing.
-    ap (λ (m : Made). map (row_seen p.objects) m.rows)
+    ap (map (row_seen p.objects)) c.into_rows-rows.ensures
+    ∙ (ap (λ (m : Made). map (row_seen p.objects) m.rows)
     (c.in_ok-made.ensures ∙ (λ i. fold (with_at (look_seen c.args.look) (sym names i).names (sym objects i)) nothing_made c.args.symbols.now))
-    ∙ rows_are d p is (look_seen c.args.look) look c.args.symbols.now standing
+    ∙ rows_are d p is (look_seen c.args.look) look c.args.symbols.now standing)
