@@ -1,10 +1,9 @@
 -- Flags of what functions and segments name.
-use Rattle.std.proofs.Common.{◌≡◌, ℕ, zero, suc, ◌+◌, ◌<◌, ◌≤◌, Bool, true, false, List, [], ◌∷◌, ◌++◌, map, filter_map, fold, drop, length, slice_get, get_or, Option, Some, None, option_map, refl, sym, ap, ◌∙◌, arith}
+use Rattle.std.proofs.Common.{◌≡◌, ℕ, zero, suc, ◌+◌, ◌<◌, ◌≤◌, Bool, false, List, [], ◌∷◌, ◌++◌, map, filter_map, fold, drop, length, slice_get, get_or, Option, Some, None, refl, sym, ap, ◌∙◌, arith}
 use Rattle.std.specs.Prelude.{if◌then◌else◌, replicate}
 use Rattle.std.proofs.lemmas.List.Elements.{filter_map-append}
 use Rattle.std.proofs.Math.ListN.{drop_of_length-le}
 use Rattle.link_program.specs.reloc_section.declared.entry.Reloc.{Reloc}
-use Rattle.link_program.specs.body_windows.declared.operand.Operand.{Operand}
 use Rattle.link_program.specs.body_windows.declared.operand.Operand.TheVariants.{Number}
 use Rattle.link_program.specs.body_windows.declared.operands.Reference.{Reference}
 use Rattle.link_program.specs.body_windows.Operands.{operand_of, spread}

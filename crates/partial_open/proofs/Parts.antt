@@ -1,10 +1,7 @@
 -- What the kept parts of an object name, by the places of its symbols, is what the references of these parts name.
-use Rattle.std.proofs.Common.{◌≡◌, ℕ, zero, suc, ◌+◌, ◌<◌, ◌≤◌, ◌==◌, Bool, true, false, not, ◌&&◌, ◌||◌, cond, List, [], ◌∷◌, ◌++◌, map, filter, filter_map, flat_map, drop, length, slice_get, get_or, Option, Some, None, option_map, ℤ, refl, sym, ap, ◌∙◌, arith}
+use Rattle.std.proofs.Common.{◌≡◌, ℕ, zero, suc, ◌+◌, Bool, true, false, not, ◌&&◌, ◌||◌, cond, List, [], ◌∷◌, ◌++◌, map, filter, filter_map, slice_get, get_or, Option, Some, None, option_map, ℤ, refl, sym, ap, ◌∙◌, arith}
 use Rattle.std.specs.Prelude.{if◌then◌else◌}
 use Rattle.std.specs.List.{list_any, cons_option}
-use Rattle.std.proofs.lemmas.Bool.{eqb-true, eq-eqb}
-use Rattle.std.proofs.lemmas.Bool.Decides.{nat_tests}
-use Rattle.std.proofs.lemmas.List.{length-map}
 use Rattle.std.proofs.lemmas.List.Folds.{list_any-append}
 use Rattle.std.proofs.lemmas.Option.{slice_get-map, same_Some, none-some}
 use Rattle.link_program.specs.linking_section.declared.symbol.Symbol.{Symbol}
@@ -16,9 +13,9 @@ use Rattle.link_program.specs.object_columns.declared.functions.FunctionDef.{Fun
 use Rattle.link_program.specs.object_columns.declared.segments.SegmentDef.{SegmentDef}
 use Rattle.link_program.specs.object_file.declared.object.Object.{Object}
 use Rattle.link_program.specs.round_rules.Rounds.{Candidate}
-use Rattle.link_program.specs.name_rules.Entries.{InputSymbol, same_entry, symbols_of, entries_from, entry_in}
+use Rattle.link_program.specs.name_rules.Entries.{InputSymbol, same_entry, entries_from, entry_in}
 use Rattle.link_program.specs.name_rules.Meanings.{Meaning, Resolved}
-use Rattle.link_program.specs.link_rules.Program.{Part, Ref, Named, a_symbol, a_type, named_ref, refs, ref_to, ref_in, operand_named, window_named, indexed, function_part, segment_part, global_part, parts_in, is_part_kept}
+use Rattle.link_program.specs.link_rules.Program.{Part, Ref, Named, a_symbol, named_ref, refs, ref_to, ref_in, operand_named, window_named, indexed, function_part, segment_part, global_part, parts_in, is_part_kept}
 use Rattle.partial_open.specs.Named.{symbol_named, function_symbols, segment_symbols, kept_lists}
 
 abbrev pub option_any : {A : Type 0} → (A → Bool) → Option A → Bool

@@ -1,5 +1,5 @@
 -- The first fault of objects is that of the definition.
-use Rattle.std.proofs.Common.{◌≡◌, ℕ, zero, suc, ◌+◌, ◌<◌, ◌≤◌, ◌==◌, nat_le, Bool, true, false, not, ◌&&◌, ◌||◌, cond, List, [], ◌∷◌, ◌++◌, map, filter, filter_map, flat_map, find, fold, drop, replicate, length, slice_get, get_or, set, Option, Some, None, option_map, pos, refl, sym, ap, subst, ◌∙◌, arith, length-set, get_or-set_same, get_or-set_other}
+use Rattle.std.proofs.Common.{◌≡◌, ℕ, zero, suc, ◌+◌, ◌<◌, ◌≤◌, ◌==◌, nat_le, Bool, true, false, not, ◌&&◌, ◌||◌, cond, List, [], ◌∷◌, ◌++◌, map, filter_map, flat_map, find, fold, drop, replicate, length, slice_get, get_or, set, Option, Some, None, option_map, pos, refl, sym, ap, subst, ◌∙◌, arith, length-set, get_or-set_same, get_or-set_other}
 use Rattle.std.specs.Prelude.{if◌then◌else◌}
 use Rattle.std.specs.Option.{option_or}
 use Rattle.std.specs.List.{list_any, cons_option}
@@ -9,30 +9,28 @@ use Rattle.std.proofs.lemmas.List.{length-map, length-replicate, get_or-replicat
 use Rattle.std.proofs.lemmas.List.Folds.{list_any-append, find-append}
 use Rattle.std.proofs.lemmas.Option.{slice_get-map, slice_get_within, same_Some, none-some}
 use Rattle.link_program.specs.wl_base.Choice.{first_some}
-use Rattle.link_program.specs.wl_base.declared.fault.Fault.{Fault}
-use Rattle.link_program.specs.linking_section.Flags.{is_undefined, is_local, is_local_definition}
+use Rattle.link_program.specs.linking_section.Flags.{is_undefined, is_local}
 use Rattle.link_program.specs.linking_section.declared.init.InitFunc.{InitFunc}
 use Rattle.link_program.specs.linking_section.declared.symbol.Symbol.{Symbol}
 use Rattle.link_program.specs.wasm_types.declared.import.Import.{Import}
 use Rattle.link_program.specs.linking_section.declared.symbol.SymbolKind.TheVariants.{Function}
 use Rattle.link_program.specs.object_columns.declared.functions.FunctionDef.{FunctionDef}
-use Rattle.link_program.specs.object_columns.declared.segments.SegmentDef.{SegmentDef}
 use Rattle.link_program.specs.object_file.declared.object.Object.{Object}
 use Rattle.link_program.specs.object_file.Spaces.{function_imports}
 use Rattle.link_program.specs.made_symbols.declared.mode.Mode.TheVariants.{Plain}
 use Rattle.link_program.specs.made_symbols.Made.{MadeSymbol, made}
 use Rattle.link_program.specs.round_rules.Rounds.{Candidate}
-use Rattle.link_program.specs.name_rules.Entries.{InputSymbol, same_entry, symbols_of, entries_from, entry_in}
+use Rattle.link_program.specs.name_rules.Entries.{InputSymbol, same_entry, symbols_of, entries_from}
 use Rattle.link_program.specs.name_rules.Meanings.{Meaning, Resolved, resolve, resolved_in, uses_of, meaning}
 use Rattle.link_program.specs.name_entries.View.{InputsRise}
 use Rattle.link_program.specs.name_entries.Parts.{ArePartsOf, AreParts}
 use Rattle.link_program.specs.name_entries.declared.parts.ObjectParts.{ObjectParts}
 use Rattle.link_program.specs.link_rules.Program.{Program, Part, Ref, a_symbol, named_ref, refs, ref_to, InitCall, init_call, init_calls_in, init_calls, is_skipped, by_priority, insert_call, function_part, parts_in, parts_of, is_part_kept, made_parts_from, made_kind, option_onto, linker_made, no_source, loose_parts}
-use Rattle.link_program.specs.link_rules.Marks.{refs_of, all_symbols}
+use Rattle.link_program.specs.link_rules.Marks.{refs_of}
 use Rattle.link_program.specs.declared.program.Program.{Program as Data}
 use Rattle.link_program.specs.Program.{IsProgram}
 use Rattle.partial_rules.specs.Partial.{open_local}
-use Rattle.partial_open.specs.Named.{function_symbols, segment_symbols, kept_lists, named_in, marked, flags_of}
+use Rattle.partial_open.specs.Named.{named_in, marked, flags_of}
 use Rattle.partial_open.specs.Lost.{is_lost, fault_of, first_flagged, object_fault, first_fault}
 use Rattle.partial_open.proofs.Parts.{option_any, any_agree, any_filter, symbol_at, is_e, parts_name, parts_none}
 

@@ -1,6 +1,5 @@
 -- The symbols that the kept parts of an object name, by their places.
 use Rattle.std.specs.Prelude.{ℕ, ◌+◌, Bool, true, false, List, [], ◌∷◌, ◌++◌, map, filter_map, fold, drop, length, replicate, slice_set, slice_index_or, if◌then◌else◌, Option, Some, None}
-use Rattle.link_program.specs.reloc_section.declared.entry.Reloc.{Reloc}
 use Rattle.link_program.specs.body_windows.declared.operand.Operand.{Operand}
 use Rattle.link_program.specs.body_windows.declared.operand.Operand.TheVariants as operands
 use Rattle.link_program.specs.object_columns.declared.functions.FunctionDef.{FunctionDef}

@@ -1,5 +1,5 @@
 -- Flags that are set one after another.
-use Rattle.std.specs.Prelude.{ℕ, Bool, List, map, fold, Option, Some, None}
+use Rattle.std.specs.Prelude.{ℕ, Bool, List, fold, Option, Some, None}
 use Rattle.link_program.specs.reloc_section.declared.entry.Reloc.{Reloc}
 use Rattle.link_program.specs.body_windows.declared.operands.Reference.{Reference}
 use Rattle.link_program.specs.body_windows.Operands.{operand_of}

@@ -1,19 +1,19 @@
 -- The kept parts of objects, one part after another, are those of the definition.
-use Rattle.std.proofs.Common.{◌≡◌, ℕ, zero, suc, ◌+◌, ◌<◌, ◌≤◌, ◌==◌, Bool, true, false, not, ◌&&◌, cond, nat_lt, List, [], ◌∷◌, ◌++◌, map, filter, fold, take, length, slice_get, get_or, position, Option, Some, None, option_map, unwrap_or, refl, sym, ap, subst, ◌∙◌, arith, append_assoc, append-nil}
+use Rattle.std.proofs.Common.{◌≡◌, ℕ, zero, suc, ◌+◌, ◌<◌, ◌==◌, Bool, true, false, not, ◌&&◌, cond, nat_lt, List, [], ◌∷◌, ◌++◌, map, filter, fold, length, slice_get, get_or, position, Option, Some, None, option_map, unwrap_or, refl, sym, ap, subst, ◌∙◌, arith, append_assoc, append-nil}
 use Rattle.std.specs.Prelude.{if◌then◌else◌}
-use Rattle.std.specs.List.{position_or_len, AllByRecursion}
-use Rattle.std.proofs.lemmas.Bool.{eqb-true, eq-eqb}
+use Rattle.std.specs.List.{position_or_len}
+use Rattle.std.proofs.lemmas.Bool.{eqb-true}
 use Rattle.std.proofs.lemmas.Bool.Decides.{nat_tests}
 use Rattle.std.proofs.lemmas.List.{length-append}
-use Rattle.std.proofs.lemmas.Option.{slice_get_within, same_Some, none-some}
+use Rattle.std.proofs.lemmas.Option.{same_Some, none-some}
 use Rattle.link_program.specs.mark_bits.declared.chunk.Chunk.{Chunk}
 use Rattle.link_program.specs.link_rules.Program.{Program, Part, same_chunk}
 use Rattle.link_program.specs.link_rules.Marks.{is_object_part}
 use Rattle.link_program.specs.declared.program.Program.{Program as Data}
 use Rattle.link_program.specs.declared.part.Part.{Part as Told}
-use Rattle.link_program.specs.Program.{IsProgram, ChunksDiffer}
+use Rattle.link_program.specs.Program.{IsProgram}
 use Rattle.link_program.specs.Seen.{SeenPart, seen_part, told_part}
-use Rattle.link_program.proofs.Chunks.{chunk_is, chunk_itself}
+use Rattle.link_program.proofs.Chunks.{chunk_is}
 use Rattle.partial_rules.specs.Partial as partial
 use Rattle.partial_parts.specs.Kept.{Kept, none_kept, passed, a_function, a_segment, a_global, by_kind, kept_chunk, kept_parts, place_at, place_in, AreKept}
 

@@ -1,5 +1,5 @@
 -- The kept parts of objects by kind, one part after another.
-use Rattle.std.specs.Prelude.{◌≡◌, ℕ, ◌<◌, ◌==◌, false, List, [], ◌∷◌, ◌++◌, map, fold, length, position, slice_get, slice_index_or, if◌then◌else◌, Option, Some, None, unwrap_or}
+use Rattle.std.specs.Prelude.{◌≡◌, ℕ, ◌<◌, ◌==◌, false, List, [], ◌∷◌, ◌++◌, map, fold, length, position, slice_get, slice_index_or, if◌then◌else◌, Option, Some, None}
 use Rattle.link_program.specs.mark_bits.declared.chunk.Chunk.{Chunk}
 use Rattle.link_program.specs.link_rules.Program.{Program, same_chunk}
 use Rattle.link_program.specs.declared.part.Part.{Part}

@@ -1,5 +1,5 @@
 -- Lists by the numbers of names that are changed one place after another: what stands at a place is what the items of that number give.
-use Rattle.std.proofs.Common.{◌≡◌, ℕ, ◌+◌, ◌<◌, ◌==◌, Bool, true, false, ◌&&◌, ◌||◌, List, [], ◌∷◌, fold, length, get_or, set, replicate, find, position, Option, Some, None, option_map, refl, sym, ap, subst, ◌∙◌, arith, length-set, get_or-set_same, get_or-set_other}
+use Rattle.std.proofs.Common.{◌≡◌, ℕ, ◌<◌, ◌==◌, Bool, true, false, ◌&&◌, ◌||◌, List, [], ◌∷◌, fold, length, get_or, set, replicate, find, Option, Some, None, option_map, refl, sym, ap, subst, ◌∙◌, arith, length-set, get_or-set_same, get_or-set_other}
 use Rattle.std.specs.Prelude.{if◌then◌else◌, cond}
 use Rattle.std.specs.Option.{option_or}
 use Rattle.std.specs.List.{list_any}

@@ -1,13 +1,13 @@
 -- The names of all entries are held.
-use Rattle.std.proofs.Common.{◌≡◌, ℕ, ◌+◌, Bool, true, false, cond, List, [], ◌∷◌, ◌++◌, map, filter, flat_map, Option, Some, None, IsSome, refl, sym, ◌∙◌, All}
+use Rattle.std.proofs.Common.{◌≡◌, ℕ, ◌+◌, Bool, true, false, cond, List, [], ◌∷◌, map, filter, flat_map, Option, Some, None, IsSome, refl, sym, ◌∙◌, All}
 use Rattle.std.specs.List.{AllByRecursion}
-use Rattle.std.proofs.lemmas.List.Elements.{filter-append, All-head, All-tail}
+use Rattle.std.proofs.lemmas.List.Elements.{All-head, All-tail}
 use Rattle.link_program.specs.wl_base.Names.{number_of}
 use Rattle.link_program.specs.linking_section.declared.symbol.Symbol.{Symbol}
 use Rattle.link_program.specs.object_file.declared.object.Object.{Object}
 use Rattle.link_program.specs.made_symbols.declared.mode.Mode.{Mode}
 use Rattle.link_program.specs.made_symbols.Made.{MadeSymbol, made}
-use Rattle.link_program.specs.link_names.Numbered.{Numbered, AreNumbers, Held, entry_names, is_entry_symbol, symbol_name}
+use Rattle.link_program.specs.link_names.Numbered.{Held, entry_names, is_entry_symbol, symbol_name}
 use Rattle.link_program.specs.name_rules.Entries.{InputSymbol, name_of, is_entry, entries, entries_from, entry_in, symbols_of, made_from}
 use Rattle.link_program.specs.link_rules.Program.{winners_of, is_winner}
 use Rattle.partial_symbols.proofs.Lists.{all_both}

@@ -1,5 +1,5 @@
 -- The symbols that stand, one after another, and their numbers.
-use Rattle.std.proofs.Common.{◌≡◌, ℕ, zero, suc, ◌+◌, ◌<◌, ◌==◌, Bool, true, false, not, ◌&&◌, cond, nat_lt, List, [], ◌∷◌, ◌++◌, map, filter, flat_map, find, fold, length, slice_get, get_or, replicate, position, Option, Some, None, option_map, refl, sym, ap, subst, ◌∙◌, arith, append_assoc, append-nil}
+use Rattle.std.proofs.Common.{◌≡◌, ℕ, zero, suc, ◌+◌, ◌<◌, ◌==◌, Bool, true, false, ◌&&◌, cond, nat_lt, List, [], ◌∷◌, ◌++◌, map, filter, flat_map, find, fold, length, slice_get, get_or, position, Option, Some, None, option_map, refl, sym, ap, subst, ◌∙◌, arith, append_assoc, append-nil}
 use Rattle.std.specs.Prelude.{if◌then◌else◌, bytes_eq}
 use Rattle.std.specs.Option.{option_or}
 use Rattle.std.specs.List.{position_or_len, AllByRecursion, IsDistinct}
@@ -10,11 +10,10 @@ use Rattle.std.proofs.lemmas.Option.{slice_get_within, same_Some, none-some}
 use Rattle.link_program.specs.linking_section.declared.symbol.Symbol.{Symbol}
 use Rattle.link_program.specs.object_file.declared.object.Object.{Object}
 use Rattle.link_program.specs.name_rules.Entries.{InputSymbol, is_entry, is_named, same_entry, symbols_of, entries_from, entry_in}
-use Rattle.link_program.specs.name_entries.View.{InputsRise, entry_at, entry_number, is_number}
+use Rattle.link_program.specs.name_entries.View.{InputsRise, entry_number, is_number}
 use Rattle.link_program.specs.link_rules.Program.{Program}
 use Rattle.partial_rules.specs.Partial as partial
 use Rattle.partial_symbols.specs.declared.facts.Fact.{Fact}
-use Rattle.partial_symbols.specs.declared.facts.At.{At}
 use Rattle.partial_symbols.specs.Facts.{at_of}
 use Rattle.partial_symbols.specs.Columns.{changed_at}
 use Rattle.partial_symbols.specs.Standing.{Sight, Stood, stands, with_number, without_number, stood, none_stood, all_stood}

@@ -1,7 +1,7 @@
 -- The symbols of objects with the places of their objects: what the passes look at is what is told of these.
-use Rattle.std.proofs.Common.{◌≡◌, ℕ, zero, suc, ◌+◌, ◌<◌, ◌==◌, Bool, true, false, ◌&&◌, List, [], ◌∷◌, ◌++◌, map, filter, flat_map, find, length, slice_get, get_or, Option, Some, None, option_map, refl, sym, ap, subst, ◌∙◌, arith}
+use Rattle.std.proofs.Common.{◌≡◌, ℕ, suc, ◌+◌, ◌<◌, ◌==◌, Bool, true, false, ◌&&◌, List, [], ◌∷◌, ◌++◌, map, flat_map, slice_get, get_or, Some, None, option_map, refl, sym, ap, ◌∙◌, arith}
 use Rattle.std.specs.Prelude.{if◌then◌else◌, bytes_eq}
-use Rattle.std.specs.List.{list_any, AllByRecursion, IsDistinct}
+use Rattle.std.specs.List.{AllByRecursion, IsDistinct}
 use Rattle.std.proofs.lemmas.Bool.Decides.{nat_tests}
 use Rattle.std.proofs.lemmas.List.{map-append}
 use Rattle.std.proofs.lemmas.Option.{slice_get-map, get_or_from_slice_get}
@@ -13,7 +13,7 @@ use Rattle.link_program.specs.name_entries.View.{InputsRise, rows_of, entry_at, 
 use Rattle.link_program.proofs.name_entries_lemmas.Numbers.{number_is}
 use Rattle.partial_symbols.specs.declared.facts.Fact.{Fact}
 use Rattle.partial_symbols.specs.Facts.{fact_of, facts_rows, facts_of}
-use Rattle.partial_symbols.proofs.Lists.{all_both, all_from}
+use Rattle.partial_symbols.proofs.Lists.{all_both}
 
 -- A symbol, with the place of its object.
 pub record Placed : Type 0 where

@@ -1,22 +1,20 @@
 -- The number of the symbol that stands for what a window names is that of the definition.
-use Rattle.std.proofs.Common.{◌≡◌, ℕ, zero, suc, ◌+◌, ◌<◌, ◌≤◌, ◌==◌, Bool, true, false, not, ◌&&◌, List, [], ◌∷◌, ◌++◌, map, filter, flat_map, length, slice_get, get_or, position, Option, Some, None, option_map, unwrap_or, refl, sym, ap, subst, ◌∙◌, arith, append-nil}
+use Rattle.std.proofs.Common.{◌≡◌, ℕ, zero, suc, ◌==◌, Bool, true, false, not, ◌&&◌, List, [], ◌∷◌, ◌++◌, map, flat_map, length, slice_get, get_or, position, Option, Some, None, option_map, unwrap_or, refl, sym, ap, subst, ◌∙◌, arith, append-nil}
 use Rattle.std.specs.Prelude.{if◌then◌else◌}
 use Rattle.std.specs.List.{AllByRecursion}
-use Rattle.std.proofs.lemmas.List.{length-map}
 use Rattle.std.proofs.lemmas.Option.{slice_get-map, get_or_from_slice_get, same_Some, none-some}
 use Rattle.link_program.specs.wl_base.Names.{number_of}
 use Rattle.link_program.specs.object_file.declared.object.Object.{Object}
 use Rattle.link_program.specs.linking_section.declared.symbol.SymbolKind.TheVariants.{Section}
 use Rattle.link_program.specs.made_symbols.declared.mode.Mode.TheVariants.{Plain}
 use Rattle.link_program.specs.name_rules.Entries.{InputSymbol, ImportKey, is_entry, is_named, is_kind, name_of, named, same_entry, symbols_of}
-use Rattle.link_program.specs.name_rules.Meanings.{Meaning, here, imported, null, nothing, Resolved, resolve, resolved_in, uses_of, meaning, by_rules, own_meaning}
+use Rattle.link_program.specs.name_rules.Meanings.{Meaning, here, nothing, Resolved, resolve, resolved_in, uses_of, meaning, by_rules, own_meaning}
 use Rattle.link_program.specs.name_entries.View.{entry_number}
 use Rattle.link_program.specs.link_rules.Program.{Program, loose_variants}
 use Rattle.link_program.specs.link_rules.Marks.{all_symbols}
 use Rattle.link_program.proofs.name_entries_lemmas.Numbers.{name_at}
 use Rattle.link_program.specs.declared.program.Program.{Program as Data}
 use Rattle.link_program.specs.declared.symbol.Symbol.{Symbol}
-use Rattle.link_program.specs.declared.symbol.Lead.{Lead}
 use Rattle.link_program.specs.declared.symbol.Lead.TheVariants as leads
 use Rattle.link_program.specs.declared.symbol.Definition.{Definition}
 use Rattle.link_program.specs.Told.{told_definition, told_lead, told_symbol, told_all, told_symbols, told_variant}

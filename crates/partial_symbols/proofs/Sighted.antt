@@ -1,9 +1,9 @@
 -- What is known of names by their numbers is what the definition says of them.
-use Rattle.std.proofs.Common.{◌≡◌, ℕ, zero, suc, ◌+◌, ◌<◌, ◌==◌, Bool, true, false, not, ◌&&◌, ◌||◌, List, [], ◌∷◌, ◌++◌, map, filter, filter_map, flat_map, find, fold, length, slice_get, get_or, replicate, Option, Some, None, option_map, option_and_then, unwrap_or, refl, sym, ap, subst, ◌∙◌, arith}
+use Rattle.std.proofs.Common.{◌≡◌, ℕ, ◌+◌, ◌<◌, ◌==◌, Bool, true, false, not, ◌&&◌, List, [], ◌∷◌, map, filter, flat_map, find, fold, length, slice_get, get_or, replicate, Option, Some, None, option_map, option_and_then, unwrap_or, refl, sym, ap, ◌∙◌}
 use Rattle.std.specs.Prelude.{if◌then◌else◌, cond, bytes_eq, is_some}
 use Rattle.std.specs.Option.{option_or}
-use Rattle.std.specs.List.{list_any, AllByRecursion, IsDistinct, cons_option}
-use Rattle.std.proofs.lemmas.List.Folds.{list_any-append, find-append}
+use Rattle.std.specs.List.{list_any, AllByRecursion, IsDistinct}
+use Rattle.std.proofs.lemmas.List.Folds.{find-append}
 use Rattle.std.proofs.lemmas.Option.{slice_get_within}
 use Rattle.link_program.specs.wl_base.Names.{number_of}
 use Rattle.link_program.specs.wl_base.Choice.{first_some}
@@ -11,27 +11,24 @@ use Rattle.link_program.specs.linking_section.Flags.{is_weak, is_explicit}
 use Rattle.link_program.specs.object_file.declared.object.Object.{Object}
 use Rattle.link_program.specs.made_symbols.declared.mode.Mode.{Mode}
 use Rattle.link_program.specs.made_symbols.Made.{MadeSymbol, made}
-use Rattle.link_program.specs.link_names.Numbered.{AreNumbers, Held}
-use Rattle.link_program.specs.name_rules.Entries.{InputSymbol, ImportKey, is_entry, is_named, name_of, named, symbols_of, entries, made_entry, made_from}
-use Rattle.link_program.specs.name_rules.Meanings.{Resolved, references, least_import, resolve}
+use Rattle.link_program.specs.name_rules.Entries.{InputSymbol, ImportKey, is_entry, is_named, name_of, named, symbols_of, entries, made_from}
+use Rattle.link_program.specs.name_rules.Meanings.{references, least_import}
 use Rattle.link_program.specs.name_entries.View.{entry_number, is_number}
-use Rattle.link_program.specs.name_meanings.Columns.{is_reference_of, all_symbols as symbols_in}
+use Rattle.link_program.specs.name_meanings.Columns.{is_reference_of}
 use Rattle.link_program.proofs.name_entries_lemmas.Numbers.{number_is}
 use Rattle.link_program.proofs.name_meanings_lemmas.ByNumber.{references_are}
 use Rattle.link_program.specs.declared.symbol.Winner.{Winner}
 use Rattle.link_program.specs.Told.{told_winner, name_number}
-use Rattle.partial_rules.specs.Partial as partial
 use Rattle.partial_symbols.specs.declared.facts.Fact.{Fact}
-use Rattle.partial_symbols.specs.declared.facts.At.{At}
 use Rattle.partial_symbols.specs.declared.facts.Spot.{Spot}
 use Rattle.partial_symbols.specs.declared.columns.Column.{Column}
 use Rattle.partial_symbols.specs.Facts.{facts_of, at_of, spot_of}
-use Rattle.partial_symbols.specs.Columns.{empty_column, with, noted, won, winner_number, winner_spot, named_number, flagged, refers, stands_on_import}
+use Rattle.partial_symbols.specs.Columns.{empty_column, with, noted, won, winner_number, winner_spot, refers, stands_on_import}
 use Rattle.partial_symbols.specs.Known.{entry_spot, import_there}
-use Rattle.partial_symbols.proofs.Lists.{found_told, any_told, all_agree, all_from, find_filter, any_filter, find_agree, any_agree, find_none, some_kept, fold_rows, any_flat, any_map, and_true, and_assoc, map_twice}
+use Rattle.partial_symbols.proofs.Lists.{found_told, any_told, all_agree, all_from, find_filter, any_filter, find_agree, any_agree, find_none, some_kept, and_true, and_assoc, map_twice}
 use Rattle.partial_symbols.proofs.Cells.{firsts_of, flags_of}
 use Rattle.partial_symbols.proofs.Held.{HeldOf, numbered}
-use Rattle.partial_symbols.proofs.Placed.{Placed, placed_of, fact_at, entry_of, facts_are, entries_are, all_placed, all_there, StandsThere, all_of_objects, entry_is}
+use Rattle.partial_symbols.proofs.Placed.{Placed, placed_of, fact_at, entry_of, facts_are, entries_are, all_there, StandsThere, entry_is}
 
 abbrev fact_number : Fact → Option ℕ
 fact_number f = f.number

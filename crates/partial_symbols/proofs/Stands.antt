@@ -1,16 +1,13 @@
 -- Which symbols stand, by what is known of names, is what the definition says.
-use Rattle.std.proofs.Common.{◌≡◌, ℕ, ◌==◌, Bool, true, false, not, ◌&&◌, List, slice_get, get_or, Option, Some, None, option_map, refl, sym, ap, ◌∙◌}
+use Rattle.std.proofs.Common.{◌≡◌, ℕ, ◌==◌, Bool, true, false, not, ◌&&◌, List, get_or, Option, Some, None, option_map, refl, sym, ap, ◌∙◌}
 use Rattle.std.specs.Prelude.{if◌then◌else◌}
 use Rattle.link_program.specs.wl_base.Names.{number_of}
 use Rattle.link_program.specs.linking_section.declared.symbol.SymbolKind.TheVariants.{Section}
 use Rattle.link_program.specs.name_rules.Entries.{InputSymbol, is_entry, is_kind, name_of}
-use Rattle.link_program.specs.link_names.Numbered.{Held}
-use Rattle.link_program.specs.name_entries.View.{entry_number}
 use Rattle.link_program.proofs.name_entries_lemmas.Numbers.{name_at}
 use Rattle.link_program.specs.link_rules.Program.{Program, is_that}
 use Rattle.partial_rules.specs.Partial as partial
 use Rattle.partial_symbols.specs.declared.facts.Fact.{Fact}
-use Rattle.partial_symbols.specs.declared.facts.Spot.{Spot}
 use Rattle.partial_symbols.specs.Facts.{fact_of}
 use Rattle.partial_symbols.specs.Standing.{Sight, is_at, column_at, is_referenced, stands_for, stands_by, stands}
 use Rattle.partial_symbols.specs.Known.{entry_spot, IsSight}

@@ -1,5 +1,5 @@
 -- What the passes find over the tables of a program is what the definition says.
-use Rattle.std.proofs.Common.{◌≡◌, ℕ, ◌==◌, Bool, not, ◌&&◌, ◌||◌, List, [], ◌∷◌, ◌++◌, map, filter, flat_map, find, fold, length, get_or, replicate, slice_get, position, Option, Some, None, option_map, refl, sym, ap, subst, ◌∙◌}
+use Rattle.std.proofs.Common.{◌≡◌, ℕ, ◌==◌, not, ◌&&◌, ◌||◌, List, [], ◌∷◌, ◌++◌, map, filter, flat_map, find, fold, length, get_or, replicate, slice_get, position, Some, None, option_map, refl, sym, ap, subst, ◌∙◌}
 use Rattle.std.specs.List.{list_any, AllByRecursion}
 use Rattle.link_program.specs.linking_section.Flags.{is_weak, is_explicit}
 use Rattle.link_program.specs.object_file.declared.object.Object.{Object}
@@ -13,12 +13,12 @@ use Rattle.link_program.specs.Program.{IsProgram}
 use Rattle.partial_rules.specs.Partial as partial
 use Rattle.partial_symbols.specs.Facts.{facts_of}
 use Rattle.partial_symbols.specs.Columns.{won}
-use Rattle.partial_symbols.specs.Standing.{Sight, Stood, stands, all_stood}
+use Rattle.partial_symbols.specs.Standing.{Sight, all_stood}
 use Rattle.partial_symbols.specs.Sights.{sight_of}
-use Rattle.partial_symbols.specs.Known.{entry_spot, import_there, symbol_there, IsSight, AreStanding}
+use Rattle.partial_symbols.specs.Known.{entry_spot, IsSight, AreStanding}
 use Rattle.partial_symbols.proofs.Lists.{all_from}
 use Rattle.partial_symbols.proofs.Held.{HeldOf, HeldWhere, entries_held, winners_held, held_objects}
-use Rattle.partial_symbols.proofs.Placed.{Placed, placed_of, fact_at, entry_of, facts_are, entries_are, all_placed, all_there, StandsThere, all_of_objects}
+use Rattle.partial_symbols.proofs.Placed.{Placed, placed_of, fact_at, entry_of, facts_are, entries_are, all_placed, all_there, all_of_objects}
 use Rattle.partial_symbols.proofs.Sighted.{winner_seen, least_seen, referenced_seen, strong_seen, explicit_seen, import_seen, explicit_import_seen}
 use Rattle.partial_symbols.proofs.Named.{flag_seen}
 use Rattle.partial_symbols.proofs.Stands.{stands_seen}

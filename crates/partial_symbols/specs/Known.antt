@@ -1,5 +1,5 @@
 -- What a sight and the symbols that stand tell of a program.
-use Rattle.std.specs.Prelude.{◌≡◌, ℕ, not, ◌&&◌, List, [], map, filter, length, position, slice_get, slice_index_or, Option, Some, None, option_map, option_and_then}
+use Rattle.std.specs.Prelude.{◌≡◌, ℕ, not, ◌&&◌, List, map, filter, length, position, slice_get, slice_index_or, Option, Some, None, option_map, option_and_then}
 use Rattle.std.specs.List.{list_any}
 use Rattle.link_program.specs.linking_section.Flags.{is_weak, is_explicit}
 use Rattle.link_program.specs.object_file.declared.object.Object.{Object}

@@ -1,9 +1,8 @@
 -- The symbols that stand in the object, and their numbers, as they are found.
-use Rattle.std.specs.Prelude.{ℕ, ◌==◌, Bool, true, false, not, ◌&&◌, ◌||◌, List, [], ◌∷◌, ◌++◌, length, replicate, fold, slice_index_or, if◌then◌else◌, Option, Some, None}
+use Rattle.std.specs.Prelude.{ℕ, ◌==◌, Bool, false, not, ◌&&◌, ◌||◌, List, [], ◌∷◌, ◌++◌, length, replicate, fold, slice_index_or, if◌then◌else◌, Option, Some, None}
 use Rattle.std.specs.Option.{option_or}
 use Rattle.link_program.specs.linking_section.declared.symbol.SymbolKind.TheVariants.{Section}
 use Rattle.link_program.specs.linking_section.Flags.{kind_code}
-use Rattle.link_program.specs.declared.program.Program.{Program}
 use Rattle.partial_symbols.specs.declared.facts.Fact.{Fact}
 use Rattle.partial_symbols.specs.declared.facts.At.{At}
 use Rattle.partial_symbols.specs.declared.facts.Spot.{Spot}
