@@ -8,4 +8,4 @@ mod Named
 mod Stands
 pub mod Numbered
 pub mod Whole
-mod Referring
+pub mod Referring

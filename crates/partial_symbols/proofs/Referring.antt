@@ -249,3 +249,13 @@ module _ (d : Data) (p : Program) (is : IsProgram d p) (strict : p.plan.loose_ca
       by false none =
           ap (number_by_name s k) (ap (λ b. if b then number_of names (name_of e) else None) none)
           ∙ (by_symbol k e m known none seen ∙ sym (no_name e none))
+
+  -- The same of a symbol by its place.
+  pub number_at : (k : ℕ) (e : InputSymbol) → slice_get (all_symbols p) k ≡ Some e → number_by_name s k (entry_number names e) ≡ partial.symbol_number p e
+  number_at k e at = by (is_entry e) refl
+    where
+      by : (b : Bool) → is_entry e ≡ b → number_by_name s k (entry_number names e) ≡ partial.symbol_number p e
+      by true entry = by_name k e entry (all_at (HeldWhere names) (all_symbols p) k e all_held at)
+      by false none =
+          ap (number_by_name s k) (ap (λ b. if b then number_of names (name_of e) else None) none)
+          ∙ (ap (λ o. unwrap_or o 0) (are.of_symbols k e at) ∙ sym (no_name e none))

@@ -9,7 +9,7 @@ ghost use Rattle.partial_symbols.specs.Facts.{fact_of, facts_of};
 ghost use Rattle.partial_symbols.specs.Standing.{is_at, column_at, is_referenced, stands_for, stands, none_stood, with_number, without_number, stood, all_stood};
 ghost use Rattle.partial_symbols.specs.Sights.{sight_of};
 ghost use Rattle.partial_symbols.specs.Known.{IsSight, AreStanding};
-ghost use Rattle.partial_symbols.specs.Referring.{number_for};
+ghost use Rattle.partial_symbols.specs.Referring.{number_by_name, number_for};
 ghost use Rattle.link_program.specs.link_rules.Program.{Program as Rules};
 ghost use Rattle.link_program.specs.Program.{IsProgram};
 
@@ -223,15 +223,23 @@ impl Standing {
         }
     }
 
+    /// The number of the symbol that stands for an entry of a name, or for the symbol at a place among those of all objects that has no
+    /// name; 0 where none stands.
+    pub fn number_by(&self, name: Option<u32>, symbol: u32) -> u32
+        ensures { result ≡ number_by_name self.now symbol name }
+    {
+        match name {
+            Some(name) => self.of_name(name),
+            None => self.of_symbol(symbol),
+        }
+    }
+
     /// The number of the symbol that stands for the one at a place among those of all objects: that of its name, or its own; 0 where
     /// none stands.
     pub fn number_for(&self, symbols: &[Symbol], symbol: u32) -> u32
         ensures { result ≡ number_for self.now symbols.now symbol }
     {
-        match symbol_at(symbols, symbol).name {
-            Some(name) => self.of_name(name),
-            None => self.of_symbol(symbol),
-        }
+        self.number_by(symbol_at(symbols, symbol).name, symbol)
     }
 }
 
