@@ -1,17 +1,17 @@
 -- The symbols of open names that are found are those of the definition.
-use Rattle.std.proofs.Common.{◌≡◌, ℕ, suc, append-nil, ◌+◌, ◌<◌, Bool, true, false, not, ◌&&◌, cond, List, [], ◌∷◌, ◌++◌, map, take, length, filter, filter_map, flat_map, slice_get, get_or, Option, Some, None, option_map, option_and_then, refl, sym, ap, subst, ◌∙◌}
+use Rattle.std.proofs.Common.{◌≡◌, ℕ, suc, append-nil, ◌+◌, ◌<◌, Bool, true, false, ◌&&◌, cond, List, [], ◌∷◌, ◌++◌, map, take, length, filter, filter_map, slice_get, get_or, Option, Some, None, option_map, option_and_then, refl, sym, ap, subst, ◌∙◌}
 use Rattle.std.specs.Prelude.{if◌then◌else◌}
 use Rattle.std.specs.Option.{option_or}
 use Rattle.std.specs.List.{AllByRecursion, cons_option}
 use Rattle.std.proofs.lemmas.List.{take_more, length-append}
 use Rattle.std.proofs.lemmas.List.Elements.{filter_map-append, filter-append}
-use Rattle.std.proofs.lemmas.Option.{same_Some, none-some}
+use Rattle.std.proofs.lemmas.Option.{same_Some}
 use Rattle.link_program.specs.wl_base.Choice.{first_some}
 use Rattle.link_program.specs.wl_base.Names.{number_of}
 use Rattle.link_program.specs.linking_section.Flags.{is_explicit}
 use Rattle.link_program.specs.linking_section.declared.symbol.SymbolKind.{SymbolKind}
 use Rattle.link_program.specs.object_file.declared.object.Object.{Object}
-use Rattle.link_program.specs.name_rules.Entries.{InputSymbol, ImportKey, is_entry, is_kind, name_of, symbols_of}
+use Rattle.link_program.specs.name_rules.Entries.{InputSymbol, is_entry, is_kind, name_of}
 use Rattle.link_program.specs.name_rules.Meanings.{least_import}
 use Rattle.link_program.specs.name_entries.View.{entry_number}
 use Rattle.link_program.specs.link_rules.Program.{Program}
@@ -22,7 +22,6 @@ use Rattle.link_program.proofs.name_entries_lemmas.Numbers.{name_at}
 use Rattle.partial_rules.specs.Partial as partial
 use Rattle.partial_rules.specs.Partial.{is_none}
 use Rattle.partial_symbols.specs.declared.facts.At.{At}
-use Rattle.partial_symbols.specs.declared.facts.Spot.{Spot}
 use Rattle.partial_symbols.specs.declared.columns.Column.{Column}
 use Rattle.partial_symbols.specs.Standing.{Sight, column_at}
 use Rattle.partial_symbols.specs.Known.{entry_spot, symbol_there, import_there, IsSight}

@@ -1,6 +1,6 @@
 -- The types that are added one after another are those of the definition.
-use Rattle.std.proofs.Common.{◌≡◌, ℕ, zero, suc, ◌+◌, Bool, true, false, ◌&&◌, ◌==◌, cond, List, [], ◌∷◌, ◌++◌, map, filter, filter_map, flat_map, fold, slice_get, get_or, Option, Some, None, option_map, option_and_then, unwrap_or, refl, sym, ap, ◌∙◌, arith}
-use Rattle.std.specs.Prelude.{if◌then◌else◌, codes}
+use Rattle.std.proofs.Common.{◌≡◌, ℕ, zero, suc, ◌+◌, Bool, true, false, ◌&&◌, ◌==◌, cond, List, [], ◌∷◌, ◌++◌, map, filter, filter_map, flat_map, fold, slice_get, get_or, Option, Some, None, option_map, option_and_then, unwrap_or, refl, sym, ap, ◌∙◌}
+use Rattle.std.specs.Prelude.{codes}
 use Rattle.std.specs.List.{cons_option}
 use Rattle.std.proofs.lemmas.Option.{slice_get-map, same_Some, none-some, get_or_from_slice_get}
 use Rattle.type_merge.proofs.Numbers.{in_turn}
@@ -15,8 +15,8 @@ use Rattle.link_program.specs.object_file.declared.object.Object.{Object}
 use Rattle.link_program.specs.object_file.Spaces.{no_type}
 use Rattle.link_program.specs.name_rules.Entries.{InputSymbol, ImportKey, is_kind, name_of, symbols_of, entries_from, entry_in, import_in, type_in, key_of}
 use Rattle.link_program.specs.name_rules.Meanings.{least_import}
-use Rattle.link_program.specs.name_entries.View.{rows_of, entry_at}
-use Rattle.link_program.specs.type_merge.Types.{with_type, merged}
+use Rattle.link_program.specs.name_entries.View.{rows_of}
+use Rattle.link_program.specs.type_merge.Types.{with_type}
 use Rattle.link_program.specs.link_rules.Program as rules
 use Rattle.link_program.specs.link_rules.Program.{Program, Part, function, segment, global, linker_made, a_symbol, a_type, named_type, types_named}
 use Rattle.link_program.specs.link_rules.Keys.{function_type_of, content_type, window_types as defined_types}
@@ -27,7 +27,7 @@ use Rattle.link_program.specs.declared.named.Named.TheVariants as names
 use Rattle.link_program.specs.declared.part.Content.{Content}
 use Rattle.link_program.specs.declared.part.Content.TheVariants as contents
 use Rattle.link_program.specs.declared.part.Part.{Part as Told}
-use Rattle.link_program.specs.Look.{no_part, part_at, row_at}
+use Rattle.link_program.specs.Look.{no_part, row_at}
 use Rattle.link_program.specs.Seen.{SeenNamed, seen_symbol, seen_type, seen_named, told_named, SeenContent, a_function, a_segment, a_global, the_linkers, SeenPart, seen_part, told_part, seen_content, told_content}
 use Rattle.link_program.specs.Program.{IsProgram}
 use Rattle.partial_rules.specs.Partial as partial
@@ -35,7 +35,7 @@ use Rattle.partial_symbols.specs.declared.facts.At.{At}
 use Rattle.partial_symbols.specs.Known.{symbol_there, import_there}
 use Rattle.partial_imports.specs.declared.opens.Open.{Open}
 use Rattle.partial_imports.specs.Opens.{SeenOpen, open_seen, told_open}
-use Rattle.partial_types.specs.Added.{type_at, content_type_at, symbol_type, type_there, if_function, open_type, function_type, window_type, window_types, with_option, with_open, with_function, with_window, with_row}
+use Rattle.partial_types.specs.Added.{type_at, content_type_at, symbol_type, type_there, if_function, open_type, function_type, window_type, window_types, with_option, with_open, with_function, with_row}
 
 -- ---- steps that may add nothing
 

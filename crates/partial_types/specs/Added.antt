@@ -1,5 +1,5 @@
 -- The types that are added, by the tables of a program.
-use Rattle.std.specs.Prelude.{ℕ, List, map, filter_map, flat_map, fold, slice_index_or, Option, Some, None, unwrap_or}
+use Rattle.std.specs.Prelude.{ℕ, List, filter_map, fold, slice_index_or, Option, Some, None, unwrap_or}
 use Rattle.link_program.specs.wasm_types.declared.function.FuncType.{FuncType}
 use Rattle.link_program.specs.linking_section.declared.symbol.SymbolKind.{SymbolKind}
 use Rattle.link_program.specs.linking_section.declared.symbol.SymbolKind.TheVariants.{Function, Datum, GlobalVar, Section, Table}

@@ -1,6 +1,5 @@
-use Rattle.std.proofs.Common.{◌≡◌, sym, subst, ap, ◌∙◌, map, filter, filter_map}
-use Rattle.partial_rules.specs.Partial as partial
-use Rattle.partial_imports.specs.Opens.{open_at, open_seen, told_open}
+use Rattle.std.proofs.Common.{sym, ap, ◌∙◌, map, filter_map}
+use Rattle.partial_imports.specs.Opens.{open_at, open_seen}
 use Rattle.partial_imports.proofs.Opened.{opens_are}
 use Rattle.partial_imports.proofs.opens.opens_of.Goals as goal
 
