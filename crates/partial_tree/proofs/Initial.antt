@@ -13,7 +13,7 @@ use Rattle.link_program.specs.object_file.declared.object.Object.{Object}
 use Rattle.link_program.specs.made_symbols.declared.mode.Mode.TheVariants.{Plain}
 use Rattle.link_program.specs.name_rules.Entries.{InputSymbol, symbols_of, entries_from}
 use Rattle.link_program.specs.name_rules.Meanings.{Meaning, Resolved, resolve, resolved_in, uses_of, meaning}
-use Rattle.link_program.specs.name_entries.View.{rows_of, entry_at, entry_number}
+use Rattle.link_program.specs.name_entries.View.{rows_of, entry_number}
 use Rattle.link_program.specs.link_rules.Program.{Program, Ref, ref_to, InitCall, init_call, init_calls_in, is_skipped}
 use Rattle.link_program.specs.link_rules.Marks.{all_symbols}
 use Rattle.link_program.specs.declared.program.Program.{Program as Data}

@@ -1,5 +1,5 @@
 -- The records of symbols are those of the definition.
-use Rattle.std.proofs.Common.{◌≡◌, ℕ, zero, suc, ◌+◌, ◌<◌, ◌==◌, Bool, true, false, not, ◌&&◌, ◌||◌, cond, nat_lt, List, [], ◌∷◌, ◌++◌, map, filter, flat_map, fold, length, slice_get, get_or, position, bit_and, Option, Some, None, option_map, unwrap_or, refl, sym, ap, subst, ◌∙◌, arith, append_assoc, append-nil}
+use Rattle.std.proofs.Common.{◌≡◌, ℕ, suc, ◌+◌, ◌==◌, Bool, true, false, not, ◌&&◌, ◌||◌, cond, nat_lt, List, [], ◌∷◌, ◌++◌, map, filter, fold, length, slice_get, get_or, position, bit_and, Option, Some, None, option_map, unwrap_or, refl, sym, ap, subst, ◌∙◌, arith, append_assoc, append-nil}
 use Rattle.std.specs.Prelude.{if◌then◌else◌}
 use Rattle.std.specs.List.{list_any, list_all, position_or_len, AllByRecursion}
 use Rattle.std.proofs.lemmas.Bool.{eq-eqb}
@@ -7,12 +7,11 @@ use Rattle.std.proofs.lemmas.Bool.Decides.{nat_tests}
 use Rattle.std.proofs.lemmas.List.{length-append, map-append}
 use Rattle.std.proofs.lemmas.List.Elements.{filter-append}
 use Rattle.link_program.specs.wl_base.Names.{number_of}
-use Rattle.link_program.specs.linking_section.Flags.{is_weak, is_explicit, kind_code}
+use Rattle.link_program.specs.linking_section.Flags.{is_weak, kind_code}
 use Rattle.link_program.specs.linking_section.declared.symbol.Symbol.{Symbol}
 use Rattle.link_program.specs.linking_section.declared.symbol.SymbolKind.{SymbolKind}
 use Rattle.link_program.specs.linking_section.declared.symbol.SymbolKind.TheVariants.{Function, Datum, GlobalVar, Section, Table}
-use Rattle.link_program.specs.object_file.declared.object.Object.{Object}
-use Rattle.link_program.specs.name_rules.Entries.{InputSymbol, is_entry, is_kind, name_of, same_entry, symbols_of}
+use Rattle.link_program.specs.name_rules.Entries.{InputSymbol, is_entry, is_kind, name_of, same_entry}
 use Rattle.link_program.specs.name_entries.View.{entry_number}
 use Rattle.link_program.specs.link_rules.Program.{Program, chunk_at}
 use Rattle.link_program.specs.link_rules.Marks.{all_symbols}
@@ -27,10 +26,9 @@ use Rattle.partial_symbols.specs.Known.{entry_spot, symbol_there}
 use Rattle.partial_symbols.proofs.Held.{HeldWhere, numbered, held_objects}
 use Rattle.partial_symbols.proofs.Numbered.{Differ, all_differ}
 use Rattle.partial_symbols.proofs.Whole.{symbols_all}
-use Rattle.partial_parts.specs.Kept.{place_in}
 use Rattle.partial_parts.proofs.Parts.{place_is_told}
 use Rattle.partial_tree.specs.declared.symbols.Row.{Row}
-use Rattle.partial_tree.specs.Rows.{Look, Made, known_of, nothing_made, one_if, is_function, is_global, open_index, open_flags, bit_where, with_open, index_of, with_defined, with_name, with_number, with_known, with_one, with_at, row_symbol, row_seen}
+use Rattle.partial_tree.specs.Rows.{Look, Made, known_of, nothing_made, one_if, is_function, is_global, open_index, open_flags, bit_where, with_open, index_of, with_defined, with_name, with_number, with_one, with_at, row_symbol, row_seen}
 use Rattle.partial_tree.specs.Known.{IsLook}
 
 -- ---- first places

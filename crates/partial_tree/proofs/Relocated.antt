@@ -1,5 +1,5 @@
 -- The relocations that are made of what a part names are those of the definition.
-use Rattle.std.proofs.Common.{◌≡◌, ℕ, zero, suc, ◌+◌, ◌<◌, List, [], ◌∷◌, map, filter_map, length, slice_get, get_or, Option, Some, None, option_map, All, inl, inr, ◌⊎◌, ℤ, pos, refl, sym, ap, subst, ◌∙◌, arith}
+use Rattle.std.proofs.Common.{◌≡◌, ℕ, zero, suc, ◌<◌, List, [], ◌∷◌, map, filter_map, length, slice_get, get_or, Option, Some, None, option_map, All, inl, inr, pos, refl, sym, ap, subst, ◌∙◌, arith}
 use Rattle.std.specs.Prelude.{false}
 use Rattle.std.proofs.lemmas.List.Elements.{All-cons, All-head, All-tail}
 use Rattle.std.proofs.lemmas.Option.{slice_get-map, same_Some, none-some, get_or_from_slice_get}
@@ -15,8 +15,8 @@ use Rattle.link_program.specs.declared.named.Named.TheVariants as names
 use Rattle.link_program.specs.declared.program.Program.{Program as Data}
 use Rattle.link_program.specs.Look.{row_at}
 use Rattle.link_program.specs.Told.{told_symbol}
-use Rattle.link_program.specs.Seen.{SeenRef, SeenNamed, seen_symbol, seen_type, seen_named, told_ref, told_named, NamesOne, no_symbol}
-use Rattle.link_program.specs.Stand.{IsRefOf, IsSymbolOf, IsVariantOf, PartStands, PartsStand}
+use Rattle.link_program.specs.Seen.{SeenRef, SeenNamed, seen_named, told_ref, told_named, NamesOne, no_symbol}
+use Rattle.link_program.specs.Stand.{IsRefOf, IsVariantOf, PartStands, PartsStand}
 use Rattle.link_program.specs.Program.{IsProgram}
 use Rattle.partial_rules.specs.Partial as partial
 use Rattle.partial_symbols.specs.Standing.{Stood}

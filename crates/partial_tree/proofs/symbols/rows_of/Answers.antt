@@ -1,4 +1,4 @@
-use Rattle.std.proofs.Common.{◌≡◌, sym, ap, ◌∙◌, map, fold}
+use Rattle.std.proofs.Common.{sym, ap, ◌∙◌, map, fold}
 use Rattle.partial_tree.specs.Rows.{Made, with_at, nothing_made, row_seen}
 use Rattle.partial_tree.specs.Looks.{look_seen}
 use Rattle.partial_tree.proofs.Listed.{rows_are}
