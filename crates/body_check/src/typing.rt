@@ -84,8 +84,9 @@ fn judge_code(
         if opens.len() == 0 {
             return unfit(opens, end, rest);
         }
-        let Some(there) =
-            types_quickly(context, kind, locals, table, &around, &mut frame, end, rest)?
+        let Some(there) = types_quickly(
+            context, kind, locals, table, &around, &mut frame, end, rest,
+        )?
         else {
             return unfit(opens, end, rest);
         };
@@ -93,8 +94,7 @@ fn judge_code(
             Err(ReadFault::OutOfMemory) => return Err(OutOfMemory),
             Err(ReadFault::Stopped(_)) => return Ok(Verdict::Unread),
             Ok((instr, _, after)) => {
-                let Some(outline) =
-                    types(alloc, context, kind, locals, &mut around, frame, instr)?
+                let Some(outline) = types(alloc, context, kind, locals, &mut around, frame, instr)?
                 else {
                     return unfit(opens, end, there);
                 };
@@ -131,12 +131,24 @@ fn judge_behind(
 /// # Errors
 /// Want of memory.
 #[tactic(auto, unfolding(wasm_instr::specs::Bodies::body_at))]
-pub fn judge(alloc: Global, context: &Context, kind: &FuncType, bytes: &[u8]) -> Result<Verdict, OutOfMemory>
+pub fn judge(
+    alloc: Global,
+    context: &Context,
+    kind: &FuncType,
+    bytes: &[u8],
+) -> Result<Verdict, OutOfMemory>
     ensures { IfOk result (λ found. found ≡ verdict context.now kind.now (body_at bytes.now)) }
 {
     match locals_at(alloc, bytes.len(), bytes) {
         Err(ReadFault::OutOfMemory) => Err(OutOfMemory),
         Err(ReadFault::Stopped(_)) => Ok(Verdict::Unread),
-        Ok((locals, rest)) => judge_behind(alloc, context, kind, locals.as_slice(), bytes.len(), rest),
+        Ok((locals, rest)) => judge_behind(
+            alloc,
+            context,
+            kind,
+            locals.as_slice(),
+            bytes.len(),
+            rest,
+        ),
     }
 }
