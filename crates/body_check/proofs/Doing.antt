@@ -1,5 +1,5 @@
 -- What instructions are that are quick to type.
-use Rattle.std.proofs.Common.{◌≡◌, ℕ, ℤ, ◌<◌, ◌≤◌, List, [], ◌∷◌, length, Some, None, Ok, refl, sym, ap, ◌∙◌, arith}
+use Rattle.std.proofs.Common.{◌≡◌, ℕ, ℤ, ◌<◌, List, [], ◌∷◌, length, Some, None, Ok, refl, sym, ap, ◌∙◌, arith}
 use Rattle.wasm_types.specs.declared.function.FuncType.{FuncType}
 use Rattle.std.specs.Prelude.{slice_get}
 use Rattle.wasm_types.specs.declared.value.ValType.{ValType}
@@ -14,7 +14,6 @@ use Rattle.wasm_instr.specs.Classes.{class_of}
 use Rattle.wasm_instr.specs.Reading.{instr_at, immediates_at}
 use Rattle.wasm_instr.specs.Bodies.{Nest, code_at}
 use Rattle.wasm_instr.specs.Skimming.{outline_of, outline_step}
-use Rattle.wasm_instr.specs.SkimLaws.{steps_agree}
 use Rattle.wasm_instr.proofs.Loop.{shorter}
 use Rattle.valid_rules.specs.declared.types.Frame.{Frame}
 use Rattle.valid_rules.specs.declared.types.Shape.{Shape}
