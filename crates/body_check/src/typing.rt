@@ -84,13 +84,9 @@ fn judge_code(
         if opens.len() == 0 {
             return unfit(opens, end, rest);
         }
-<<<<<<< HEAD
-        let Some(there) = types_quickly(context, kind, locals, &around, &mut frame, end, rest)?
-=======
         let Some(there) = types_quickly(
             context, kind, locals, table, &around, &mut frame, end, rest,
         )?
->>>>>>> 11844718b4962aa12b105d5ce1dcfffc831f1f46
         else {
             return unfit(opens, end, rest);
         };
@@ -146,11 +142,7 @@ pub fn judge(
     match locals_at(alloc, bytes.len(), bytes) {
         Err(ReadFault::OutOfMemory) => Err(OutOfMemory),
         Err(ReadFault::Stopped(_)) => Ok(Verdict::Unread),
-<<<<<<< HEAD
-        Ok((locals, rest)) => judge_code(
-=======
         Ok((locals, rest)) => judge_behind(
->>>>>>> 11844718b4962aa12b105d5ce1dcfffc831f1f46
             alloc,
             context,
             kind,
