@@ -7,9 +7,9 @@ use wasm_instr::LocalRun;
 use wasm_types::ValType;
 use wl_base::{OutOfMemory, Seq};
 
-/// No engine runs a function with more locals, and a table of them takes little memory. Where there are more, the runs
-/// are gone through for each instruction of a local.
-const MOST: usize = 50_000;
+/// So many locals have a table whatever the body is. More have one where the body is as long, so that making it takes no
+/// longer than reading the body; else the runs, which then are few, are gone through for each instruction of a local.
+const FEW: usize = 256;
 
 /// How many locals runs declare, as far as a number holds it.
 fn count_locals(runs: &[LocalRun]) -> usize {
@@ -30,17 +30,19 @@ fn put_run(table: &mut Seq<ValType>, run: LocalRun) -> Result<(), OutOfMemory>
     Ok(())
 }
 
-/// The types of the locals: the parameters, and then those of the runs, where they aren't too many.
+/// The types of the locals: the parameters, and then those of the runs, where they aren't too many for a body of this
+/// length.
 #[tactic(auto, using(crate::proofs::Tables::params_table, crate::proofs::Tables::whole_table))]
 pub fn table_of(
     alloc: Global,
     params: &[ValType],
     runs: &[LocalRun],
+    length: usize,
 ) -> Result<Seq<ValType>, OutOfMemory>
     ensures { IfOk result (λ table. IsTable params.now runs.now table) }
 {
     let mut table = Seq::from_slice(alloc, params)?;
-    if count_locals(runs) > MOST {
+    if count_locals(runs) > length.max(FEW) {
         return Ok(table);
     }
     for at in 0..runs.len() {

@@ -119,7 +119,7 @@ fn judge_behind(
 ) -> Result<Verdict, OutOfMemory>
     ensures { IfOk result (λ found. found ≡ judged context.now kind.now locals.now (whole kind.now.results ∷ []) (code_at (length bytes.now) end (false ∷ []) bytes.now)) }
 {
-    let table = table_of(alloc, kind.params.as_slice(), locals)?;
+    let table = table_of(alloc, kind.params.as_slice(), locals, bytes.len())?;
     judge_code(alloc, context, kind, locals, &table, end, bytes)
 }
 
