@@ -8,7 +8,7 @@ use wasm_types::ValType;
 use wl_base::{OutOfMemory, Seq};
 
 /// So many locals have a table whatever the body is. More have one where the body is as long, so that making it takes no
-/// longer than reading the body; else the runs, which then are few, are gone through for each instruction of a local.
+/// longer than reading the body; else the runs are gone through for each instruction of a local.
 const FEW: usize = 256;
 
 /// How many locals runs declare, as far as a number holds it.
