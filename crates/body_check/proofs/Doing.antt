@@ -1,6 +1,8 @@
 -- What instructions are that are quick to type.
-use Rattle.std.proofs.Common.{◌≡◌, ℕ, ℤ, ◌<◌, ◌≤◌, List, [], ◌∷◌, length, Some, None, Ok, refl, sym, ap, ◌∙◌, arith}
+use Rattle.std.proofs.Common.{◌≡◌, ℕ, ℤ, ◌<◌, List, [], ◌∷◌, length, Some, None, Ok, refl, sym, ap, ◌∙◌, arith}
 use Rattle.wasm_types.specs.declared.function.FuncType.{FuncType}
+use Rattle.std.specs.Prelude.{slice_get}
+use Rattle.wasm_types.specs.declared.value.ValType.{ValType}
 use Rattle.wasm_types.specs.declared.value.ValType.TheVariants.{I32, I64}
 use Rattle.wasm_instr.specs.wasm_grammar.Reading.{byte_at, u32_at, s32_at, s64_at}
 use Rattle.wasm_instr.specs.declared.class.Class.{Class}
@@ -12,7 +14,6 @@ use Rattle.wasm_instr.specs.Classes.{class_of}
 use Rattle.wasm_instr.specs.Reading.{instr_at, immediates_at}
 use Rattle.wasm_instr.specs.Bodies.{Nest, code_at}
 use Rattle.wasm_instr.specs.Skimming.{outline_of, outline_step}
-use Rattle.wasm_instr.specs.SkimLaws.{steps_agree}
 use Rattle.wasm_instr.proofs.Loop.{shorter}
 use Rattle.valid_rules.specs.declared.types.Frame.{Frame}
 use Rattle.valid_rules.specs.declared.types.Shape.{Shape}
@@ -20,9 +21,10 @@ use Rattle.valid_rules.specs.Reading.{step}
 use Rattle.valid_bodies.specs.declared.types.Context.{Context}
 use Rattle.valid_bodies.specs.Accesses.{access}
 use Rattle.valid_bodies.specs.Numeric.{to}
-use Rattle.valid_bodies.specs.Shapes.{plain, shape}
+use Rattle.valid_bodies.specs.Shapes.{plain, shape, local, there, local_type}
 use Rattle.body_check.specs.declared.verdict.Verdict.{Verdict}
 use Rattle.body_check.specs.Judging.{is_read, unfit, judged}
+use Rattle.body_check.specs.Table.{IsTable}
 use Rattle.body_check.specs.Passing.{Does, Passes, IsUnfit}
 use Rattle.body_check.proofs.Going.{next_reads}
 use Rattle.body_check.proofs.Judges.{goes_on, is_untyped}
@@ -51,6 +53,12 @@ module _ (c : Context) (t : FuncType) (ls : List LocalRun) (end : ℕ) where
       shaped = sym same;
       stays = λ nest. refl;
     }
+
+    pub does_tabled : (table : List ValType) (x : ℕ) (of : ValType) (rest : List ℕ) (s : Shape) → class_of op ≡ classes.Local → u32_at end behind ≡ Ok (x, rest) → IsTable t.params ls table → slice_get table x ≡ Some of → s ≡ local op of
+        → Does c t ls end bytes s rest
+    does_tabled table x of rest s class number is here same =
+        let kind : local_type t.params ls x ≡ Some of = is x of here in
+        does_local x rest s class number (same ∙ sym (ap (there (local op)) kind))
 
     pub does_global : (x : ℕ) (rest : List ℕ) (s : Shape) → class_of op ≡ classes.GlobalAt → u32_at end behind ≡ Ok (x, rest) → s ≡ shape c t ls (GlobalAt op x) → Does c t ls end bytes s rest
     does_global x rest s class number same = record {

@@ -1,5 +1,5 @@
 -- The code of a body, typed an instruction after the other.
-use Rattle.std.proofs.Common.{◌≡◌, ℕ, zero, suc, ◌-◌, ◌<◌, ◌≤◌, Bool, true, false, List, [], ◌∷◌, map, length, Option, Some, None, Result, Ok, Err, refl, sym, ap, subst, ◌∙◌, arith}
+use Rattle.std.proofs.Common.{◌≡◌, ℕ, ◌<◌, ◌≤◌, false, List, [], ◌∷◌, map, length, Option, Some, None, Result, Ok, Err, refl, sym, ap, subst, ◌∙◌, arith}
 use Rattle.std.specs.Prelude.{option_and_then, IfOk}
 use Rattle.wasm_types.specs.declared.function.FuncType.{FuncType}
 use Rattle.wasm_instr.specs.wasm_grammar.declared.fault.Stop.{Stop}
@@ -8,7 +8,6 @@ use Rattle.wasm_instr.specs.wasm_grammar.declared.fault.ReadFault.TheVariants.{S
 use Rattle.wasm_instr.specs.wasm_grammar.Fault.{Fails}
 use Rattle.wasm_instr.specs.wasm_grammar.Reading.{◌>>=◌}
 use Rattle.wasm_instr.specs.declared.instr.Instr.{Instr}
-use Rattle.wasm_instr.specs.declared.body.Body.{Body}
 use Rattle.wasm_instr.specs.declared.body.LocalRun.{LocalRun}
 use Rattle.wasm_instr.specs.declared.body.Placed.{Placed}
 use Rattle.wasm_instr.specs.Reading.{instr_at}
@@ -22,7 +21,7 @@ use Rattle.valid_bodies.specs.declared.types.Context.{Context}
 use Rattle.valid_bodies.specs.Shapes.{shape}
 use Rattle.valid_bodies.specs.Went.{ended}
 use Rattle.body_check.specs.declared.verdict.Verdict.{Verdict}
-use Rattle.body_check.specs.declared.verdict.Verdict.TheVariants.{Unread, Untyped, Typed}
+use Rattle.body_check.specs.declared.verdict.Verdict.TheVariants.{Unread, Typed}
 use Rattle.body_check.specs.Judging.{is_read, told, unfit, judged, verdict}
 use Rattle.body_check.proofs.Going.{with_next, broken, misplaced, goes}
 

@@ -1,3 +1,4 @@
 pub mod Going
 pub mod Judges
 pub mod Doing
+pub mod Tables

@@ -9,6 +9,7 @@ mod locals;
 mod opcodes;
 mod quick;
 mod skimming;
+mod table;
 mod typing;
 mod verdict;
 

@@ -5,6 +5,8 @@ ghost use Rattle.wasm_instr.specs.wasm_grammar.Reading.{byte_at};
 ghost use Rattle.wasm_instr.specs.declared.class.Class.TheVariants as classes;
 ghost use Rattle.wasm_instr.specs.Classes.{class_of};
 ghost use Rattle.valid_bodies.specs.Effects.{shape_of};
+ghost use Rattle.valid_bodies.specs.Shapes.{local};
+ghost use Rattle.body_check.specs.Table.{IsTable};
 ghost use Rattle.body_check.specs.Passing.{Does, Passes, IsUnfit};
 
 use crate::opcodes::{is_access, is_constant, is_global, is_local, is_long_constant, is_numeric};
@@ -13,29 +15,43 @@ use valid_rules::Frame;
 use wasm_grammar::{byte_at, s32_at, s64_at, u32_at};
 use wasm_instr::{Instr, LocalRun};
 use wasm_types::{FuncType, ValType};
-use wl_base::OutOfMemory;
+use wl_base::{OutOfMemory, Seq};
 use wl_stack::Stack;
 
-/// The effect of an instruction of a local, behind its opcode, and the bytes after it.
+/// The effect of an instruction of a local of this type.
 #[inline(always)]
-#[tactic(auto, using(crate::proofs::Doing::does_local))]
+fn local_effect(opcode: u8, kind: ValType) -> Effect
+    ensures { shape_of result ≡ local opcode kind }
+{
+    match opcode {
+        0x20 => Effect::Gives(kind),
+        0x21 => Effect::Takes(kind),
+        _ => Effect::Turns(kind, kind),
+    }
+}
+
+/// The effect of an instruction of a local, behind its opcode, and the bytes after it, where the table has its type.
+#[inline(always)]
+#[tactic(auto, using(crate::proofs::Doing::does_tabled))]
 fn local_next<'a>(
-    context: &Context,
-    kind: &FuncType,
-    locals: &[LocalRun],
+    _context: &Context,
+    _kind: &FuncType,
+    _locals: &[LocalRun],
+    table: &Seq<ValType>,
     end: usize,
     opcode: u8,
     behind: &'a [u8],
 ) -> Option<(Effect, &'a [u8])>
-    requires { class_of opcode ≡ classes.Local }
-    ensures { (bytes : List ℕ) → byte_at end bytes ≡ Ok (opcode, behind.now) → IfSome result (λ x. Does context.now kind.now locals.now end bytes (shape_of x.0) x.1.now) }
+    requires class { class_of opcode ≡ classes.Local }
+    requires table { IsTable _kind.now.params _locals.now table.now }
+    ensures { (bytes : List ℕ) → byte_at end bytes ≡ Ok (opcode, behind.now) → IfSome result (λ x. Does _context.now _kind.now _locals.now end bytes (shape_of x.0) x.1.now) }
 {
     let Ok((local, rest)) = u32_at(end, behind) else {
         return None
     };
-    match effect_at(context, kind, locals, &Instr::Local { opcode, local }) {
+    match table.get(local as usize) {
         None => None,
-        Some(effect) => Some((effect, rest)),
+        Some(of) => Some((local_effect(opcode, *of), rest)),
     }
 }
 
@@ -92,16 +108,18 @@ fn effect_next<'a>(
     context: &Context,
     kind: &FuncType,
     locals: &[LocalRun],
+    table: &Seq<ValType>,
     end: usize,
     bytes: &'a [u8],
 ) -> Option<(Effect, &'a [u8])>
+    requires { IsTable kind.now.params locals.now table.now }
     ensures { IfSome result (λ x. Does context.now kind.now locals.now end bytes.now (shape_of x.0) x.1.now) }
 {
     let Ok((opcode, behind)) = byte_at(end, bytes) else {
         return None
     };
     if is_local(opcode) {
-        return local_next(context, kind, locals, end, opcode, behind);
+        return local_next(context, kind, locals, table, end, opcode, behind);
     }
     if is_numeric(opcode) {
         return Some((numeric_effect(opcode), behind));
@@ -134,16 +152,18 @@ pub fn types_quickly<'a>(
     context: &Context,
     kind: &FuncType,
     locals: &[LocalRun],
+    table: &Seq<ValType>,
     around: &Stack<Frame>,
     frame: &mut Frame,
     end: usize,
     bytes: &'a [u8],
 ) -> Result<Option<&'a [u8]>, OutOfMemory>
+    requires { IsTable kind.now.params locals.now table.now }
     ensures { IfOk result (λ found. MatchOption found (IsUnfit context.now kind.now locals.now end around.now frame.old bytes.now)
         (λ rest. Passes context.now kind.now locals.now end around.now frame.old bytes.now frame.new rest.now)) }
 {
     let mut rest = bytes;
-    while let Some((effect, after)) = effect_next(context, kind, locals, end, rest) {
+    while let Some((effect, after)) = effect_next(context, kind, locals, table, end, rest) {
         if !reads_effect(around, frame, effect)? {
             return Ok(None);
         }

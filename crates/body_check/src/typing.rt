@@ -4,18 +4,20 @@ ghost use Rattle.wasm_instr.specs.Bodies.{code_at, body_at};
 ghost use Rattle.wasm_instr.specs.Skimming.{outline_of};
 ghost use Rattle.valid_rules.specs.Reading.{whole, step};
 ghost use Rattle.valid_bodies.specs.Shapes.{shape};
+ghost use Rattle.body_check.specs.Table.{IsTable};
 ghost use Rattle.body_check.specs.Judging.{judged, verdict};
 
 use crate::locals::locals_at;
 use crate::quick::types_quickly;
 use crate::skimming::{turns, unfit};
+use crate::table::table_of;
 use crate::verdict::Verdict;
 use std::alloc::Global;
 use valid_bodies::{Context, begin, reads_at};
 use valid_rules::Frame;
 use wasm_grammar::ReadFault;
 use wasm_instr::{Instr, LocalRun, Outline, instr_at};
-use wasm_types::FuncType;
+use wasm_types::{FuncType, ValType};
 use wl_base::{OutOfMemory, Seq};
 use wl_stack::Stack;
 
@@ -66,9 +68,11 @@ fn judge_code(
     context: &Context,
     kind: &FuncType,
     locals: &[LocalRun],
+    table: &Seq<ValType>,
     end: usize,
     bytes: &[u8],
 ) -> Result<Verdict, OutOfMemory>
+    requires { IsTable kind.now.params locals.now table.now }
     ensures { IfOk result (λ found. found ≡ judged context.now kind.now locals.now (whole kind.now.results ∷ []) (code_at (length bytes.now) end (false ∷ []) bytes.now)) }
 {
     let mut opens = Seq::new(alloc);
@@ -80,7 +84,9 @@ fn judge_code(
         if opens.len() == 0 {
             return unfit(opens, end, rest);
         }
-        let Some(there) = types_quickly(context, kind, locals, &around, &mut frame, end, rest)?
+        let Some(there) = types_quickly(
+            context, kind, locals, table, &around, &mut frame, end, rest,
+        )?
         else {
             return unfit(opens, end, rest);
         };
@@ -102,6 +108,21 @@ fn judge_code(
     closed(context, kind, locals, opens, end, rest)
 }
 
+/// The same, with a table of the locals.
+fn judge_behind(
+    alloc: Global,
+    context: &Context,
+    kind: &FuncType,
+    locals: &[LocalRun],
+    end: usize,
+    bytes: &[u8],
+) -> Result<Verdict, OutOfMemory>
+    ensures { IfOk result (λ found. found ≡ judged context.now kind.now locals.now (whole kind.now.results ∷ []) (code_at (length bytes.now) end (false ∷ []) bytes.now)) }
+{
+    let table = table_of(alloc, kind.params.as_slice(), locals, bytes.len())?;
+    judge_code(alloc, context, kind, locals, &table, end, bytes)
+}
+
 /// What the bytes are, as the body of a function of this type in its context: read whole, and typed as it is read.
 ///
 /// Each byte is gone over once, or twice where there is no typing; memory is taken for the runs of locals, the open
@@ -121,7 +142,7 @@ pub fn judge(
     match locals_at(alloc, bytes.len(), bytes) {
         Err(ReadFault::OutOfMemory) => Err(OutOfMemory),
         Err(ReadFault::Stopped(_)) => Ok(Verdict::Unread),
-        Ok((locals, rest)) => judge_code(
+        Ok((locals, rest)) => judge_behind(
             alloc,
             context,
             kind,

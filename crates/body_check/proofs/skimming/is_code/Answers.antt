@@ -1,4 +1,4 @@
-use Rattle.std.proofs.Common.{◌≡◌, Some, None, ◌∙◌, sym, arith, rules}
+use Rattle.std.proofs.Common.{◌≡◌, Some, None, arith, rules}
 use Rattle.wasm_instr.specs.Skimming.{outline_step}
 use Rattle.body_check.proofs.Going.{skims_on, skims_not, turns_not, skims_shorter, all_closed, more_behind}
 use Rattle.body_check.proofs.skimming.is_code.Goals as goal

@@ -1,0 +1,4 @@
+mod Marked
+mod Loops
+mod Parts
+mod Whole

@@ -1,0 +1,2 @@
+pub mod Kept
+pub use Rattle.link_program.specs as link_program

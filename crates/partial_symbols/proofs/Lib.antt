@@ -1,0 +1,11 @@
+mod Lists
+mod Folds
+mod Cells
+pub mod Held
+mod Placed
+mod Sighted
+mod Named
+mod Stands
+pub mod Numbered
+pub mod Whole
+pub mod Referring

@@ -1,0 +1,11 @@
+//! What of the object that a partial link makes is no bytes of files, as small records: its symbols,
+//! its init functions and its relocations.
+#![tactic(auto)]
+
+mod inits;
+mod relocs;
+mod symbols;
+
+pub use inits::inits_of;
+pub use relocs::{Targets, reloc_of, relocs_are};
+pub use symbols::{Look, Row, rows_of};

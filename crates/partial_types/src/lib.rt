@@ -1,0 +1,8 @@
+//! The function types of the object that a partial link makes, each once: those of imports, of kept functions, and those that windows of
+//! kept functions name.
+#![tactic(auto)]
+
+mod adding;
+mod types;
+
+pub use types::types_of;
