@@ -2,7 +2,7 @@
 use Rattle.std.specs.Prelude.{List}
 use Rattle.link_program.specs.round_rules.Rounds.{Candidate}
 use Rattle.link_program.specs.image_emit.Bytes.{Tree, tree_of}
-use Rattle.link_program.specs.link_rules.ModeOf.{mode_of}
+use Rattle.link_program.specs.made_symbols.declared.mode.Mode.TheVariants.{Plain}
 use Rattle.link_program.specs.link_rules.Output.{layout, image}
 use Rattle.link_program.specs.Live.{Stage}
 
@@ -13,4 +13,4 @@ pub record LoadedStage : Type 0 where
 
 -- The output of a stage before its windows are written.
 abbrev pub the_tree : Stage → Tree
-the_tree s = tree_of s.program.files (image (mode_of s.program.plan) s.program s.parts s.exports (layout (mode_of s.program.plan) s.program s.parts s.exports))
+the_tree s = tree_of s.program.files (image Plain s.program s.parts s.exports (layout Plain s.program s.parts s.exports))

@@ -1,7 +1,7 @@
 //! Where the things of a link are that debug sections name.
 ghost use Rattle.std.specs.Prelude.{◌≡◌, map, IfOk};
 ghost use Rattle.link_program.specs.image_emit.Pieces.{code_place, source_places};
-ghost use Rattle.link_program.specs.link_rules.ModeOf.{mode_of};
+ghost use Rattle.link_program.specs.made_symbols.declared.mode.Mode.TheVariants as modes;
 ghost use Rattle.link_program.specs.link_rules.Output.{layout as layout_by};
 ghost use Rattle.link_program.specs.Live.{Stage, AreLive};
 ghost use Rattle.link_layout.specs.Layout.{IsLayout};
@@ -89,7 +89,7 @@ pub fn debug_places(
     requires live { AreLive s.program live.now s.parts }
     requires places { measured.now.places ≡ source_places (the_tree s) }
     requires code { measured.now.code ≡ code_place (the_tree s) }
-    ensures places { IfOk result (λ d. places_of d ≡ link_places (mode_of s.program.plan) s.program s.parts s.exports (layout_by (mode_of s.program.plan) s.program s.parts s.exports)) }
+    ensures places { IfOk result (λ d. places_of d ≡ link_places modes.Plain s.program s.parts s.exports (layout_by modes.Plain s.program s.parts s.exports)) }
     ensures inputs { IfOk result (λ d. d.inputs ≡ map (λ o. span_seen homes.now o.input) s.program.objects) }
     ensures length { IfOk result (λ d. d.length ≡ measured.now.len) }
 {

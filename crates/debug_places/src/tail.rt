@@ -2,7 +2,7 @@
 ghost use Rattle.std.specs.Prelude.{◌≡◌, ℕ, List, Result};
 ghost use Rattle.link_program.specs.wl_base.declared.fault.Fault.{Fault as Refusal};
 ghost use Rattle.link_program.specs.image_emit.Pieces.{code_place, source_places};
-ghost use Rattle.link_program.specs.link_rules.ModeOf.{mode_of};
+ghost use Rattle.link_program.specs.made_symbols.declared.mode.Mode.TheVariants as modes;
 ghost use Rattle.link_program.specs.Answers.{Answers};
 ghost use Rattle.link_program.specs.Live.{AreLive};
 ghost use Rattle.link_program.specs.Loaded.{IsLoaded};
@@ -58,7 +58,7 @@ pub fn debug_tail<R: Threads + Sync>(
     requires code { measured.now.code ≡ code_place (the_tree s.stage) }
     requires loaded { IsLoaded s.stage.program.files s.all s.stage.program.objects homes.now }
     requires files { files.now ≡ s.stage.program.files }
-    ensures { Answers (λ bytes. bytes) result (laid_tail (mode_of s.stage.program.plan) s.stage.program s.all s.stage.exports s.stage.parts measured.now.len) }
+    ensures { Answers (λ bytes. bytes) result (laid_tail modes.Plain s.stage.program s.all s.stage.exports s.stage.parts measured.now.len) }
 {
     let plan = layout.program.plan;
     if !plan.keep_debug {

@@ -6,6 +6,7 @@ use Rattle.link_plan.specs.declared.plan.Plan.{Plan}
 use Rattle.made_symbols.specs.declared.mode.Mode.TheVariants.{Plain}
 use Rattle.name_rules.specs.Entries.{InputSymbol}
 use Rattle.link_rules.specs.Candidates.{candidates_of}
+use Rattle.link_rules.specs.ModeOf.{IsPlain}
 use Rattle.link_rules.specs.LinkOf.{asked_names, the_readers, link_of}
 use Rattle.link_rules.specs.Marks.{live, exported}
 use Rattle.link_rules.specs.Program.{Program, program_of}
@@ -21,6 +22,6 @@ pub record AreNumbered (p : Program) (exports : List InputSymbol) : Type 0 where
 -- Where a link gives bytes.
 abbrev pub LinksNumber : Type 0
 LinksNumber = (plan : Plan) (files : List (List ℕ)) (bytes : List ℕ) (all : List Candidate) (objects : List Object)
-    → length files ≡ unwrap_or plan.make_case (length plan.inputs)
+    → length files ≡ unwrap_or plan.make_case (length plan.inputs) → IsPlain plan
     → candidates_of the_readers plan files ≡ Ok all → load Plain (asked_names plan) all ≡ Ok objects → link_of plan files ≡ Ok bytes
     → AreNumbered (program_of Plain plan files all objects) (exported Plain (program_of Plain plan files all objects))

@@ -12,7 +12,7 @@ use Rattle.output_module.specs.link_rules.Candidates.{candidates_of}
 use Rattle.output_module.specs.link_rules.Program.{Program, program_of}
 use Rattle.output_module.specs.link_rules.Marks.{live, exported, repeated_export, pic_fault, unresolved, uncalled}
 use Rattle.output_module.specs.link_rules.Output.{image, source_windows}
-use Rattle.output_module.specs.link_rules.LinkOf.{asked_names, the_readers, link_of, link_by, link_program, marked, laid_out, written, output_bytes, too_many_names, memory_fault, table_fault, output_fault, reference_fault}
+use Rattle.output_module.specs.link_rules.LinkOf.{asked_names, the_readers, link_by, link_program, marked, laid_out, written, output_bytes, too_many_names, memory_fault, table_fault, output_fault, reference_fault}
 use Rattle.output_module.specs.link_worlds.Worlds.{layout_of}
 use Rattle.link_facts.specs.Faults.{NoFault}
 
@@ -71,8 +71,8 @@ is_linked p bytes e =
     (b.0, d.1)
 
 pub is_link : (plan : Plan) (files : List (List ℕ)) (bytes : List ℕ) (all : List Candidate) (objects : List Object) → candidates_of the_readers plan files ≡ Ok all → load Plain (asked_names plan) all ≡ Ok objects
-    → link_of plan files ≡ Ok bytes → link_program Plain (program_of Plain plan files all objects) ≡ Ok bytes
-unfolding link_of link_by
+    → link_by Plain the_readers plan files ≡ Ok bytes → link_program Plain (program_of Plain plan files all objects) ≡ Ok bytes
+unfolding link_by
 is_link plan files bytes all objects c l e =
     subst (λ r. (r >>= λ objects. link_program Plain (program_of Plain plan files all objects)) ≡ Ok bytes) l
     (subst (λ r. (r >>= λ all. load Plain (asked_names plan) all >>= λ objects. link_program Plain (program_of Plain plan files all objects)) ≡ Ok bytes) c e)

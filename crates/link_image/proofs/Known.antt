@@ -14,7 +14,7 @@ use Rattle.link_program.specs.link_rules.Marks.{refs_of, reads_cell}
 use Rattle.link_program.specs.link_rules.Keys as keys
 use Rattle.link_program.specs.link_rules.Keys.{outside_global, linker_global, own_global, got, exported_datum, got_entries, needs_got, parts_of_kind, ref_got, ref_global, meant_global, same_got, global_imports_in, has_import, used_imports, imports_by, is_global_type, imports_in_order, numbers}
 use Rattle.link_program.specs.declared.program.Program.{Program as Data}
-use Rattle.link_program.specs.Program.{IsProgram}
+use Rattle.link_program.specs.Program.{IsProgramOf}
 use Rattle.link_program.specs.Stand.{PartsStand}
 use Rattle.link_program.specs.Live.{AreLive, AllMeant}
 use Rattle.link_layout.specs.link_numbers.Knows.{KnowsFunction, KnowsGlobal, KnowsGot}
@@ -57,7 +57,7 @@ cell_known : (imports : List ImportKey) (ref : Ref) (r : Bool) → r ≡ false �
 cell_known imports ref true is known = absurd cc
 cell_known imports ref false is known = known
 
-module _ (d : Data) (p : rules.Program) (live : List ℕ) (parts : List rules.Part) (es : List InputSymbol) (is : IsProgram d p) (stand : PartsStand p) (are : AreLive p live parts) (meant : AllMeant parts) where
+module _ (d : Data) (p : rules.Program) (live : List ℕ) (parts : List rules.Part) (es : List InputSymbol) (is : IsProgramOf Plain d p) (stand : PartsStand p) (are : AreLive p live parts) (meant : AllMeant parts) where
   pub tells : TellsNumbers d.names.now.names d.resolution.now.imports (numbers Plain p parts es)
   tells = whole.tells_numbers (given_of d p live parts is stand are meant) es
 

@@ -24,7 +24,6 @@ use Rattle.link_program.specs.index_layout.Numbers.{number_by}
 use Rattle.link_program.specs.image_emit.declared.tree.PlacedSource.{PlacedSource}
 use Rattle.link_program.specs.image_emit.declared.tree.Source.{Source}
 use Rattle.link_program.specs.image_emit.declared.tree.Source.TheVariants.{File, Own}
-use Rattle.link_program.specs.link_rules.ModeOf.{mode_of}
 use Rattle.link_program.specs.link_rules.Program.{chunk_at}
 use Rattle.link_program.specs.link_rules.Marks.{memory_name}
 use Rattle.link_program.specs.link_rules.Values as values
@@ -221,7 +220,7 @@ image_seen s d live = record {
   functions = types_seen d.numbering.now.function_types d.numbering.now.functions;
   tables = table_seen (length (takers_of d.numbering.now)) ∷ [];
   memories = if d.program.plan.now.import_memory then [] else memory_of d ∷ [];
-  globals = filter_map (global_made (layout (mode_of s.program.plan) s.program s.parts s.exports) (looked d)) d.numbering.now.globals;
+  globals = filter_map (global_made (layout Plain s.program s.parts s.exports) (looked d)) d.numbering.now.globals;
   exports = exports_seen d s.program s.exports;
   elements = elements_seen (takers_of d.numbering.now);
   bodies = filter_map (body_seen (looked d)) d.numbering.now.functions;

@@ -1,10 +1,11 @@
 //! The export section (Core 5.5.10).
 ghost use Rattle.std.specs.Prelude.{◌≡◌, ◌++◌, map, drop, List, All, Contains, IfOk, OnOk};
 ghost use Rattle.link_program.specs.name_rules.Entries.{InputSymbol};
+ghost use Rattle.link_program.specs.made_symbols.declared.mode.Mode.TheVariants as modes;
 ghost use Rattle.link_program.specs.link_rules.Marks as marks;
 ghost use Rattle.link_program.specs.link_rules.Program as rules;
 ghost use Rattle.link_program.specs.Told.{told_definition, told_winner};
-ghost use Rattle.link_program.specs.Program.{IsProgram};
+ghost use Rattle.link_program.specs.Program.{IsProgramOf};
 ghost use Rattle.link_marks.specs.Names.{IsWinner};
 ghost use Rattle.link_marks.specs.About.{Exporting};
 ghost use Rattle.link_image.specs.Sections.{space_of, index_by, export_seen};
@@ -68,7 +69,7 @@ fn export(
     winner: &Winner,
 ) -> Result<Export, OutOfMemory>
     ghost p: { rules.Program }
-    requires program { IsProgram program p }
+    requires program { IsProgramOf modes.Plain program p }
     requires winner { IsWinner program.names.now.names p.winners winner.now }
     ensures { (e : InputSymbol) → Contains p.winners e → winner.now ≡ told_winner program.entry.names.now.names e
         → IfOk result (λ x. x ≡ export_seen numbering.now (marks.export_name p e) (told_definition e)) }
@@ -87,7 +88,7 @@ pub(crate) fn add_winners(
     exports: &mut Seq<Export>,
 ) -> Result<(), OutOfMemory>
     ghost w: { Exporting }
-    requires program { IsProgram program w.program }
+    requires program { IsProgramOf modes.Plain program w.program }
     requires winners { All (Contains w.program.winners) w.exports }
     requires exports { winners.now ≡ map (told_winner program.names.now.names) w.exports }
     ensures { OnOk result (exports.new ≡ exports.old ++ map (λ e. export_seen numbering.now (marks.export_name w.program e) (told_definition e)) w.exports) }

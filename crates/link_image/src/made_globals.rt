@@ -3,7 +3,7 @@ ghost use Rattle.std.specs.Prelude.{◌≡◌, ◌++◌, ◌==◌, if◌then◌e
 ghost use Rattle.std.specs.Option.{option_to_list};
 ghost use Rattle.made_symbols.specs.Made.{stack_pointer};
 ghost use Rattle.link_program.specs.reloc_apply.Windows.{signed32};
-ghost use Rattle.link_program.specs.link_rules.ModeOf.{mode_of};
+ghost use Rattle.link_program.specs.made_symbols.declared.mode.Mode.TheVariants as modes;
 ghost use Rattle.link_program.specs.link_rules.Program.{chunk_at};
 ghost use Rattle.link_program.specs.link_rules.Values as values;
 ghost use Rattle.link_program.specs.link_rules.Output.{layout as laid_out};
@@ -53,7 +53,7 @@ fn constant(var: bool, n: u64) -> Result<ModuleGlobal, OutOfMemory>
 fn address(layout: Layout<'_>, definition: Definition) -> u64
     ghost s: { Stage }
     requires { IsLayout s.program s.parts s.exports layout }
-    ensures { result ≡ values.address_of (mode_of s.program.plan) (laid_out (mode_of s.program.plan) s.program s.parts s.exports) (entry_of definition) }
+    ensures { result ≡ values.address_of modes.Plain (laid_out modes.Plain s.program s.parts s.exports) (entry_of definition) }
 {
     layout.address(definition)
 }
@@ -62,7 +62,7 @@ fn address(layout: Layout<'_>, definition: Definition) -> u64
 fn cell(layout: Layout<'_>, key: GotKey) -> u64
     ghost s: { Stage }
     requires { IsLayout s.program s.parts s.exports layout }
-    ensures { result ≡ cell_seen (laid_out (mode_of s.program.plan) s.program s.parts s.exports) layout.entry.numbering.now key }
+    ensures { result ≡ cell_seen (laid_out modes.Plain s.program s.parts s.exports) layout.entry.numbering.now key }
 {
     match key {
         GotKey::Here(definition) => {
@@ -114,7 +114,7 @@ fn linker_global(layout: Layout<'_>, index: u32) -> Result<ModuleGlobal, OutOfMe
 fn global(layout: Layout<'_>, key: GlobalKey) -> Result<Option<ModuleGlobal>, OutOfMemory>
     ghost s: { Stage }
     requires { IsLayout s.program s.parts s.exports layout }
-    ensures { IfOk result (λ g. g ≡ global_made (laid_out (mode_of s.program.plan) s.program s.parts s.exports) (looked layout.entry) key) }
+    ensures { IfOk result (λ g. g ≡ global_made (laid_out modes.Plain s.program s.parts s.exports) (looked layout.entry) key) }
 {
     match key {
         GlobalKey::Import(_) => Ok(None),
@@ -154,7 +154,7 @@ fn add(globals: &mut Seq<ModuleGlobal>, global: Option<ModuleGlobal>) -> Result<
 pub(crate) fn globals(alloc: Global, layout: Layout<'_>) -> Result<Seq<ModuleGlobal>, OutOfMemory>
     ghost s: { Stage }
     requires { IsLayout s.program s.parts s.exports layout }
-    ensures { IfOk result (λ globals. globals ≡ filter_map (global_made (laid_out (mode_of s.program.plan) s.program s.parts s.exports) (looked layout.entry)) layout.entry.numbering.now.globals) }
+    ensures { IfOk result (λ globals. globals ≡ filter_map (global_made (laid_out modes.Plain s.program s.parts s.exports) (looked layout.entry)) layout.entry.numbering.now.globals) }
 {
     let keys = layout.numbering.globals();
     let mut globals = Seq::new(alloc);

@@ -1,10 +1,10 @@
 //! The image of the output.
 ghost use Rattle.std.specs.Prelude.{◌≡◌, [], ◌∷◌, if◌then◌else◌, length, map, filter_map, true, All, Contains, IfOk};
 ghost use Rattle.std.specs.List.{list_all};
-ghost use Rattle.link_program.specs.link_rules.ModeOf.{mode_of};
+ghost use Rattle.link_program.specs.made_symbols.declared.mode.Mode.TheVariants as modes;
 ghost use Rattle.link_program.specs.link_rules.Output as output;
 ghost use Rattle.link_program.specs.Told.{told_winner};
-ghost use Rattle.link_program.specs.Program.{IsProgram, ChunksDiffer};
+ghost use Rattle.link_program.specs.Program.{IsProgramOf, ChunksDiffer};
 ghost use Rattle.link_program.specs.Live.{Stage, AreLive};
 ghost use Rattle.link_marks.specs.About.{Exporting};
 ghost use Rattle.link_program.specs.wasm_types.declared.const_expr.ConstExpr.TheVariants as constants;
@@ -56,7 +56,7 @@ fn exports(
     winners: &[Winner],
 ) -> Result<Seq<Export>, OutOfMemory>
     ghost w: { Exporting }
-    requires program { IsProgram layout.program w.program }
+    requires program { IsProgramOf modes.Plain layout.program w.program }
     requires winners { All (Contains w.program.winners) w.exports }
     requires exports { winners.now ≡ map (told_winner layout.program.names.now.names) w.exports }
     ensures { IfOk result (λ exports. exports ≡ exports_seen layout.entry w.program w.exports) }
@@ -128,7 +128,7 @@ fn make_defined(
     requires memory { memory ≡ memory_of layout }
     ensures tables { IfOk result (λ d. d.tables ≡ table_seen (length (takers_of layout.entry.numbering.now)) ∷ []) }
     ensures memories { IfOk result (λ d. d.memories ≡ (if layout.entry.program.plan.now.import_memory then [] else memory_of layout.entry ∷ [])) }
-    ensures globals { IfOk result (λ d. d.globals ≡ filter_map (global_made (output.layout (mode_of s.program.plan) s.program s.parts s.exports) (looked layout.entry)) layout.entry.numbering.now.globals) }
+    ensures globals { IfOk result (λ d. d.globals ≡ filter_map (global_made (output.layout modes.Plain s.program s.parts s.exports) (looked layout.entry)) layout.entry.numbering.now.globals) }
     ensures exports { IfOk result (λ d. d.exports ≡ exports_seen layout.entry s.program s.exports) }
 {
     let tables = tables(alloc, layout.numbering.takers().len())?;
@@ -236,7 +236,7 @@ pub fn image(
     requires live { AreLive s.program live.now s.parts }
     requires winners { All (Contains s.program.winners) s.exports }
     requires exports { exports.now ≡ map (told_winner layout.program.names.now.names) s.exports }
-    ensures { IfOk result (λ image. image ≡ output.image (mode_of s.program.plan) s.program s.parts s.exports (output.layout (mode_of s.program.plan) s.program s.parts s.exports)) }
+    ensures { IfOk result (λ image. image ≡ output.image modes.Plain s.program s.parts s.exports (output.layout modes.Plain s.program s.parts s.exports)) }
 {
     let image = image_seen(alloc, layout, exports, live)?;
     Ok(image)

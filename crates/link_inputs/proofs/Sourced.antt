@@ -8,7 +8,6 @@ use Rattle.link_program.specs.wl_base.Choice.{given, unless, ◌>>=◌}
 use Rattle.link_program.specs.wl_base.declared.fault.Fault.{Fault}
 use Rattle.link_program.specs.wl_base.declared.fault.Fault.TheVariants.{TooManyInputs}
 use Rattle.link_program.specs.made_symbols.declared.mode.Mode.{Mode}
-use Rattle.link_program.specs.made_symbols.declared.mode.Mode.TheVariants.{Plain}
 use Rattle.link_program.specs.round_rules.declared.given.GivenObject.{GivenObject}
 use Rattle.link_program.specs.round_rules.declared.given.LibraryFile.{LibraryFile}
 use Rattle.link_program.specs.round_rules.Rounds.{Candidate, always_read_fault, load}
@@ -17,6 +16,7 @@ use Rattle.link_program.specs.link_plan.Plan.{IsPlan}
 use Rattle.link_program.specs.link_plan.declared.plan.Plan.{Plan}
 use Rattle.link_program.specs.link_plan.declared.plan.InputWord.{InputWord}
 use Rattle.link_program.specs.link_rules.Candidates.{plain_word, words_for, too_much_input, candidates_of}
+use Rattle.link_program.specs.link_rules.ModeOf.{mode_of}
 use Rattle.link_program.specs.link_rules.LinkOf.{asked_names, the_readers}
 use Rattle.link_program.specs.Loaded.{given_or_none, the_candidates, home_of, IsLoaded}
 use Rattle.link_program.specs.declared.error.LinkError.{LinkError}
@@ -205,23 +205,23 @@ module _ (plan : Plan) (files : List (List ℕ)) (opened : List OpenFile) (s : S
       let is : opened ≡ all_opened files = sym (ap (λ (x : Result (List OpenFile) Fault). or_none x) r.0) in
       candidates_all plan files s h (e ∙ ap (λ (xs : List OpenFile). let y : Result (List OpenFile) Fault = Ok xs in y) is)
 
-  steps : loaded_of Plain plan files ≡ load Plain (asked_names plan) (all_inputs plan files)
+  steps : loaded_of (mode_of plan) plan files ≡ load (mode_of plan) (asked_names plan) (all_inputs plan files)
   unfolding loaded_of
-  steps = ap (λ (r : Result (List Candidate) Fault). r >>= λ all. load Plain (asked_names plan) all) told
+  steps = ap (λ (r : Result (List Candidate) Fault). r >>= λ all. load (mode_of plan) (asked_names plan) all) told
 
-  pub exact : (r : Result Inputs LinkError) → LoadsAll r plan files → Answers (λ i. i.loaded) r (loaded_of Plain plan files)
+  pub exact : (r : Result Inputs LinkError) → LoadsAll r plan files → Answers (λ i. i.loaded) r (loaded_of (mode_of plan) plan files)
   exact (Ok i) l = steps ∙ l.0
   exact (Err (Refused f)) l = steps ∙ l
   exact (Err OutOfMemory) l = tt
 
-  pub found : (r : Result Inputs LinkError) → LoadsAll r plan files → IfOk r (AreInputs Plain plan files)
+  pub found : (r : Result Inputs LinkError) → LoadsAll r plan files → IfOk r (AreInputs (mode_of plan) plan files)
   found (Ok i) l =
       let is : all_inputs plan files ≡ the_candidates plan files = sym (ap given_or_none told) in
       record {
         candidates = told ∙ ap (λ (all : List Candidate). let y : Result (List Candidate) Fault = Ok all in y) is;
-        objects = subst (λ (all : List Candidate). load Plain (asked_names plan) all ≡ Ok i.loaded) is l.0;
+        objects = subst (λ (all : List Candidate). load (mode_of plan) (asked_names plan) all ≡ Ok i.loaded) is l.0;
         loaded = subst (λ (all : List Candidate). IsLoaded files all i.loaded i.homes) is
-            (loaded_is Plain files (asked_names plan) (all_inputs plan files) i.loaded i.homes (placed plan files s h) (few plan files s h) l.0 l.1);
+            (loaded_is (mode_of plan) files (asked_names plan) (all_inputs plan files) i.loaded i.homes (placed plan files s h) (few plan files s h) l.0 l.1);
       }
   found (Err x) l = tt
 

@@ -18,8 +18,7 @@ use crate::whole::refused;
 use crate::words::words_of;
 use lib_rounds::{GivenObject, LibraryFile, Loaded, RoundError, load_rounds};
 use link_plan::Plan;
-use link_program::{LinkError, asked_names};
-use made_symbols::Mode;
+use link_program::{LinkError, asked_names, mode_of};
 use std::alloc::Global;
 use std::thread::Threads;
 use wl_base::Seq;
@@ -53,7 +52,7 @@ fn load_given<R: Threads + Sync>(
         libraries,
         files,
         wanted.as_slice(),
-        Mode::Plain,
+        mode_of(plan),
         workers,
     ) {
         Ok(loaded) => Ok(loaded),

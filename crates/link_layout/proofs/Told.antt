@@ -7,7 +7,7 @@ use Rattle.link_program.specs.link_rules.Program as rules
 use Rattle.link_program.specs.link_rules.Marks.{refs_of}
 use Rattle.link_program.specs.link_rules.Keys.{numbers}
 use Rattle.link_program.specs.declared.program.Program.{Program as Data}
-use Rattle.link_program.specs.Program.{IsProgram}
+use Rattle.link_program.specs.Program.{IsProgramOf}
 use Rattle.link_program.specs.Stand.{PartsStand}
 use Rattle.link_program.specs.Live.{AreLive, AllMeant}
 use Rattle.link_numbers.specs.Numbered.{IsNumbering}
@@ -17,7 +17,7 @@ use Rattle.link_layout.specs.Placed.{IsPlaced}
 use Rattle.link_layout.specs.Layout.{IsLayout}
 
 pub record IsTold (p : rules.Program) (parts : List rules.Part) (es : List InputSymbol) (d : Layout) : Type 0 where
-  pub program : IsProgram d.program p
+  pub program : IsProgramOf Plain d.program p
   pub stand : PartsStand p
   pub live : (live : List ℕ) × AreLive p live parts
   pub meant : AllMeant parts
@@ -27,11 +27,11 @@ pub record IsTold (p : rules.Program) (parts : List rules.Part) (es : List Input
   pub knows : All (KnowsRef d.program.names.now.names d.program.resolution.now.imports) (refs_of parts)
 
 abbrev pub NumbersTold : Type 0
-NumbersTold = (d : Data) (p : rules.Program) (live : List ℕ) (parts : List rules.Part) (es : List InputSymbol) → IsProgram d p → PartsStand p → AreLive p live parts → AllMeant parts
+NumbersTold = (d : Data) (p : rules.Program) (live : List ℕ) (parts : List rules.Part) (es : List InputSymbol) → IsProgramOf Plain d p → PartsStand p → AreLive p live parts → AllMeant parts
     → TellsNumbers d.names.now.names d.resolution.now.imports (numbers Plain p parts es)
 
 abbrev pub RefsKnown : Type 0
-RefsKnown = (d : Data) (p : rules.Program) (live : List ℕ) (parts : List rules.Part) → IsProgram d p → PartsStand p → AreLive p live parts → AllMeant parts
+RefsKnown = (d : Data) (p : rules.Program) (live : List ℕ) (parts : List rules.Part) → IsProgramOf Plain d p → PartsStand p → AreLive p live parts → AllMeant parts
     → All (KnowsRef d.names.now.names d.resolution.now.imports) (refs_of parts)
 
 pub told_by : NumbersTold → RefsKnown → (p : rules.Program) (parts : List rules.Part) (es : List InputSymbol) (d : Layout) → IsLayout p parts es d → IsTold p parts es d

@@ -1,10 +1,10 @@
 -- When the data are the layout of a program.
 use Rattle.std.specs.Prelude.{◌≡◌, ℕ, List, length, All}
 use Rattle.link_program.specs.name_rules.Entries.{InputSymbol}
-use Rattle.link_program.specs.link_rules.ModeOf.{mode_of}
+use Rattle.link_program.specs.made_symbols.declared.mode.Mode.TheVariants.{Plain}
 use Rattle.link_program.specs.link_rules.Program.{Program, Part}
 use Rattle.link_program.specs.link_rules.Keys.{numbers}
-use Rattle.link_program.specs.Program.{IsProgram}
+use Rattle.link_program.specs.Program.{IsProgramOf}
 use Rattle.link_program.specs.Seen.{NamesOne}
 use Rattle.link_program.specs.Stand.{PartsStand}
 use Rattle.link_program.specs.Live.{AreLive, AllMeant}
@@ -24,9 +24,9 @@ pub record AreThere (d : Layout) : Type 0 where
 
 -- The data are those of the program, its live parts and its exports.
 pub record IsLayout (p : Program) (parts : List Part) (es : List InputSymbol) (d : Layout) : Type 0 where
-  pub program : IsProgram d.program p
+  pub program : IsProgramOf Plain d.program p
   pub stand : PartsStand p
   pub live : (live : List ℕ) × AreLive p live parts
   pub meant : AllMeant parts
-  pub numbering : IsNumbering d.program.names.now.names d.program.resolution.now.imports d.program.tables.now.types p parts d.numbering.now (numbers (mode_of p.plan) p parts es)
+  pub numbering : IsNumbering d.program.names.now.names d.program.resolution.now.imports d.program.tables.now.types p parts d.numbering.now (numbers Plain p parts es)
   pub placed : IsPlaced p parts d.placed.now

@@ -7,7 +7,7 @@ use Rattle.link_program.specs.mark_bits.declared.chunk.Chunk.{Chunk}
 use Rattle.link_program.specs.memory_layout.Memory.{Passed, places, memory_overflow, memory_of}
 use Rattle.link_program.specs.memory_layout.declared.rules.MemoryRules.{MemoryRules}
 use Rattle.link_program.specs.memory_layout.declared.rules.SegmentShape.{SegmentShape}
-use Rattle.link_program.specs.link_rules.ModeOf.{mode_of}
+use Rattle.link_program.specs.made_symbols.declared.mode.Mode.TheVariants.{Plain}
 use Rattle.link_program.specs.link_rules.Program.{Program, Part, same_chunk}
 use Rattle.link_program.specs.link_rules.Values.{rules_of, segments, solid_segments, shapes}
 use Rattle.link_layout.specs.declared.placing.Placed.{Placed}
@@ -26,15 +26,15 @@ is_solid p parts c = list_any (same_chunk c) (chunks_of (solid_segments p parts)
 
 -- The places are those of the live parts, and each column has a value for each part of the program.
 pub record IsPlaced (p : Program) (parts : List Part) (d : Placed) : Type 0 where
-  pub places : d.places ≡ places (rules_of (mode_of p.plan) p.plan) (shapes p parts)
+  pub places : d.places ≡ places (rules_of Plain p.plan) (shapes p parts)
   pub addresses : d.addresses ≡ map (λ part. address_among (chunks_of (segments parts)) d.places.addresses part.chunk) p.parts
   pub solid : d.solid ≡ map (λ part. is_solid p parts part.chunk) p.parts
 
 -- The answer of a call: where nothing passes its limit the segments are placed; else the first number that passes; or want of memory.
 abbrev pub AnswersPlaced : Program → List Part → Result Placed LayoutError → Type 0
-AnswersPlaced p parts (Ok d) = (memory_overflow (rules_of (mode_of p.plan) p.plan) (shapes p parts) ≡ None) × IsPlaced p parts d
+AnswersPlaced p parts (Ok d) = (memory_overflow (rules_of Plain p.plan) (shapes p parts) ≡ None) × IsPlaced p parts d
 AnswersPlaced p parts (Err (Overflow what needed)) =
-    (x : Passed) × (memory_overflow (rules_of (mode_of p.plan) p.plan) (shapes p parts) ≡ Some x) × (what ≡ x.what) × (needed ≡ pos x.needed)
+    (x : Passed) × (memory_overflow (rules_of Plain p.plan) (shapes p parts) ≡ Some x) × (what ≡ x.what) × (needed ≡ pos x.needed)
 AnswersPlaced p parts (Err OutOfMemory) = Unit {0}
 
 -- ---- by the data alone

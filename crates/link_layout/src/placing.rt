@@ -2,9 +2,9 @@
 ghost use Rattle.std.specs.Prelude.{◌≡◌};
 ghost use Rattle.link_program.specs.memory_layout.Steps.{AreRules, AreAligned};
 ghost use Rattle.link_program.specs.link_plan.Plan.{IsPlan};
-ghost use Rattle.link_program.specs.link_rules.ModeOf.{mode_of};
+ghost use Rattle.link_program.specs.made_symbols.declared.mode.Mode.TheVariants as modes;
 ghost use Rattle.link_program.specs.link_rules.Values.{rules_of};
-ghost use Rattle.link_program.specs.Program.{IsProgram};
+ghost use Rattle.link_program.specs.Program.{IsProgramOf};
 ghost use Rattle.link_program.specs.Stand.{PartsStand};
 ghost use Rattle.link_program.specs.Live.{Stage, AreLive};
 ghost use Rattle.link_layout.specs.Placed.{AnswersColumns, AnswersPlaced};
@@ -30,7 +30,7 @@ pub struct Placed {
 
 /// What the words say of memory.
 fn rules_of(plan: &Plan) -> MemoryRules
-    ensures { result ≡ rules_of (mode_of plan.now) plan.now }
+    ensures { result ≡ rules_of modes.Plain plan.now }
 {
     MemoryRules::Absolute {
         stack_first: plan.stack_first,
@@ -73,7 +73,7 @@ pub fn place_segments(
     live: &[u32],
 ) -> Result<Placed, LayoutError>
     ghost s: { Stage }
-    requires program { IsProgram program s.program }
+    requires program { IsProgramOf modes.Plain program s.program }
     requires stand { PartsStand s.program }
     requires live { AreLive s.program live.now s.parts }
     requires files { files.now ≡ s.program.files }

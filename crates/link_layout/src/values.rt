@@ -3,7 +3,7 @@ ghost use Rattle.std.specs.Prelude.{◌≡◌, ◌<◌, ◌^◌, length, slice_i
 ghost use Rattle.link_program.specs.name_rules.Entries.{InputSymbol};
 ghost use Rattle.link_program.specs.wl_base.Answers.{Answers};
 ghost use Rattle.link_program.specs.reloc_apply.Windows.{IsSum, patches_of};
-ghost use Rattle.link_program.specs.link_rules.ModeOf.{mode_of};
+ghost use Rattle.link_program.specs.made_symbols.declared.mode.Mode.TheVariants as modes;
 ghost use Rattle.link_program.specs.link_rules.Values as values;
 ghost use Rattle.link_program.specs.link_rules.Values.{asks, form_of, made_address, made_data};
 ghost use Rattle.link_program.specs.link_rules.Output.{layout, source_windows};
@@ -323,7 +323,7 @@ impl<'a> Layout<'a> {
     pub fn address(self, definition: Definition) -> u64
         ghost s: { Stage }
         requires { IsLayout s.program s.parts s.exports self }
-        ensures { (e : InputSymbol) → definition ≡ told_definition e → result ≡ values.address_of (mode_of s.program.plan) (layout (mode_of s.program.plan) s.program s.parts s.exports) e }
+        ensures { (e : InputSymbol) → definition ≡ told_definition e → result ≡ values.address_of modes.Plain (layout modes.Plain s.program s.parts s.exports) e }
     {
         keys_are_told();
         self.address_seen(definition)
@@ -348,7 +348,7 @@ impl<'a> Layout<'a> {
         ghost s: { Stage }
         requires is { IsLayout s.program s.parts s.exports self }
         requires live { AreLive s.program live.now s.parts }
-        ensures { Answers result (patches_of (moved_windows places.now (source_windows (mode_of s.program.plan) s.program s.parts s.exports (layout (mode_of s.program.plan) s.program s.parts s.exports)))) }
+        ensures { Answers result (patches_of (moved_windows places.now (source_windows modes.Plain s.program s.parts s.exports (layout modes.Plain s.program s.parts s.exports)))) }
     {
         keys_are_told();
         let patches = all_patches(rt, alloc, self, live, places, workers)?;

@@ -1,5 +1,5 @@
 -- The symbols of the objects: they rise, and stand where their inputs and places say.
-use Rattle.std.proofs.Common.{◌≡◌, ℕ, zero, suc, ◌+◌, ◌<◌, ◌==◌, ◌&&◌, nat_lt, Bool, true, false, cond, List, [], ◌∷◌, ◌++◌, map, filter, flat_map, find, slice_get, Option, Some, None, option_map, option_and_then, unwrap_or, refl, sym, ap, ◌∙◌, subst, arith, All}
+use Rattle.std.proofs.Common.{◌≡◌, ℕ, zero, suc, ◌+◌, ◌<◌, ◌==◌, ◌&&◌, ◌||◌, nat_lt, Bool, true, false, cond, List, [], ◌∷◌, ◌++◌, map, filter, flat_map, find, slice_get, Option, Some, None, option_map, option_and_then, unwrap_or, refl, sym, ap, ◌∙◌, subst, arith, All}
 use Rattle.std.specs.List.{AllByRecursion, AllZip}
 use Rattle.std.proofs.lemmas.Bool.Decides.{nat_tests}
 use Rattle.std.proofs.lemmas.List.Elements.{recursion_from_All}
@@ -7,11 +7,13 @@ use Rattle.std.proofs.lemmas.Option.{same_Some, none-some}
 use Rattle.link_program.specs.wl_base.Choice.{first_some, given}
 use Rattle.link_program.specs.linking_section.Flags.{is_explicit}
 use Rattle.link_program.specs.linking_section.declared.symbol.Symbol.{Symbol}
+use Rattle.link_program.specs.linking_section.declared.symbol.SymbolKind.TheVariants.{GlobalVar}
 use Rattle.link_program.specs.object_file.declared.object.Object.{Object}
-use Rattle.link_program.specs.made_symbols.declared.mode.Mode.TheVariants.{Plain}
+use Rattle.link_program.specs.made_symbols.declared.mode.Mode.{Mode}
+use Rattle.link_program.specs.made_symbols.declared.mode.Mode.TheVariants.{Plain, Shared}
 use Rattle.link_program.specs.made_symbols.Made.{made}
-use Rattle.link_program.specs.name_rules.Entries.{InputSymbol, ImportKey, name_of, is_named, is_entry, named, entries, entries_from, entry_in, symbols_of, made_from}
-use Rattle.link_program.specs.name_rules.Meanings.{Meaning, here, imported, null, nothing, is_nothing, meaning, own_meaning, by_rules, least, lesser, entry_rank, least_import, references, where_given, may_import, may_be_null, Uses}
+use Rattle.link_program.specs.name_rules.Entries.{InputSymbol, ImportKey, name_of, is_named, is_kind, is_entry, named, entries, entries_from, entry_in, symbols_of, made_from}
+use Rattle.link_program.specs.name_rules.Meanings.{Meaning, here, imported, null, nothing, is_nothing, meaning, own_meaning, by_rules, least, lesser, entry_rank, least_import, references, where_given, may_import, may_be_null, is_called, is_address, cell_of, Uses}
 use Rattle.link_program.specs.name_rules.declared.meaning.Meaning.{Meaning as Told}
 use Rattle.link_program.specs.name_rules.declared.meaning.Meaning.TheVariants as told
 use Rattle.link_program.specs.name_meanings.Means.{Means}
@@ -159,29 +161,35 @@ least_some : (e : InputSymbol) (es : List InputSymbol) → In e es → (w : Inpu
 least_some e [] h = absurd h
 least_some e (x ∷ es) h = lesser_some x (least es)
 
-abbrev rules_rest : Uses → Bool → List InputSymbol → InputSymbol → List (Option Meaning)
-rules_rest uses allow es e =
+abbrev rules_rest : Mode → Uses → Bool → List InputSymbol → InputSymbol → List (Option Meaning)
+rules_rest Shared uses allow es e =
+    option_map imported (least_import (filter (λ r. is_explicit r.symbol) (references es)))
+    ∷ option_map imported (where_given (is_called uses e || is_kind GlobalVar e) (least_import (references es)))
+    ∷ given (is_address uses e) (imported (cell_of e))
+    ∷ []
+rules_rest Plain uses allow es e =
     option_map imported (least_import (filter (λ r. is_explicit r.symbol) (references es)))
     ∷ option_map imported (where_given (allow && may_import es e) (least_import (references es)))
     ∷ given (may_be_null e) null
     ∷ []
 
-winner_means : (uses : Uses) (allow : Bool) (es : List InputSymbol) (e w : InputSymbol) → least (filter (λ d. d.defines) es) ≡ Some w → is_nothing (by_rules Plain uses allow es e) ≡ false
-winner_means uses allow es e w is = ap (λ o. is_nothing (unwrap_or (first_some (option_map here o ∷ rules_rest uses allow es e)) nothing)) is
+winner_means : (mode : Mode) (uses : Uses) (allow : Bool) (es : List InputSymbol) (e w : InputSymbol) → least (filter (λ d. d.defines) es) ≡ Some w → is_nothing (by_rules mode uses allow es e) ≡ false
+winner_means Plain uses allow es e w is = ap (λ o. is_nothing (unwrap_or (first_some (option_map here o ∷ rules_rest Plain uses allow es e)) nothing)) is
+winner_means Shared uses allow es e w is = ap (λ o. is_nothing (unwrap_or (first_some (option_map here o ∷ rules_rest Shared uses allow es e)) nothing)) is
 
-entry_means : (uses : Uses) (allow : Bool) (all : List InputSymbol) (e : InputSymbol) → In e all → e.defines ≡ true → is_nothing (by_rules Plain uses allow (named all (name_of e)) e) ≡ false
-entry_means uses allow all e h defines =
+entry_means : (mode : Mode) (uses : Uses) (allow : Bool) (all : List InputSymbol) (e : InputSymbol) → In e all → e.defines ≡ true → is_nothing (by_rules mode uses allow (named all (name_of e)) e) ≡ false
+entry_means mode uses allow all e h defines =
     let among = in_filter (λ (d : InputSymbol). d.defines) e (named all (name_of e)) (in_filter (is_named (name_of e)) e all h (name_itself (name_of e))) defines in
     let w = least_some e (filter (λ (d : InputSymbol). d.defines) (named all (name_of e))) among in
-    winner_means uses allow (named all (name_of e)) e w.0 w.1
+    winner_means mode uses allow (named all (name_of e)) e w.0 w.1
 
 -- A symbol that is defined in a kept part means something.
-pub defined_means : (uses : Uses) (allow : Bool) (objects : List Object) (e : InputSymbol) → In e (flat_map (symbols_of objects) objects) → e.defines ≡ true
-    → is_nothing (meaning Plain uses allow (entries Plain objects) e) ≡ false
+pub defined_means : (mode : Mode) (uses : Uses) (allow : Bool) (objects : List Object) (e : InputSymbol) → In e (flat_map (symbols_of objects) objects) → e.defines ≡ true
+    → is_nothing (meaning mode uses allow (entries mode objects) e) ≡ false
 unfolding entries
-defined_means uses allow objects e h defines = by (is_entry e) refl
+defined_means mode uses allow objects e h defines = by (is_entry e) refl
   where
-    by : (b : Bool) → is_entry e ≡ b → is_nothing (cond b (by_rules Plain uses allow (named (made_from 0 (made Plain) ++ filter is_entry (flat_map (symbols_of objects) objects)) (name_of e)) e) (own_meaning e)) ≡ false
-    by true is = entry_means uses allow (made_from 0 (made Plain) ++ filter is_entry (flat_map (symbols_of objects) objects)) e
-        (in_right e (made_from 0 (made Plain)) (filter is_entry (flat_map (symbols_of objects) objects)) (in_filter is_entry e (flat_map (symbols_of objects) objects) h is)) defines
+    by : (b : Bool) → is_entry e ≡ b → is_nothing (cond b (by_rules mode uses allow (named (made_from 0 (made mode) ++ filter is_entry (flat_map (symbols_of objects) objects)) (name_of e)) e) (own_meaning e)) ≡ false
+    by true is = entry_means mode uses allow (made_from 0 (made mode) ++ filter is_entry (flat_map (symbols_of objects) objects)) e
+        (in_right e (made_from 0 (made mode)) (filter is_entry (flat_map (symbols_of objects) objects)) (in_filter is_entry e (flat_map (symbols_of objects) objects) h is)) defines
     by false is = ap (λ b. is_nothing (cond b (here e) nothing)) defines

@@ -12,7 +12,7 @@ use Rattle.link_program.specs.object_parts.declared.parts.GlobalDef.{GlobalDef}
 use Rattle.link_program.specs.object_columns.declared.functions.FunctionDef.{FunctionDef}
 use Rattle.link_program.specs.object_columns.declared.segments.SegmentDef.{SegmentDef}
 use Rattle.link_program.specs.object_file.declared.object.Object.{Object}
-use Rattle.link_program.specs.made_symbols.declared.mode.Mode.TheVariants.{Plain}
+use Rattle.link_program.specs.made_symbols.declared.mode.Mode.{Mode}
 use Rattle.link_program.specs.made_symbols.Made.{MadeSymbol, made}
 use Rattle.link_program.specs.round_rules.Rounds.{Candidate}
 use Rattle.link_program.specs.mark_bits.declared.chunk.Chunk.{Chunk}
@@ -49,12 +49,12 @@ ref_open : (r : Option Ref) → open_of (option_map a_symbol r) ≡ open_ref r
 ref_open None = refl
 ref_open (Some r) = refl
 
-module _ (allow : Bool) (objects : List Object) (rows : List (List Told)) (imports : List ImportKey) where
+module _ (mode : Mode) (allow : Bool) (objects : List Object) (rows : List (List Told)) (imports : List ImportKey) where
   abbrev means : InputSymbol → Meaning
-  means e = meaning Plain (uses_of Plain objects) allow (entries Plain objects) e
+  means e = meaning mode (uses_of mode objects) allow (entries mode objects) e
 
   abbrev resolved : Object → Resolved
-  resolved o = resolved_in Plain (uses_of Plain objects) allow (entries Plain objects) objects o
+  resolved o = resolved_in mode (uses_of mode objects) allow (entries mode objects) objects o
 
   abbrev symbols : List InputSymbol
   symbols = flat_map (symbols_of objects) objects
@@ -240,7 +240,7 @@ module _ (allow : Bool) (objects : List Object) (rows : List (List Told)) (impor
           let e : InputSymbol = entry_in objects o i.symbol y.symbol in
           ap (λ x. cond (is_undefined_one x) (opened rows (o.input, i.symbol)) None) y.there
           ∙ ap (λ b. cond (is_undefined y.symbol) (cond b (Some (o.input, i.symbol)) None) None) y.same
-          ∙ cases e (is_undefined y.symbol) e.defines (is_nothing (means e)) (λ d. defined_means (uses_of Plain objects) allow objects e y.known d)
+          ∙ cases e (is_undefined y.symbol) e.defines (is_nothing (means e)) (λ d. defined_means mode (uses_of mode objects) allow objects e y.known d)
           ∙ sym (λ j. call_of (ref_to 0 0 (pos 0) (y.entry_there j) (y.meant_there j)))
     ]
       where
@@ -335,10 +335,10 @@ module _ (allow : Bool) (objects : List Object) (rows : List (List Told)) (impor
     all_made place [] = tt
     all_made place (m ∷ ms) = one_made place m (made_parts_from calls (place + 1) ms) (all_made (place + 1) ms) (made_kind m.kind)
 
-    pub parts_agree : (all : List Candidate) → AllByRecursion Agrees (parts_of Plain all objects (map resolved objects))
+    pub parts_agree : (all : List Candidate) → AllByRecursion Agrees (parts_of mode all objects (map resolved objects))
     unfolding parts_of
     parts_agree all =
-        all_both Agrees (made_parts_from calls 0 (made Plain)) (flat_map (parts_in all objects) (map resolved objects)) (all_made 0 (made Plain))
+        all_both Agrees (made_parts_from calls 0 (made mode)) (flat_map (parts_in all objects) (map resolved objects)) (all_made 0 (made mode))
         (all_flat Agrees (parts_in all objects) (map resolved objects) (all_map (λ r. AllByRecursion Agrees (parts_in all objects r)) resolved objects (all_from _ objects (λ o h. object_agrees o (fine_in o h) all))))
 
   -- ---- loosened parts

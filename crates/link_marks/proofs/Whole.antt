@@ -9,7 +9,8 @@ use Rattle.link_program.specs.wl_base.Names.{number_of}
 use Rattle.link_program.specs.wl_base.declared.fault.Fault.{Fault}
 use Rattle.link_program.specs.wl_base.declared.fault.Fault.TheVariants.{Unresolved}
 use Rattle.link_program.specs.object_file.declared.object.Object.{Object}
-use Rattle.link_program.specs.made_symbols.declared.mode.Mode.TheVariants.{Plain}
+use Rattle.link_program.specs.made_symbols.declared.mode.Mode.{Mode}
+use Rattle.link_program.specs.link_rules.ModeOf.{mode_of}
 use Rattle.link_program.specs.mark_bits.Words.{bit_of}
 use Rattle.link_program.specs.name_rules.Entries.{InputSymbol, name_of, is_named, named, entries, symbols_of}
 use Rattle.link_program.specs.name_rules.Meanings.{Resolved, winner, least, lesser, definitions, entry_rank, resolve, resolved_in, uses_of}
@@ -97,7 +98,7 @@ rank_is names all ranks name are held = by (number_of names name) refl
 pub missing_are : (d : Data) (p : Program) → IsProgram d p → first_missing d.names.now.names d.ranks.now (demanded d.plan.now) ≡ first_some (map (missing p) (demanded p.plan))
 missing_are d p is =
     let names = d.names.now.names in
-    let held : All (HeldOf names) p.entries = subst (All (HeldOf names)) (sym is.entries) (entries_held Plain p.objects d.names.now is.numbers) in
+    let held : All (HeldOf names) p.entries = subst (All (HeldOf names)) (sym is.entries) (entries_held (mode_of p.plan) p.objects d.names.now is.numbers) in
     ap (λ plan. first_missing names d.ranks.now (demanded plan)) is.plan
     ∙ ap first_some (map_agree (missing_seen names d.ranks.now) (missing p) (λ name.
     ap (λ b. given (not b) (Unresolved name 0)) (rank_is names p.entries d.ranks.now name is.ranks held ∙ ap (list_any (is_named name)) (sym is.winners_are))) (demanded p.plan))
@@ -134,48 +135,49 @@ live_are p l parts is =
 
 -- ---- open symbols
 
-flat_resolved : (allow : Bool) (all : List InputSymbol) (objects os : List Object)
-    → flat_map (λ (r : Resolved). r.symbols) (map (resolved_in Plain (uses_of Plain objects) allow all objects) os) ≡ flat_map (symbols_of objects) os
-flat_resolved allow all objects [] = refl
-flat_resolved allow all objects (o ∷ os) = ap (λ l. symbols_of objects o ++ l) (flat_resolved allow all objects os)
+flat_resolved : (mode : Mode) (allow : Bool) (all : List InputSymbol) (objects os : List Object)
+    → flat_map (λ (r : Resolved). r.symbols) (map (resolved_in mode (uses_of mode objects) allow all objects) os) ≡ flat_map (symbols_of objects) os
+flat_resolved mode allow all objects [] = refl
+flat_resolved mode allow all objects (o ∷ os) = ap (λ l. symbols_of objects o ++ l) (flat_resolved mode allow all objects os)
 
-resolved_are : (d : Data) (p : Program) → IsProgram d p → p.resolved ≡ map (resolved_in Plain (uses_of Plain p.objects) p.plan.allow_undefined (entries Plain p.objects) p.objects) p.objects
+resolved_are : (d : Data) (p : Program) → IsProgram d p → p.resolved ≡ map (resolved_in (mode_of p.plan) (uses_of (mode_of p.plan) p.objects) p.plan.allow_undefined (entries (mode_of p.plan) p.objects) p.objects) p.objects
 unfolding resolve
-resolved_are d p is = is.resolved ∙ ap (λ all. map (resolved_in Plain (uses_of Plain p.objects) p.plan.allow_undefined all p.objects) p.objects) is.entries
+resolved_are d p is = is.resolved ∙ ap (λ all. map (resolved_in (mode_of p.plan) (uses_of (mode_of p.plan) p.objects) p.plan.allow_undefined all p.objects) p.objects) is.entries
 
-fine_from : (allow : Bool) (objects : List Object) (rows : _) (imports : _) (os : List Object) → ((o : Object) → In o os → In o objects) → AllByRecursion (IsObject objects) os
-    → AllByRecursion (λ (x : Resolved). AllZip (Means imports) (row_of rows x.object.input) x.meanings) (map (resolved_in Plain (uses_of Plain objects) allow (entries Plain objects) objects) os)
-    → AllByRecursion (Fine allow objects rows imports) os
-fine_from allow objects rows imports [] among are answered = tt
-fine_from allow objects rows imports (o ∷ os) among are answered =
-    (record { is = are.0; answered = answered.0; among = among o (inl refl) }, fine_from allow objects rows imports os (λ x h. among x (inr h)) are.1 answered.1)
+fine_from : (mode : Mode) (allow : Bool) (objects : List Object) (rows : _) (imports : _) (os : List Object) → ((o : Object) → In o os → In o objects) → AllByRecursion (IsObject objects) os
+    → AllByRecursion (λ (x : Resolved). AllZip (Means imports) (row_of rows x.object.input) x.meanings) (map (resolved_in mode (uses_of mode objects) allow (entries mode objects) objects) os)
+    → AllByRecursion (Fine mode allow objects rows imports) os
+fine_from mode allow objects rows imports [] among are answered = tt
+fine_from mode allow objects rows imports (o ∷ os) among are answered =
+    (record { is = are.0; answered = answered.0; among = among o (inl refl) }, fine_from mode allow objects rows imports os (λ x h. among x (inr h)) are.1 answered.1)
 
 pub open_are : (d : Data) (p : Program) (l : Live) (parts : List Part) → IsProgram d p → IsLive p l parts
     → open_fault d.objects.now (first_unresolved_of d.objects.now d.resolution.now.rows l.set.words d.tables.now.chunks)
     ≡ option_map (λ (e : InputSymbol). Unresolved (name_of e) e.input) (find (marks.is_open (refs_of parts)) (all_symbols p))
 unfolding first_unresolved_of
 open_are d p l parts is live =
+    let mode = mode_of p.plan in
     let allow = p.plan.allow_undefined in
     let objects = p.objects in
     let rows = d.resolution.now.rows in
     let imports = d.resolution.now.imports in
     let resolved = resolved_are d p is in
-    let fine : AllByRecursion (Fine allow objects rows imports) objects =
-    fine_from allow objects rows imports objects (λ o h. h) (recursion_from_All (IsObject objects) objects (are_objects objects is.rise))
+    let fine : AllByRecursion (Fine mode allow objects rows imports) objects =
+    fine_from mode allow objects rows imports objects (λ o h. h) (recursion_from_All (IsObject objects) objects (are_objects objects is.rise))
     (subst (AllByRecursion (λ (x : Resolved). AllZip (Means imports) (row_of rows x.object.input) x.meanings)) resolved (recursion_from_All _ p.resolved is.resolution.meanings)) in
-    let agree : AllByRecursion (Agrees allow objects rows imports) p.parts =
-    subst (AllByRecursion (Agrees allow objects rows imports)) (sym (is.parts_are.1 ∙ ap (λ rs. loose_parts p.plan.loose_calls p.entries (parts_of Plain is.parts_are.0 objects rs)) resolved))
-    (loose_agree allow objects rows imports p.entries p.plan.loose_calls _ (parts_agree allow objects rows imports fine is.parts_are.0)) in
+    let agree : AllByRecursion (Agrees mode allow objects rows imports) p.parts =
+    subst (AllByRecursion (Agrees mode allow objects rows imports)) (sym (is.parts_are.1 ∙ ap (λ rs. loose_parts p.plan.loose_calls p.entries (parts_of mode is.parts_are.0 objects rs)) resolved))
+    (loose_agree mode allow objects rows imports p.entries p.plan.loose_calls _ (parts_agree mode allow objects rows imports fine is.parts_are.0)) in
     let parts_is = live_are p l parts live in
-    let some_agree : AllByRecursion (Agrees allow objects rows imports) parts = subst (AllByRecursion (Agrees allow objects rows imports)) (sym parts_is) (picked_all l.set.words (Agrees allow objects rows imports) p.parts 0 p.parts agree) in
+    let some_agree : AllByRecursion (Agrees mode allow objects rows imports) parts = subst (AllByRecursion (Agrees mode allow objects rows imports)) (sym parts_is) (picked_all l.set.words (Agrees mode allow objects rows imports) p.parts 0 p.parts agree) in
     let chunks : live_from l.set.words 0 d.tables.now.chunks ≡ map (λ (part : Part). part.chunk) parts =
     ap (live_from l.set.words 0) is.tables.chunks ∙ chunks_live l.set.words p.parts 0 p.parts ∙ ap (map (λ (part : Part). part.chunk)) (sym parts_is) in
     ap (λ os. open_fault os (least_by Some (filter (is_open rows) (flat_map (by_object.refers os) (live_from l.set.words 0 d.tables.now.chunks))))) is.objects
     ∙ ap (λ cs. open_fault objects (least_by Some (filter (is_open rows) (flat_map (by_object.refers objects) cs)))) chunks
     ∙ ap (open_fault objects) (filter_is Some (is_open rows) (flat_map (by_object.refers objects) (map (λ (part : Part). part.chunk) parts)))
-    ∙ open_is allow objects rows imports is.rise parts some_agree
+    ∙ open_is mode allow objects rows imports is.rise parts some_agree
     ∙ ap (λ es. option_map (λ (e : InputSymbol). Unresolved (name_of e) e.input) (find (marks.is_open (refs_of parts)) es))
-    (sym (ap (flat_map (λ (r : Resolved). r.symbols)) resolved ∙ flat_resolved allow (entries Plain objects) objects objects))
+    (sym (ap (flat_map (λ (r : Resolved). r.symbols)) resolved ∙ flat_resolved mode allow (entries mode objects) objects objects))
 
 -- ---- both
 

@@ -12,11 +12,12 @@ use Rattle.link_program.specs.made_symbols.declared.mode.Mode.TheVariants.{Plain
 use Rattle.link_program.specs.name_rules.Entries.{InputSymbol, name_of, is_kind}
 use Rattle.link_program.specs.name_rules.Meanings.{Resolved, resolve, resolved_in, uses_of}
 use Rattle.link_program.specs.link_rules.Program.{Program, winners_of}
-use Rattle.link_program.specs.link_rules.Marks.{is_exported_by, exported, demanded, export_name, written_name, resolved_at, repeated_export, first_repeat}
+use Rattle.link_program.specs.link_rules.ModeOf.{mode_of}
+use Rattle.link_program.specs.link_rules.Marks.{by_mode, is_exported_by, exported, demanded, export_name, written_name, resolved_at, repeated_export, first_repeat}
 use Rattle.link_program.specs.declared.program.Program.{Program as Data}
 use Rattle.link_program.specs.declared.symbol.Winner.{Winner}
 use Rattle.link_program.specs.Told.{told_winner, name_number}
-use Rattle.link_program.specs.Program.{IsProgram}
+use Rattle.link_program.specs.Program.{IsProgramOf, IsProgram}
 use Rattle.link_marks.specs.Asked.{IsAsked}
 use Rattle.link_marks.specs.Seen.{is_export}
 use Rattle.link_marks.specs.Names.{exported_as, name_seen, given_seen, memory_given, IsWinner}
@@ -29,8 +30,8 @@ use Rattle.link_marks.proofs.Held.{HeldOf, numbered, entries_held, winners_held}
 number_is : (names : List (List ℕ)) (e : InputSymbol) (n : ℕ) → number_of names (name_of e) ≡ Some n → name_number names e ≡ n
 number_is names e n is = ap (λ o. unwrap_or o 0) is
 
-pub winner_names_held : (d : Data) (p : Program) → IsProgram d p → All (HeldOf d.names.now.names) p.winners
-winner_names_held d p is = subst (All (HeldOf d.names.now.names)) (sym (is.winners_are ∙ ap winners_of is.entries)) (winners_held d.names.now.names _ (entries_held Plain p.objects d.names.now is.numbers))
+pub winner_names_held : (mode : Mode) (d : Data) (p : Program) → IsProgramOf mode d p → All (HeldOf d.names.now.names) p.winners
+winner_names_held mode d p is = subst (All (HeldOf d.names.now.names)) (sym (is.winners_are ∙ ap winners_of is.entries)) (winners_held d.names.now.names _ (entries_held mode p.objects d.names.now is.numbers))
 
 -- the number of a winner's name is below the count
 pub number_held : (names : List (List ℕ)) (e : InputSymbol) → HeldOf names e → name_number names e < length names
@@ -61,7 +62,7 @@ pub exports_are : (d : Data) (p : Program) (asked : List Bool) → IsProgram d p
 unfolding exported
 exports_are d p asked is are =
     let names = d.names.now.names in
-    let held = winner_names_held d p is in
+    let held = winner_names_held (mode_of p.plan) d p is in
     let asked_is : IsAsked names (demanded p.plan ++ p.plan.exports_if) asked = subst (λ plan. IsAsked names (demanded plan ++ plan.exports_if) asked) is.plan are in
     ap (filter (is_export asked d.plan.now.export_dynamic)) is.tables.winners
     ∙ ap (λ plan. filter (is_export asked plan.export_dynamic) (map (told_winner names) p.winners)) is.plan
@@ -81,14 +82,14 @@ module _ (mode : Mode) (allow : Bool) (all : List InputSymbol) (objects : List O
   own_is e None = refl
   own_is e (Some o) = refl
 
-pub name_is : (d : Data) (p : Program) → IsProgram d p → (e : InputSymbol) → HeldOf d.names.now.names e → name_seen d.objects.now d.names.now.names (told_winner d.names.now.names e) ≡ export_name p e
-name_is d p is e held =
+pub name_is : (mode : Mode) (d : Data) (p : Program) → IsProgramOf mode d p → (e : InputSymbol) → HeldOf d.names.now.names e → name_seen d.objects.now d.names.now.names (told_winner d.names.now.names e) ≡ export_name p e
+name_is mode d p is e held =
     let names = d.names.now.names in
     let n = numbered names (name_of e) held in
     let named : get_or names (name_number names e) [] ≡ name_of e = ap (λ k. get_or names k []) (number_is names e n.0 n.1) ∙ get_or_from_slice_get names n.0 (name_of e) [] (name_at names (name_of e) n.0 n.1) in
     let own : option_and_then (exported_as e.index) (find (λ (o : Object). o.input == e.input) p.objects) ≡ option_and_then (λ r. written_name r e) (resolved_at p.resolved e.input) =
-    own_is Plain p.plan.allow_undefined p.entries p.objects e (find (λ (o : Object). o.input == e.input) p.objects)
-    ∙ ap (option_and_then (λ r. written_name r e)) (sym (ap (λ rs. resolved_at rs e.input) is.resolved ∙ resolved_is Plain p.plan.allow_undefined p.entries p.objects e.input)) in
+    own_is mode p.plan.allow_undefined p.entries p.objects e (find (λ (o : Object). o.input == e.input) p.objects)
+    ∙ ap (option_and_then (λ r. written_name r e)) (sym (ap (λ rs. resolved_at rs e.input) is.resolved ∙ resolved_is mode p.plan.allow_undefined p.entries p.objects e.input)) in
     ap (λ os. name_seen os names (told_winner names e)) is.objects ∙ by (is_kind Function e) own named
   where
     by : (b : Bool) → option_and_then (exported_as e.index) (find (λ (o : Object). o.input == e.input) p.objects) ≡ option_and_then (λ r. written_name r e) (resolved_at p.resolved e.input)
@@ -106,12 +107,12 @@ given_is d p is es among =
     let names = d.names.now.names in
     map-map (given_seen d.objects.now names) (told_winner names) es
     ∙ map_same (λ e. given_seen d.objects.now names (told_winner names e)) (λ e. record { name = export_name p e; input = e.input }) es
-    (λ k e below. let x = get_or es k e in let h = name_is d p is x (All-contains (HeldOf names) p.winners x (winner_names_held d p is) (among k e below)) in λ i. record { name = h i; input = x.input })
+    (λ k e below. let x = get_or es k e in let h = name_is (mode_of p.plan) d p is x (All-contains (HeldOf names) p.winners x (winner_names_held (mode_of p.plan) d p is) (among k e below)) in λ i. record { name = h i; input = x.input })
 
 pub repeats_are : (d : Data) (p : Program) (es : List InputSymbol) (ws : List Winner) → IsProgram d p → All (Contains p.winners) es → ws ≡ map (told_winner d.names.now.names) es
-    → first_repeat [] (memory_given d.plan.now.import_memory ++ map (given_seen d.objects.now d.names.now.names) ws) ≡ repeated_export Plain p es
+    → first_repeat [] (memory_given (by_mode (mode_of d.plan.now) d.plan.now.import_memory true) ++ map (given_seen d.objects.now d.names.now.names) ws) ≡ repeated_export (mode_of p.plan) p es
 unfolding repeated_export
 repeats_are d p es ws is among told =
-    ap (λ l. first_repeat [] (memory_given d.plan.now.import_memory ++ map (given_seen d.objects.now d.names.now.names) l)) told
-    ∙ ap (λ l. first_repeat [] (memory_given d.plan.now.import_memory ++ l)) (given_is d p is es among)
-    ∙ ap (λ plan. first_repeat [] (memory_given plan.import_memory ++ map (λ e. record { name = export_name p e; input = e.input }) es)) is.plan
+    ap (λ l. first_repeat [] (memory_given (by_mode (mode_of d.plan.now) d.plan.now.import_memory true) ++ map (given_seen d.objects.now d.names.now.names) l)) told
+    ∙ ap (λ l. first_repeat [] (memory_given (by_mode (mode_of d.plan.now) d.plan.now.import_memory true) ++ l)) (given_is d p is es among)
+    ∙ ap (λ plan. first_repeat [] (memory_given (by_mode (mode_of plan) plan.import_memory true) ++ map (λ e. record { name = export_name p e; input = e.input }) es)) is.plan

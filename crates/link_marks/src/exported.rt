@@ -1,18 +1,19 @@
 //! What is exported, and by which names.
 ghost use Rattle.std.specs.Prelude.{◌≡◌, ◌<◌, filter, map, length, option_copied, Contains, IfOk};
+ghost use Rattle.link_program.specs.made_symbols.declared.mode.Mode.TheVariants as modes;
 ghost use Rattle.link_program.specs.link_rules.ModeOf.{mode_of};
 ghost use Rattle.link_program.specs.link_rules.Program as rules;
 ghost use Rattle.link_program.specs.link_rules.Marks as marks;
 ghost use Rattle.link_program.specs.name_rules.Entries.{InputSymbol};
 ghost use Rattle.link_program.specs.name_entries.View.{InputsRise};
 ghost use Rattle.link_program.specs.Told.{told_winner};
-ghost use Rattle.link_program.specs.Program.{IsProgram};
+ghost use Rattle.link_program.specs.Program.{IsProgram, IsProgramOfSome};
 ghost use Rattle.link_marks.specs.Seen.{is_export};
 ghost use Rattle.link_marks.specs.Names.{own_name, name_seen, IsWinner};
 
 use crate::asked::asked_names;
 use crate::objects::object_of;
-use link_program::{Definition, Names, Object, Program, Winner};
+use link_program::{Definition, Mode, Names, Object, Program, Winner, mode_of};
 use linking_section::{EXPORTED, HIDDEN, SymbolKind};
 use std::alloc::Global;
 use wl_base::{OutOfMemory, Seq};
@@ -48,17 +49,30 @@ pub(crate) fn chosen(
     Ok(exports)
 }
 
-/// The exported winners, by input and place: those that the words name, those of objects' symbols with EXPORTED, and with
-/// `--export-dynamic` those of objects' symbols that aren't HIDDEN (Linking.md, "Symbol Table Subsection").
-pub fn exports(alloc: Global, program: Program<'_>) -> Result<Seq<Winner>, OutOfMemory>
+/// The exported winners of a plain output.
+fn plain_exports(alloc: Global, program: Program<'_>) -> Result<Seq<Winner>, OutOfMemory>
     ghost p: { rules.Program }
     requires { IsProgram program p }
-    ensures { IfOk result (λ es. es ≡ map (told_winner program.entry.names.now.names) (marks.exported (mode_of p.plan) p)) }
+    ensures { IfOk result (λ es. es ≡ map (told_winner program.entry.names.now.names) (marks.exported modes.Plain p)) }
 {
     let asked = asked_names(alloc, program.names, program.plan)?;
     let winners = program.tables.winners.as_slice();
     let exports = chosen(alloc, &asked, program.plan.export_dynamic, winners)?;
     Ok(exports)
+}
+
+/// The exported winners, by input and place: those that the words name, those of objects' symbols with EXPORTED, and with
+/// `--export-dynamic` those of objects' symbols that aren't HIDDEN (Linking.md, "Symbol Table Subsection"). Those of a shared output
+/// aren't told yet: that is answered as want of memory.
+pub fn exports(alloc: Global, program: Program<'_>) -> Result<Seq<Winner>, OutOfMemory>
+    ghost p: { rules.Program }
+    requires { IsProgram program p }
+    ensures { IfOk result (λ es. es ≡ map (told_winner program.entry.names.now.names) (marks.exported (mode_of p.plan) p)) }
+{
+    match mode_of(program.plan) {
+        Mode::Plain => plain_exports(alloc, program),
+        Mode::Shared => Err(OutOfMemory),
+    }
 }
 
 /// The name under which the object exports the function of a definition.
@@ -94,7 +108,7 @@ pub(crate) fn name_seen<'a>(objects: &'a [Object], names: &'a Names, winner: &Wi
 /// there.
 pub fn export_name<'a>(program: Program<'a>, winner: &Winner) -> &'a [u8]
     ghost p: { rules.Program }
-    requires program { IsProgram program p }
+    requires program { IsProgramOfSome program p }
     requires winner { IsWinner program.names.now.names p.winners winner.now }
     ensures { (e : InputSymbol) → Contains p.winners e → winner.now ≡ told_winner program.entry.names.now.names e → result.now ≡ marks.export_name p e }
 {

@@ -19,7 +19,7 @@ pub use chunks::{number_defined, number_led};
 pub use exported::{export_name, exports};
 pub use laws::all_are_meant;
 pub use link_program::{
-    Entries, EntryRef, LinkError, Names, Program, Tables, Winner, part_at, symbol_at,
+    Entries, EntryRef, LinkError, Mode, Names, Program, Tables, Winner, mode_of, part_at, symbol_at,
 };
 pub use live::{Live, live_parts};
 pub use open::unresolved;

@@ -1,5 +1,5 @@
 //! Whether a name is exported twice.
-ghost use Rattle.std.specs.Prelude.{◌≡◌, ◌<◌, ◌++◌, ◌∷◌, [], List, Some, None, All, Contains, map, find, length, option_map, slice_get, bytes_eq, IfOk};
+ghost use Rattle.std.specs.Prelude.{◌≡◌, true, ◌<◌, ◌++◌, ◌∷◌, [], List, Some, None, All, Contains, map, find, length, option_map, slice_get, bytes_eq, IfOk};
 ghost use Rattle.link_program.specs.wl_base.declared.fault.Fault.TheVariants.{Duplicate};
 ghost use Rattle.link_program.specs.name_entries.View.{InputsRise};
 ghost use Rattle.link_program.specs.link_rules.ModeOf.{mode_of};
@@ -11,7 +11,8 @@ ghost use Rattle.link_marks.specs.About.{Exporting};
 ghost use Rattle.link_marks.specs.Names.{memory_given, given_seen, AreGiven};
 
 use crate::exported::name_seen;
-use link_program::{LinkError, Names, Object, Program, Winner, refuse};
+use link_plan::Plan;
+use link_program::{LinkError, Mode, Names, Object, Program, Winner, mode_of, refuse};
 use std::alloc::Global;
 use wl_base::{Fault, InputId, NameTable, OutOfMemory, Seq};
 
@@ -102,6 +103,16 @@ pub(crate) fn first_repeat(
     Ok(None)
 }
 
+/// Whether the output imports its memory; a shared one always does.
+fn imports_memory(plan: &Plan) -> bool
+    ensures { result ≡ marks.by_mode (mode_of plan.now) plan.now.import_memory true }
+{
+    match mode_of(plan) {
+        Mode::Plain => plan.import_memory,
+        Mode::Shared => true,
+    }
+}
+
 /// Stops at the first export whose name an earlier one has, or the memory that isn't imported: by its name, the input of the earlier one
 /// (the linker is input 0) and its own.
 pub fn repeated_export(
@@ -115,7 +126,7 @@ pub fn repeated_export(
     requires exports { exports.now ≡ map (told_winner program.names.now.names) w.exports }
     ensures { Passes result (marks.repeated_export (mode_of w.program.plan) w.program w.exports) }
 {
-    let imports_memory = program.plan.import_memory;
+    let imports_memory = imports_memory(program.plan);
     let fault = first_repeat(
         alloc,
         program.objects,

@@ -16,7 +16,7 @@ use Rattle.link_keys.specs.link_program.declared.program.Program.{Program}
 use Rattle.link_keys.specs.link_program.declared.symbol.Winner.{Winner}
 use Rattle.link_keys.specs.link_program.Told.{told_winner}
 use Rattle.link_keys.specs.link_program.Keys.{told_function}
-use Rattle.link_keys.specs.link_program.Program.{IsProgram}
+use Rattle.link_keys.specs.link_program.Program.{IsProgramOf}
 use Rattle.link_keys.specs.link_program.Stand.{PartsStand}
 use Rattle.link_keys.specs.link_program.Live.{AreLive, AllMeant}
 use Rattle.link_numbers.specs.Numbered.{Numbered, IsNumbering, TellsOverflow, numbered}
@@ -29,7 +29,7 @@ a_row_each es n f same =
     ∙ ap (λ (rows : List (List (Option ℕ))). length rows) f.symbols
     ∙ length-map es.objects.now (λ (o : Object). map (symbol_number es.names.now.names) o.symbols)
 
-module _ (d : Program) (p : rules.Program) (live : List ℕ) (parts : List rules.Part) (is : IsProgram d p) (stand : PartsStand p) (are : AreLive p live parts) (meant : AllMeant parts) where
+module _ (d : Program) (p : rules.Program) (live : List ℕ) (parts : List rules.Part) (is : IsProgramOf Plain d p) (stand : PartsStand p) (are : AreLive p live parts) (meant : AllMeant parts) where
   pub given_of : Given d.names.now.names (asked_names p.plan ++ p.plan.exports_if) d.resolution.now.imports d.tables.now d.names.now.symbols p live parts
   given_of = record {
     tables = is.tables;

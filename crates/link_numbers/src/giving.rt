@@ -3,11 +3,11 @@ ghost use Rattle.std.specs.Prelude.{◌≡◌, ◌+◌, ◌<◌, ◌^◌, List, 
 ghost use Rattle.link_keys.specs.link_program.index_layout.Numbers.{number_by};
 ghost use Rattle.link_keys.specs.link_program.name_entries.Fits.{FitsObjects, Fits};
 ghost use Rattle.link_keys.specs.link_program.table_layout.Slots.{table_overflow};
-ghost use Rattle.link_keys.specs.link_program.link_rules.ModeOf.{mode_of};
+ghost use Rattle.link_keys.specs.link_program.made_symbols.declared.mode.Mode.TheVariants as modes;
 ghost use Rattle.link_keys.specs.link_program.link_rules.Keys.{numbers};
 ghost use Rattle.link_keys.specs.link_program.Told.{told_winner};
 ghost use Rattle.link_keys.specs.link_program.Keys.{same_function_key};
-ghost use Rattle.link_keys.specs.link_program.Program.{IsProgram};
+ghost use Rattle.link_keys.specs.link_program.Program.{IsProgramOf};
 ghost use Rattle.link_keys.specs.link_program.Stand.{PartsStand};
 ghost use Rattle.link_keys.specs.link_program.Live.{AreLive, AllMeant};
 ghost use Rattle.link_keys.specs.Codes.{global_code};
@@ -195,18 +195,18 @@ pub fn number<R: Threads + Sync>(
     workers: Workers,
 ) -> Result<Numbering, LayoutError>
     ghost link: { Linked }
-    requires fits { Fits (mode_of link.program.plan) entries }
+    requires fits { Fits modes.Plain entries }
     requires objects { entries.objects.now ≡ program.objects.now }
     requires names { entries.names.now ≡ program.names.now }
-    requires is_program { IsProgram program link.program }
+    requires is_program { IsProgramOf modes.Plain program link.program }
     requires stand { PartsStand link.program }
     requires live { AreLive link.program live.now link.parts }
     requires meant { AllMeant link.parts }
     requires exports { exports.now ≡ map (told_winner program.names.now.names) link.exports }
     ensures numbers { IfOk result (λ n. IsNumbering program.entry.names.now.names program.entry.resolution.now.imports
-        program.entry.tables.now.types link.program link.parts n (numbers (mode_of link.program.plan) link.program link.parts link.exports)) }
-    ensures table { TellsOverflow result (table_overflow (numbers (mode_of link.program.plan) link.program link.parts link.exports).first_slot
-        (length (numbers (mode_of link.program.plan) link.program link.parts link.exports).slots)) }
+        program.entry.tables.now.types link.program link.parts n (numbers modes.Plain link.program link.parts link.exports)) }
+    ensures table { TellsOverflow result (table_overflow (numbers modes.Plain link.program link.parts link.exports).first_slot
+        (length (numbers modes.Plain link.program link.parts link.exports).slots)) }
 {
     let numbering = numbers_told(rt, alloc, program, entries, exports, live, workers)?;
     Ok(numbering)

@@ -1,22 +1,22 @@
 //! What holds of keys and numbers, as a call that does nothing: its contract is the law.
 ghost use Rattle.std.specs.Prelude.{ℕ, List, All};
 ghost use Rattle.link_keys.specs.link_program.name_rules.Entries.{InputSymbol};
-ghost use Rattle.link_keys.specs.link_program.link_rules.ModeOf.{mode_of};
+ghost use Rattle.link_keys.specs.link_program.made_symbols.declared.mode.Mode.TheVariants as modes;
 ghost use Rattle.link_keys.specs.link_program.link_rules.Program as rules;
 ghost use Rattle.link_keys.specs.link_program.link_rules.Marks.{refs_of};
 ghost use Rattle.link_keys.specs.link_program.link_rules.Keys.{numbers};
 ghost use Rattle.link_keys.specs.link_program.declared.program.Program.{Program as Data};
-ghost use Rattle.link_keys.specs.link_program.Program.{IsProgram};
+ghost use Rattle.link_keys.specs.link_program.Program.{IsProgramOf};
 ghost use Rattle.link_keys.specs.link_program.Stand.{PartsStand};
 ghost use Rattle.link_keys.specs.link_program.Live.{AreLive, AllMeant};
 ghost use Rattle.link_numbers.specs.Laws.{TellsNumbers, KnowsRef};
 
 /// Of keys that are known, the numbers as they are told are the numbers; and what references of live parts name is known.
 pub fn keys_are_told()
-    ensures numbers { (d : Data) (p : rules.Program) (live : List ℕ) (parts : List rules.Part) (es : List InputSymbol) → IsProgram d p
+    ensures numbers { (d : Data) (p : rules.Program) (live : List ℕ) (parts : List rules.Part) (es : List InputSymbol) → IsProgramOf modes.Plain d p
         → PartsStand p → AreLive p live parts → AllMeant parts
-        → TellsNumbers d.names.now.names d.resolution.now.imports (numbers (mode_of p.plan) p parts es) }
-    ensures refs { (d : Data) (p : rules.Program) (live : List ℕ) (parts : List rules.Part) → IsProgram d p
+        → TellsNumbers d.names.now.names d.resolution.now.imports (numbers modes.Plain p parts es) }
+    ensures refs { (d : Data) (p : rules.Program) (live : List ℕ) (parts : List rules.Part) → IsProgramOf modes.Plain d p
         → PartsStand p → AreLive p live parts → AllMeant parts
         → All (KnowsRef d.names.now.names d.resolution.now.imports) (refs_of parts) }
 {}

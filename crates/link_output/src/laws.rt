@@ -12,7 +12,7 @@ ghost use Rattle.link_program.specs.image_emit.Bytes.{tree_of, bytes_of};
 ghost use Rattle.link_program.specs.image_emit.Measures.{LieIn, image_measure};
 ghost use Rattle.link_program.specs.image_emit.Pieces.{sources};
 ghost use Rattle.link_program.specs.name_rules.Entries.{InputSymbol};
-ghost use Rattle.link_program.specs.link_rules.ModeOf.{mode_of};
+ghost use Rattle.link_program.specs.made_symbols.declared.mode.Mode.TheVariants as modes;
 ghost use Rattle.link_program.specs.link_rules.Program.{Program, Part};
 ghost use Rattle.link_program.specs.link_rules.Keys.{numbers};
 ghost use Rattle.link_program.specs.link_rules.Values.{Layout};
@@ -25,9 +25,9 @@ ghost use Rattle.link_output.specs.Written.{StandInSources, Writes};
 /// The sources of the image lie in their files, and the windows of each source in it.
 pub fn windows_stand_in_sources()
     ensures lie { (p : Program) (live : List ℕ) (parts : List Part) (es : List InputSymbol) → PartsStand p → AreLive p live parts
-        → LieIn p.files (image (mode_of p.plan) p parts es (layout (mode_of p.plan) p parts es)) }
+        → LieIn p.files (image modes.Plain p parts es (layout modes.Plain p parts es)) }
     ensures stand { (p : Program) (live : List ℕ) (parts : List Part) (es : List InputSymbol) → PartsStand p → AreLive p live parts
-        → StandInSources (source_windows (mode_of p.plan) p parts es (layout (mode_of p.plan) p parts es)) (sources (tree_of p.files (image (mode_of p.plan) p parts es (layout (mode_of p.plan) p parts es)))) }
+        → StandInSources (source_windows modes.Plain p parts es (layout modes.Plain p parts es)) (sources (tree_of p.files (image modes.Plain p parts es (layout modes.Plain p parts es)))) }
 {}
 
 /// The first value that is out of range, of the windows by their places in the output, is the first one source by source.

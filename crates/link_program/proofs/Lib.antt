@@ -1,4 +1,5 @@
 pub mod Loose
+pub mod Modes
 pub mod ReadAt
 pub mod Chunks
 pub use Rattle.link_rules.proofs.image_emit_lemmas as image_emit_lemmas

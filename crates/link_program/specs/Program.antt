@@ -9,12 +9,13 @@ use Rattle.link_rules.specs.round_rules.Rounds.{Candidate}
 use Rattle.name_meanings.specs.name_entries.name_rules.Entries.{InputSymbol, ImportKey, entries, name_of}
 use Rattle.name_meanings.specs.name_entries.name_rules.Meanings.{resolve}
 use Rattle.name_meanings.specs.name_entries.name_rules.Cases.{first_entry}
+use Rattle.name_meanings.specs.name_entries.made_symbols.declared.mode.Mode.{Mode}
 use Rattle.name_meanings.specs.name_entries.View.{InputsRise, WinnersAre}
 use Rattle.name_meanings.specs.Means.{IsResolution}
 use Rattle.link_rules.specs.Program as rules
 use Rattle.link_rules.specs.Program.{winners_of, parts_of, loose_parts, loose_variants}
 use Rattle.link_rules.specs.ModeOf.{mode_of}
-use Rattle.link_rules.specs.Keys.{imports_in_order, function_type_of, entry_type}
+use Rattle.link_rules.specs.Keys.{all_imports, function_type_of, entry_type}
 use Rattle.link_rules.specs.LinkOf.{asked_names}
 use Rattle.link_program.specs.declared.program.Program.{Program}
 use Rattle.link_program.specs.declared.program.Tables.{Tables}
@@ -47,23 +48,31 @@ pub record AreTables (names : List (List ℕ)) (imports : List ImportKey) (t : T
   pub few_parts : length p.parts < 2 ^ 32 - 1
   pub few_symbols : length t.symbols < 2 ^ 32
 
--- The data are those of the program.
-pub record IsProgram (d : Program) (p : rules.Program) : Type 0 where
+-- The data are those of the program of a mode.
+pub record IsProgramOf (mode : Mode) (d : Program) (p : rules.Program) : Type 0 where
   -- the loaded objects, and what the definition finds of them
   pub plan : d.plan.now ≡ p.plan
   pub objects : d.objects.now ≡ p.objects
   pub rise : InputsRise 0 p.objects
-  pub entries : p.entries ≡ entries (mode_of p.plan) p.objects
+  pub entries : p.entries ≡ entries mode p.objects
   pub winners_are : p.winners ≡ winners_of p.entries
-  pub resolved : p.resolved ≡ resolve (mode_of p.plan) p.plan.allow_undefined p.entries p.objects
-  pub parts_are : (all : List Candidate) × (p.parts ≡ loose_parts p.plan.loose_calls p.entries (parts_of (mode_of p.plan) all p.objects p.resolved))
+  pub resolved : p.resolved ≡ resolve mode p.plan.allow_undefined p.entries p.objects
+  pub parts_are : (all : List Candidate) × (p.parts ≡ loose_parts p.plan.loose_calls p.entries (parts_of mode all p.objects p.resolved))
   pub variants_are : p.variants ≡ loose_variants p.plan.loose_calls p.entries p.resolved
   -- names, winners and meanings by number
-  pub numbers : AreNumbers (mode_of p.plan) p.objects d.names.now
-  pub order : d.names.now.names ≡ different_names (mode_of p.plan) (asked_names p.plan ++ p.plan.exports_if) p.objects ++ variant_names p.variants
-  pub apart : All (λ v. list_any (bytes_eq (name_of v)) (different_names (mode_of p.plan) (asked_names p.plan ++ p.plan.exports_if) p.objects) ≡ false) p.variants
+  pub numbers : AreNumbers mode p.objects d.names.now
+  pub order : d.names.now.names ≡ different_names mode (asked_names p.plan ++ p.plan.exports_if) p.objects ++ variant_names p.variants
+  pub apart : All (λ v. list_any (bytes_eq (name_of v)) (different_names mode (asked_names p.plan ++ p.plan.exports_if) p.objects) ≡ false) p.variants
   pub ranks : WinnersAre d.names.now.names p.entries d.ranks.now
   pub resolution : IsResolution d.resolution.now p.resolved
-  pub imports : d.resolution.now.imports ≡ imports_in_order p
+  pub imports : d.resolution.now.imports ≡ all_imports mode p
   -- what is looked up
   pub tables : AreTables d.names.now.names d.resolution.now.imports d.tables.now p
+
+-- The same of the mode that its plan asks for.
+abbrev pub IsProgram : Program → rules.Program → Type 0
+IsProgram d p = IsProgramOf (mode_of p.plan) d p
+
+-- The same of some mode, whichever it is.
+abbrev pub IsProgramOfSome : Program → rules.Program → Type 0
+IsProgramOfSome d p = (mode : Mode) × IsProgramOf mode d p

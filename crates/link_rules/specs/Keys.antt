@@ -1,7 +1,7 @@
 -- The numbered things of the output, each as a list of keys. A number is the place of a key.
-use Rattle.std.specs.Prelude.{ℕ, ◌+◌, ◌==◌, Bool, true, false, not, ◌&&◌, ◌||◌, List, [], ◌++◌, map, filter, filter_map, flat_map, find, if◌then◌else◌, Option, Some, None, bytes_eq, codes}
+use Rattle.std.specs.Prelude.{ℕ, ◌+◌, ◌==◌, Bool, true, false, not, ◌&&◌, ◌||◌, List, [], ◌∷◌, ◌++◌, map, filter, filter_map, flat_map, find, if◌then◌else◌, Option, Some, None, bytes_eq, codes}
 use Rattle.std.specs.List.{list_any}
-use Rattle.name_rules.specs.object_file.wl_base.Choice.{given, distinct}
+use Rattle.name_rules.specs.object_file.wl_base.Choice.{given, distinct, distinct_onto}
 use Rattle.name_rules.specs.object_file.wasm_types.declared.function.FuncType.{FuncType}
 use Rattle.name_rules.specs.object_file.wasm_types.Same.{same_type}
 use Rattle.name_rules.specs.object_file.linking_section.declared.symbol.SymbolKind.TheVariants.{Function, Datum, GlobalVar}
@@ -16,8 +16,8 @@ use Rattle.name_rules.specs.Meanings.{Meaning, here, imported, null, nothing, ce
 use Rattle.mark_bits.specs.declared.kinds.TheConstants as chunks
 use Rattle.type_merge.specs.Types.{merged}
 use Rattle.index_layout.specs.Numbers.{number_by}
-use Rattle.link_rules.specs.Program.{Program, Part, Content, function, segment, global, linker_made, Ref, types_named}
-use Rattle.link_rules.specs.Marks.{refs_of, is_here, is_foreign, reads_cell, by_mode}
+use Rattle.link_rules.specs.Program.{Program, Part, Content, function, segment, global, linker_made, Ref, types_named, option_onto}
+use Rattle.link_rules.specs.Marks.{refs_of, is_here, is_foreign_symbol, is_foreign, reads_cell, by_mode}
 
 -- A function of the output: an import; one that the linker makes, by its number; the stub of a null name; or one that an object
 -- defines, by its input and its place among that object's definitions.
@@ -130,6 +130,25 @@ import_of nothing = None
 unfoldable pub imports_in_order : Program → List ImportKey
 imports_in_order p = distinct same_import (filter_map import_of (flat_map (λ r. r.meanings) p.resolved))
 
+-- The import of a linker-made global.
+abbrev pub made_global_import : InputSymbol → Option ImportKey
+made_global_import e = given ((e.input == 0) && is_kind GlobalVar e) (record { module_name = codes "env"; field = name_of e; type = e.type })
+
+-- The cells of the addresses of foreign functions; a foreign function that is called means its import, and not its cell.
+abbrev pub function_cells : List InputSymbol → List Meaning → List ImportKey
+function_cells [] ms = []
+function_cells (e ∷ es) [] = []
+function_cells (e ∷ es) (m ∷ ms) = option_onto (given (is_kind Function e && is_foreign_symbol e m) (cell_of e)) (function_cells es ms)
+
+-- What a shared output may import that no symbol means: the linker's globals, and those cells.
+abbrev pub further_imports : Program → List ImportKey
+further_imports p = filter_map made_global_import p.entries ++ flat_map (λ r. function_cells r.symbols r.meanings) p.resolved
+
+-- All that may be imported, each once: what symbols mean, and behind that what a shared output may import besides.
+abbrev pub all_imports : Mode → Program → List ImportKey
+all_imports Plain p = imports_in_order p
+all_imports Shared p = distinct_onto same_import (imports_in_order p) (further_imports p)
+
 abbrev pub has_import : List ImportKey → ImportKey → Bool
 has_import used k = list_any (same_import k) used
 
@@ -155,7 +174,7 @@ imports_by Shared ref = (ref.kind == relocs.FUNCTION_INDEX_LEB) || is_kind Globa
 
 -- The imported functions to which live parts refer.
 abbrev pub function_imports_of : Mode → Program → List Ref → List ImportKey
-function_imports_of mode p refs = filter (λ k. is_function_type k.type && has_import (used_imports (filter (imports_by mode) refs)) k) (imports_in_order p)
+function_imports_of mode p refs = filter (λ k. is_function_type k.type && has_import (used_imports (filter (imports_by mode) refs)) k) (all_imports mode p)
 
 -- whether a reference is a call of the null function of this name
 abbrev pub calls_stub : List ℕ → Ref → Bool
@@ -210,11 +229,7 @@ slots mode parts fs = filter (is_taken (map ref_function (filter (takes_slot mod
 -- ---- globals
 
 abbrev pub used_globals : Mode → Program → List Ref → List ImportKey
-used_globals mode p refs = filter (λ k. is_global_type k.type && has_import (used_imports (filter (imports_by mode) refs)) k) (imports_in_order p)
-
--- The import of a linker-made global.
-abbrev pub made_global_import : InputSymbol → Option ImportKey
-made_global_import e = given ((e.input == 0) && is_kind GlobalVar e) (record { module_name = codes "env"; field = name_of e; type = e.type })
+used_globals mode p refs = filter (λ k. is_global_type k.type && has_import (used_imports (filter (imports_by mode) refs)) k) (all_imports mode p)
 
 -- The cell of a foreign address that a reference uses.
 abbrev pub foreign_cell : Ref → Option ImportKey

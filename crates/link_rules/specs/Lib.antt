@@ -13,6 +13,7 @@ pub mod DataRows
 pub mod LoadingRows
 pub mod MoreRows
 pub mod FurtherRows
+pub mod SharedRows
 pub mod Rows
 pub use Rattle.round_rules.specs as round_rules
 pub use Rattle.dylink_out.specs.image_emit as image_emit

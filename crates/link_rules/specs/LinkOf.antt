@@ -1,5 +1,5 @@
 -- The link of files by a plan: the first fault that applies, or the bytes of the output.
-use Rattle.std.specs.Prelude.{ℕ, ◌-◌, ◌^◌, nat_lt, List, ◌++◌, map, flat_map, length, Option, option_map, bytes_eq, Result, Ok, pos}
+use Rattle.std.specs.Prelude.{◌≡◌, ℕ, ◌-◌, ◌^◌, nat_lt, List, ◌++◌, map, flat_map, length, Option, option_map, bytes_eq, Result, Ok, pos}
 use Rattle.name_rules.specs.object_file.wl_base.Choice.{given, distinct, unless, ◌>>=◌}
 use Rattle.name_rules.specs.object_file.wl_base.declared.fault.Fault.{Fault}
 use Rattle.name_rules.specs.object_file.wl_base.declared.fault.Fault.TheVariants.{TooManyNames, Overflow}
@@ -7,7 +7,9 @@ use Rattle.name_rules.specs.object_file.wl_base.declared.fault.What.TheVariants.
 use Rattle.name_rules.specs.object_file.declared.object.Object.{Object}
 use Rattle.name_rules.specs.object_file.ObjectOf.{object_of}
 use Rattle.lib_index.specs.Reading.{library_of}
+use Rattle.std.proofs.Common.{ap}
 use Rattle.made_symbols.specs.declared.mode.Mode.{Mode}
+use Rattle.made_symbols.specs.declared.mode.Mode.TheVariants.{Plain}
 use Rattle.round_rules.specs.Rounds.{load}
 use Rattle.name_rules.specs.Entries.{InputSymbol, name_of}
 use Rattle.name_rules.specs.Cases.{clash_by, duplicate}
@@ -19,7 +21,7 @@ use Rattle.dylink_out.specs.image_emit.declared.tree.Image.{Image}
 use Rattle.dylink_out.specs.image_emit.Bytes.{bytes_of, tree_of}
 use Rattle.dylink_out.specs.image_emit.Filled.{tree_filled}
 use Rattle.link_plan.specs.declared.plan.Plan.{Plan}
-use Rattle.link_rules.specs.ModeOf.{mode_of}
+use Rattle.link_rules.specs.ModeOf.{mode_of, IsPlain, plain_mode}
 use Rattle.link_rules.specs.Candidates.{Readers, candidates_of}
 use Rattle.link_rules.specs.Program.{Program, Part, program_of}
 use Rattle.link_rules.specs.Marks.{demanded, exported, repeated_export, live, pic_fault, unresolved, uncalled}
@@ -63,7 +65,8 @@ length_fault n = given (nat_lt (2 ^ 31 - 1) n) (Overflow OutputLength (pos n))
 unfoldable pub output_fault : Program → Image → Option Fault
 output_fault p i = length_fault (length (bytes_of (tree_of p.files i)))
 
--- The first window, by place in the output, whose value is out of range.
+-- The first window, by place in the output, whose value is out of range. All windows are judged by their values, also those of data of a
+-- shared output, which are written as 0 (`held`) and get their values when it is loaded; a foreign one is judged by its addend, or as 0.
 unfoldable pub reference_fault : List (List Window) → Option Fault
 reference_fault wss = option_map (Overflow Reference) (value_overflow (flat_map (λ ws. ws) wss))
 
@@ -127,3 +130,8 @@ the_readers = record { object = object_of; library = library_of }
 -- The link of files by a plan.
 unfoldable pub link_of : Plan → List (List ℕ) → Result (List ℕ) Fault
 link_of plan files = link_by (mode_of plan) the_readers plan files
+
+-- The link of a plan that asks for a plain output.
+pub plain_link : (plan : Plan) (files : List (List ℕ)) → IsPlain plan → link_of plan files ≡ link_by Plain the_readers plan files
+unfolding link_of
+plain_link plan files plain = ap (λ mode. link_by mode the_readers plan files) (plain_mode plan plain)

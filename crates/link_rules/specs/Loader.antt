@@ -1,7 +1,7 @@
 -- What the function of a shared output makes right when it is loaded, and what its loader is told (DynamicLinking.md).
-use Rattle.std.specs.Prelude.{ℕ, ◌+◌, max, Bool, true, false, ◌==◌, List, [], ◌∷◌, ◌++◌, map, filter, filter_map, flat_map, if◌then◌else◌, Option, Some, None, pos, ◌+ℤ◌}
+use Rattle.std.specs.Prelude.{ℕ, ◌+◌, max, Bool, true, false, not, ◌&&◌, ◌||◌, ◌==◌, List, [], ◌∷◌, ◌++◌, map, filter, filter_map, flat_map, if◌then◌else◌, Option, Some, None, pos, ◌+ℤ◌}
 use Rattle.std.specs.List.{list_any, list_all}
-use Rattle.name_rules.specs.object_file.linking_section.declared.symbol.SymbolKind.TheVariants.{Function}
+use Rattle.name_rules.specs.object_file.linking_section.declared.symbol.SymbolKind.TheVariants.{Function, Datum}
 use Rattle.name_rules.specs.object_file.linking_section.Flags.{is_weak}
 use Rattle.name_rules.specs.object_file.reloc_section.declared.kinds.TheConstants as relocs
 use Rattle.made_symbols.specs.declared.mode.Mode.{Mode}
@@ -64,9 +64,17 @@ module _ (mode : Mode) (p : Program) (parts : List Part) (l : Layout) where
   abbrev pub is_weak_name : InputSymbol → Bool
   is_weak_name e = list_all (λ f. is_weak f.symbol) (named p.entries (name_of e))
 
-  -- A WEAK name's imports: the one that its symbols mean, and for a function also the cell of its address, where live parts use it.
+  -- The imports that are made for a WEAK name: the one that its symbols mean, but the cell of an address only where live parts use it.
+  abbrev pub has_cell : InputSymbol → Bool
+  has_cell e = is_kind Function e || is_kind Datum e
+
+  abbrev pub imports_for : InputSymbol → ImportKey → List ImportKey
+  imports_for e k =
+      filter (λ i. not (has_cell e && same_import i (cell_of e))) (k ∷ [])
+      ++ filter (λ i. has_cell e && has_import (foreign_cells parts) i) (cell_of e ∷ [])
+
   abbrev pub weak_meaning : InputSymbol → Meaning → List ImportKey
-  weak_meaning e (imported k) = if is_weak_name e then k ∷ (if is_kind Function e then filter (has_import (foreign_cells parts)) (cell_of e ∷ []) else []) else []
+  weak_meaning e (imported k) = if is_weak_name e then imports_for e k else []
   weak_meaning e (here d) = []
   weak_meaning e null = []
   weak_meaning e nothing = []

@@ -181,10 +181,13 @@ exported Shared p = exports_with p (has_calls p) (has_work p (exports_without p 
 -- ---- code that isn't position-independent
 
 -- In a shared output a function, datum or global that the link doesn't define is foreign.
+abbrev pub is_foreign_symbol : InputSymbol → Meaning → Bool
+is_foreign_symbol e m =
+    not (is_here m) && not (is_local_definition e.symbol)
+    && (is_kind Function e || is_kind Datum e || is_kind GlobalVar e)
+
 abbrev pub is_foreign : Ref → Bool
-is_foreign ref =
-    not (is_here ref.meaning) && not (is_local_definition ref.entry.symbol)
-    && (is_kind Function ref.entry || is_kind Datum ref.entry || is_kind GlobalVar ref.entry)
+is_foreign ref = is_foreign_symbol ref.entry ref.meaning
 
 -- a slot or an address that counts from 0
 abbrev pub is_absolute : ℕ → Bool

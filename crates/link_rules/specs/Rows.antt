@@ -10,6 +10,7 @@ use Rattle.memory_layout.specs.Memory.{places, memory_overflow}
 use Rattle.ctor_call.specs.Body.{ctor_body}
 use Rattle.reloc_apply.specs.Windows.{value_overflow}
 use Rattle.dylink_out.specs.image_emit.Bytes.{bytes_of}
+use Rattle.link_rules.specs.ModeOf.{mode_of}
 use Rattle.link_rules.specs.Candidates.{candidates_of}
 use Rattle.link_rules.specs.Program.{init_calls, parts_of, winners_of, program_of}
 use Rattle.link_rules.specs.Marks.{exported, repeated_export, live, pic_fault, unresolved, uncalled}
@@ -24,10 +25,11 @@ use Rattle.link_rules.specs.DataRows as data_of
 use Rattle.link_rules.specs.LoadingRows as loading_of
 use Rattle.link_rules.specs.MoreRows as more_of
 use Rattle.link_rules.specs.FurtherRows as further_of
+use Rattle.link_rules.specs.SharedRows as shared_of
 
 abbrev pub all_rows : List Row
-all_rows = names_of.rows ++ data_of.rows ++ loading_of.rows ++ more_of.rows ++ further_of.rows
+all_rows = names_of.rows ++ data_of.rows ++ loading_of.rows ++ more_of.rows ++ further_of.rows ++ shared_of.rows
 
 pub all_worked : links all_rows ≡ answers all_rows
-unfolding link_by candidates_of load entries resolve program_of winners_of parts_of init_calls asked_names too_many_names clash loose_clash duplicate exported repeated_export link_program marked live reached pic_fault unresolved uncalled memory_fault memory_overflow shapes laid_out layout places functions slots globals types imports_in_order table_fault written image source_windows windows output_fault reference_fault value_overflow output_bytes bytes_of u32 u32_padded s32 s32_padded s64 ctor_body apply_body dylink_payload
+unfolding mode_of link_by candidates_of load entries resolve program_of winners_of parts_of init_calls asked_names too_many_names clash loose_clash duplicate exported repeated_export link_program marked live reached pic_fault unresolved uncalled memory_fault memory_overflow shapes laid_out layout places functions slots globals types imports_in_order table_fault written image source_windows windows output_fault reference_fault value_overflow output_bytes bytes_of u32 u32_padded s32 s32_padded s64 ctor_body apply_body dylink_payload
 all_worked = refl

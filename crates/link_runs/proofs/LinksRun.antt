@@ -16,7 +16,7 @@ use Rattle.name_rules.specs.Cases.{clash_by}
 use Rattle.link_output.specs.link_rules.Candidates.{candidates_of}
 use Rattle.link_output.specs.link_rules.Program.{Program, program_of, Part}
 use Rattle.link_output.specs.link_rules.Marks.{live, exported}
-use Rattle.link_output.specs.link_rules.LinkOf.{asked_names, the_readers, link_of, link_by, link_program}
+use Rattle.link_output.specs.link_rules.LinkOf.{asked_names, the_readers, link_by, link_program, plain_link}
 use Rattle.link_output.specs.link_program.Loaded.{home_of, IsLoaded, IsReadFrom}
 use Rattle.link_inputs.specs.Loaded.{LoadedAreSound}
 use Rattle.link_facts.specs.link_worlds.Worlds.{layout_of, linked_tree}
@@ -105,7 +105,7 @@ module _ (plan : Plan) (files : List (List ℕ)) (all : List Candidate) (objects
 
 gives_bytes : ((t : Tree) → entries t ≤ length (bytes_of_tree t)) → OutputRuns → FactsHold → LoadedAreSound → (plan : Plan) (files : List (List ℕ)) (bytes : List ℕ) (all : List Candidate) (objects : List Object)
     → IsPlan plan → length files ≡ unwrap_or plan.make_case (length plan.inputs)
-    → candidates_of the_readers plan files ≡ Ok all → load Plain (asked_names plan) all ≡ Ok objects → link_of plan files ≡ Ok bytes
+    → candidates_of the_readers plan files ≡ Ok all → load Plain (asked_names plan) all ≡ Ok objects → link_by Plain the_readers plan files ≡ Ok bytes
     → Gives (program_of Plain plan files all objects) (exported Plain (program_of Plain plan files all objects)) bytes
 unfolding program_of
 gives_bytes law runs facts loads plan files bytes all objects fit long c l e =
@@ -124,9 +124,9 @@ step_gives (Ok x) f y e = (x, refl, e)
 step_gives (Err g) f y e = absurd (grind arith)
 
 -- what a link that gives bytes found and loaded
-loads_of : (plan : Plan) (files : List (List ℕ)) (bytes : List ℕ) → link_of plan files ≡ Ok bytes
+loads_of : (plan : Plan) (files : List (List ℕ)) (bytes : List ℕ) → link_by Plain the_readers plan files ≡ Ok bytes
     → (all : List Candidate) × (objects : List Object) × (candidates_of the_readers plan files ≡ Ok all) × (load Plain (asked_names plan) all ≡ Ok objects)
-unfolding link_of link_by
+unfolding link_by
 loads_of plan files bytes e =
     let linked : List Candidate → List Object → Result (List ℕ) Fault = λ all objects. link_program Plain (program_of Plain plan files all objects) in
     let a = step_gives (candidates_of the_readers plan files) (λ all. load Plain (asked_names plan) all >>= linked all) bytes e in
@@ -134,7 +134,8 @@ loads_of plan files bytes e =
     (a.0, b.0, a.1, b.1)
 
 pub links_law : ((t : Tree) → entries t ≤ length (bytes_of_tree t)) → OutputRuns → FactsHold → LoadedAreSound → LinksRun
-links_law law runs facts loads plan files bytes fit long e =
+links_law law runs facts loads plan files bytes fit long given plain =
+    let e = sym (plain_link plan files plain) ∙ given in
     let l = loads_of plan files bytes e in
     record {
       all = l.0;

@@ -6,6 +6,7 @@ use Rattle.link_plan.specs.declared.plan.Plan.{Plan}
 use Rattle.link_plan.specs.Plan.{IsPlan}
 use Rattle.made_symbols.specs.declared.mode.Mode.TheVariants.{Plain}
 use Rattle.link_output.specs.link_rules.Candidates.{candidates_of}
+use Rattle.link_output.specs.link_rules.ModeOf.{IsPlain}
 use Rattle.link_output.specs.link_rules.LinkOf.{asked_names, the_readers, link_of}
 use Rattle.link_output.specs.link_rules.Marks.{exported}
 use Rattle.link_output.specs.link_rules.Program.{program_of}
@@ -20,7 +21,7 @@ pub record Runs (plan : Plan) (files : List (List ℕ)) (bytes : List ℕ) : Typ
   pub loaded : load Plain (asked_names plan) all ≡ Ok objects
   pub gives : Gives (program_of Plain plan files all objects) (exported Plain (program_of Plain plan files all objects)) bytes
 
--- So does each module that a link gives.
+-- So does each module that a link gives where the plan asks for a plain output. What a shared one does hangs on its loader.
 abbrev pub LinksRun : Type 0
 LinksRun = (plan : Plan) (files : List (List ℕ)) (bytes : List ℕ)
-    → IsPlan plan → length files ≡ unwrap_or plan.make_case (length plan.inputs) → link_of plan files ≡ Ok bytes → Runs plan files bytes
+    → IsPlan plan → length files ≡ unwrap_or plan.make_case (length plan.inputs) → link_of plan files ≡ Ok bytes → IsPlain plan → Runs plan files bytes

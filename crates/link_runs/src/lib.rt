@@ -16,8 +16,8 @@ pub fn outputs_run()
     link_facts::values_and_segments_fit();
 }
 
-/// Where `link_of` gives bytes, the same holds of them: the candidates of the files and the loaded
-/// objects are those of the definition.
+/// Where the plan isn't shared and `link_of` gives bytes, the same holds of them: the candidates of the
+/// files and the loaded objects are those of the definition.
 pub fn links_run()
     ensures { LinksRun }
 {

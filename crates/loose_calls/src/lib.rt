@@ -13,7 +13,7 @@ mod variant;
 pub use loosening::loosened;
 pub use name_cases::{first_clash, first_duplicate, first_loose_clash};
 pub use program_tables::{
-    Entries, EntryTable, Home, LinkError, Names, Object, PairCase, Program, Resolution, Tables,
-    add_names, asked_names, resolve, tables_of,
+    Entries, EntryTable, Home, LinkError, Mode, Names, Object, PairCase, Program, Resolution,
+    Tables, add_names, asked_names, mode_of, resolve, tables_of,
 };
 pub use telling::mismatches;

@@ -19,7 +19,7 @@ use Rattle.link_marks.specs.link_program.wl_base.Choice.{has_name}
 use Rattle.link_marks.specs.link_program.link_names.Numbered.{Held}
 use Rattle.link_marks.specs.link_program.declared.program.Program.{Program}
 use Rattle.link_marks.specs.link_program.Told.{told_all, told_symbols, told_variant}
-use Rattle.link_marks.specs.link_program.Program.{IsProgram}
+use Rattle.link_marks.specs.link_program.Program.{IsProgramOf}
 use Rattle.link_marks.specs.Alive.{IsLive}
 use Rattle.link_marks.specs.declared.live.Live.{Live}
 use Rattle.link_marks.proofs.link_program_lemmas.name_entries_lemmas.Few.{few}
@@ -48,7 +48,7 @@ is_judged true true inits exits is b lost = absurd cc
 is_judged false true inits exits is b lost = absurd cc
 is_judged false false inits exits is b lost = absurd cc
 
-module _ (d : Program) (p : rules.Program) (is : IsProgram d p) where
+module _ (d : Program) (p : rules.Program) (is : IsProgramOf Plain d p) where
   abbrev resolved_of : Object → Resolved
   resolved_of o = resolved_in Plain no_uses p.plan.allow_undefined (entries Plain p.objects) p.objects o
 
@@ -128,4 +128,4 @@ module _ (d : Program) (p : rules.Program) (is : IsProgram d p) where
 
   -- the names of winners are held
   pub winners_held : All (λ e. Held d.names.now.names (name_of e)) p.winners
-  winners_held = winner_names_held d p is
+  winners_held = winner_names_held Plain d p is

@@ -8,5 +8,7 @@ mod inits;
 mod lost;
 mod words;
 
-pub use link_marks::{Live, all_are_meant, exports, live_parts, repeated_export, unresolved};
+pub use link_marks::{
+    Live, Mode, all_are_meant, exports, live_parts, mode_of, repeated_export, unresolved,
+};
 pub use lost::uncalled;

@@ -6,7 +6,8 @@ ghost use Rattle.link_marks.specs.link_program.wl_base.Names.{number_of};
 ghost use Rattle.link_marks.specs.link_program.name_entries.View.{is_number};
 ghost use Rattle.link_marks.specs.link_program.link_rules.Program as rules;
 ghost use Rattle.link_marks.specs.link_program.link_rules.Marks.{demanded, ctors_name, names_ctors};
-ghost use Rattle.link_marks.specs.link_program.Program.{IsProgram};
+ghost use Rattle.link_marks.specs.link_program.made_symbols.declared.mode.Mode.TheVariants as modes;
+ghost use Rattle.link_marks.specs.link_program.Program.{IsProgramOf};
 
 use link_marks::{Names, Program};
 use link_plan::Plan;
@@ -78,7 +79,7 @@ fn objects_name(names: &Names, objects: u32, number: u32) -> bool
 /// Whether the words name the linker's function, or an object has an entry of its name.
 pub(crate) fn names_ctors(program: Program<'_>) -> bool
     ghost p: { rules.Program }
-    requires { IsProgram program p }
+    requires { IsProgramOf modes.Plain program p }
     ensures { result ≡ names_ctors p }
 {
     if words_name(program.plan) {

@@ -10,7 +10,6 @@ use Rattle.name_entries.specs.object_file.declared.object.Object.{Object}
 use Rattle.name_entries.specs.name_rules.declared.meaning.Meaning.{Meaning as Told}
 use Rattle.name_entries.specs.name_rules.Entries.{ImportKey, entries, symbols_of}
 use Rattle.name_entries.specs.name_rules.Meanings.{Meaning, Resolved, resolve}
-use Rattle.name_entries.specs.made_symbols.declared.mode.Mode.{Mode}
 use Rattle.name_entries.specs.made_symbols.declared.mode.Mode.TheVariants.{Plain}
 use Rattle.name_entries.specs.View.{rows_of, InputsRise}
 use Rattle.name_meanings.specs.declared.naming.Known.{Known}
@@ -100,9 +99,8 @@ pub all_done : (k : Known) (rows : List (List Told)) (f : Found) (i : ℕ) → R
 all_done k rows f i before past =
     subst (λ os. IsResolution (record { rows = rows; imports = f.imports }) (map (resolved_of k) os)) (take_all i k.entries.objects.now past) before.done.answers
 
-pub resolved_is : (mode : Mode) (k : Known) (rows : List (List Told)) (imports : List ImportKey) → mode ≡ Plain
+pub resolved_is : (k : Known) (rows : List (List Told)) (imports : List ImportKey)
     → IsResolution (record { rows = rows; imports = imports }) (map (resolved_of k) k.entries.objects.now)
-    → IsResolution (record { rows = rows; imports = imports }) (resolve mode k.allow_undefined (entries mode k.entries.objects.now) k.entries.objects.now)
+    → IsResolution (record { rows = rows; imports = imports }) (resolve Plain k.allow_undefined (entries Plain k.entries.objects.now) k.entries.objects.now)
 unfolding resolve
-resolved_is mode k rows imports plain is =
-    subst (λ m. IsResolution (record { rows = rows; imports = imports }) (resolve m k.allow_undefined (entries m k.entries.objects.now) k.entries.objects.now)) (sym plain) is
+resolved_is k rows imports is = is

@@ -74,20 +74,17 @@ fn all_rows(
     Ok(rows.shrunk())
 }
 
-/// What the symbols of the loaded objects mean: of each name the winner, else an import of a reference with EXPLICIT_NAME, else with
-/// `allow_undefined` that of a reference, else null for a WEAK function or datum, else nothing. Only plain outputs are asked for so far.
-pub fn resolve(
+/// What they mean in a plain output.
+fn resolve_plain(
     alloc: Global,
     entries: Entries<'_>,
     winners: &Winners,
     allow_undefined: bool,
-    mode: Mode,
 ) -> Result<Resolution, OutOfMemory>
-    requires mode { mode ≡ modes.Plain }
-    requires fits { Fits mode entries }
-    requires winners { WinnersAre entries.names.now.names (all_entries mode entries.objects.now) winners.now }
+    requires fits { Fits modes.Plain entries }
+    requires winners { WinnersAre entries.names.now.names (all_entries modes.Plain entries.objects.now) winners.now }
     ensures { IfOk result (λ r. IsResolution r
-        (resolved mode allow_undefined (all_entries mode entries.entry.objects.now) entries.entry.objects.now)) }
+        (resolved modes.Plain allow_undefined (all_entries modes.Plain entries.entry.objects.now) entries.entry.objects.now)) }
 {
     let columns = columns_of(alloc, entries)?;
     let known = Known {
@@ -106,4 +103,25 @@ pub fn resolve(
         numbers: _,
     } = found;
     Ok(Resolution { rows, imports })
+}
+
+/// What the symbols of the loaded objects mean: of each name the winner, else an import of a reference with EXPLICIT_NAME, else with
+/// `allow_undefined` that of a reference, else null for a WEAK function or datum, else nothing. Of a shared output it isn't told yet: that
+/// is answered as want of memory.
+pub fn resolve(
+    alloc: Global,
+    entries: Entries<'_>,
+    winners: &Winners,
+    allow_undefined: bool,
+    mode: Mode,
+) -> Result<Resolution, OutOfMemory>
+    requires fits { Fits mode entries }
+    requires winners { WinnersAre entries.names.now.names (all_entries mode entries.objects.now) winners.now }
+    ensures { IfOk result (λ r. IsResolution r
+        (resolved mode allow_undefined (all_entries mode entries.entry.objects.now) entries.entry.objects.now)) }
+{
+    match mode {
+        Mode::Plain => resolve_plain(alloc, entries, winners, allow_undefined),
+        Mode::Shared => Err(OutOfMemory),
+    }
 }

@@ -104,7 +104,7 @@ all_mapped P f [] all = All-nil P
 all_mapped P f (x ∷ xs) all = All-cons P (f x) (map f xs) (All-head (λ x. P (f x)) x xs all) (all_mapped P f xs (All-tail (λ x. P (f x)) x xs all))
 
 module _ (origin : Origin) (objects : List Object) (n m : names.Numbered) (table : EntryTable) (ms : Meanings) (homes : List Home) (loaded : IsLoaded origin.files origin.all objects homes)
-    (meant : AreMeant origin objects n table ms) (stays : Stays n m) (few : length m.names < 2 ^ 32) where
+    (meant : AreMeant Plain origin objects n table ms) (stays : Stays n m) (few : length m.names < 2 ^ 32) where
   abbrev variants : List InputSymbol
   variants = variants_in origin.plan.loose_calls origin.plan.allow_undefined objects
 

@@ -15,7 +15,7 @@ use Rattle.loose_calls.specs.link_program.name_entries.Fits.{IsTable}
 use Rattle.loose_calls.specs.link_program.name_meanings.Means.{IsResolution}
 use Rattle.loose_calls.specs.link_program.link_plan.declared.plan.Plan.{Plan}
 use Rattle.loose_calls.specs.link_program.link_rules.Program.{Program, winners_of, parts_of, loose_parts, loose_variants}
-use Rattle.loose_calls.specs.link_program.link_rules.Keys.{imports_in_order}
+use Rattle.loose_calls.specs.link_program.link_rules.Keys.{all_imports}
 use Rattle.loose_calls.specs.link_program.link_rules.LinkOf.{asked_names, too_many_names}
 use Rattle.loose_calls.specs.link_program.Program.{AreTables, variant_names}
 use Rattle.loose_calls.specs.link_program.declared.error.LinkError.{LinkError}
@@ -46,7 +46,7 @@ pub record IsFound (mode : Mode) (asked : Plan) (loaded : List Object) (f : Foun
   pub looked_up : IsTable p.objects f.names f.entries
   pub ranks : WinnersAre f.names.names p.entries f.ranks
   pub resolution : IsResolution f.resolution p.resolved
-  pub imports : f.resolution.imports ≡ imports_in_order p
+  pub imports : f.resolution.imports ≡ all_imports mode p
   -- what is looked up
   pub tables : AreTables f.names.names f.resolution.imports f.tables p
 

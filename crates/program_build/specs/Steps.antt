@@ -15,7 +15,6 @@ use Rattle.loose_calls.specs.link_program.name_rules.Cases.{clash_by, duplicate}
 use Rattle.loose_calls.specs.link_program.name_entries.View.{WinnersAre, NonePast}
 use Rattle.loose_calls.specs.link_program.name_meanings.Means.{IsResolution}
 use Rattle.loose_calls.specs.link_program.link_plan.declared.plan.Plan.{Plan}
-use Rattle.loose_calls.specs.link_program.link_rules.ModeOf.{mode_of}
 use Rattle.loose_calls.specs.link_program.link_rules.LinkOf.{asked_names}
 use Rattle.loose_calls.specs.link_program.Loaded.{Origin}
 use Rattle.loose_calls.specs.link_program.declared.error.LinkError.{LinkError}
@@ -54,7 +53,7 @@ MeansOrRefused mode (Err (Refused fault)) origin objects held = case_of origin.p
 MeansOrRefused mode (Err OutOfMemory) origin objects held = Unit {0}
 
 -- The numbers of names, what is looked up of objects and what names mean, before variants have names.
-pub record AreMeant (origin : Origin) (objects : List Object) (n : names.Numbered) (table : EntryTable) (m : Meanings) : Type 0 where
-  pub numbered : Numbered (mode_of origin.plan) (Ok n) origin.plan objects
+pub record AreMeant (mode : Mode) (origin : Origin) (objects : List Object) (n : names.Numbered) (table : EntryTable) (m : Meanings) : Type 0 where
+  pub numbered : Numbered mode (Ok n) origin.plan objects
   pub looked_up : IsTable objects n table
-  pub meanings : AreMeanings (mode_of origin.plan) m origin objects n.names
+  pub meanings : AreMeanings mode m origin objects n.names

@@ -1,6 +1,5 @@
 //! Entries of one name that can't stand together.
 ghost use Rattle.std.specs.Prelude.{◌≡◌, ◌<◌, length, option_map, IfOk};
-ghost use Rattle.loose_calls.specs.link_program.made_symbols.declared.mode.Mode.TheVariants as modes;
 ghost use Rattle.loose_calls.specs.link_program.name_rules.Entries.{entries};
 ghost use Rattle.loose_calls.specs.link_program.name_rules.Cases.{clash_by};
 ghost use Rattle.loose_calls.specs.link_program.name_entries.Fits.{Fits};
@@ -47,16 +46,17 @@ fn clash_in<R: Threads + Sync>(
     alloc: Global,
     view: Entries<'_>,
     loose_calls: bool,
+    mode: Mode,
     workers: Workers,
 ) -> Result<Option<PairCase>, OutOfMemory>
-    requires { Fits modes.Plain view }
-    ensures is { IfOk result (λ c. option_map (clash_told view.entry.names.now.names) c ≡ clash_by loose_calls (entries modes.Plain view.entry.objects.now)) }
+    requires { Fits mode view }
+    ensures is { IfOk result (λ c. option_map (clash_told view.entry.names.now.names) c ≡ clash_by loose_calls (entries mode view.entry.objects.now)) }
     ensures named { IfOk result (λ c. IsNamed view.entry.names.now.names c) }
 {
     if loose_calls {
-        first_loose_clash(rt, alloc, view, Mode::Plain, workers)
+        first_loose_clash(rt, alloc, view, mode, workers)
     } else {
-        first_clash(rt, alloc, view, Mode::Plain, workers)
+        first_clash(rt, alloc, view, mode, workers)
     }
 }
 
@@ -66,15 +66,16 @@ pub(crate) fn refuse_cases<R: Threads + Sync>(
     alloc: Global,
     view: Entries<'_>,
     loose_calls: bool,
+    mode: Mode,
     workers: Workers,
 ) -> Result<(), LinkError>
-    requires { Fits modes.Plain view }
-    ensures { Passes result (case_of loose_calls (entries modes.Plain view.entry.objects.now)) }
+    requires { Fits mode view }
+    ensures { Passes result (case_of loose_calls (entries mode view.entry.objects.now)) }
 {
-    if let Some(case) = clash_in(rt, alloc, view, loose_calls, workers)? {
+    if let Some(case) = clash_in(rt, alloc, view, loose_calls, mode, workers)? {
         return Err(LinkError::Refused(clash_of(alloc, view.names, case)?));
     }
-    if let Some(case) = first_duplicate(rt, alloc, view, Mode::Plain, workers)? {
+    if let Some(case) = first_duplicate(rt, alloc, view, mode, workers)? {
         return Err(LinkError::Refused(duplicate_of(alloc, view.names, case)?));
     }
     Ok(())

@@ -4,9 +4,8 @@ ghost use Rattle.loose_calls.specs.link_program.made_symbols.declared.mode.Mode.
 ghost use Rattle.loose_calls.specs.link_program.link_names.Numbered.{AreNumbers};
 ghost use Rattle.loose_calls.specs.link_program.name_entries.View.{InputsRise};
 ghost use Rattle.loose_calls.specs.link_program.name_entries.Fits.{IsTable, Fits};
-ghost use Rattle.loose_calls.specs.link_program.link_rules.ModeOf.{mode_of};
 ghost use Rattle.loose_calls.specs.link_program.link_rules.Program as rules;
-ghost use Rattle.loose_calls.specs.link_program.Program.{IsProgram};
+ghost use Rattle.loose_calls.specs.link_program.Program.{IsProgramOf};
 ghost use Rattle.program_build.specs.Found.{IsFound};
 
 use link_plan::Plan;
@@ -37,7 +36,7 @@ impl Found {
         ensures ranks { result.ranks.now ≡ self.now.ranks }
         ensures resolution { result.resolution.now ≡ self.now.resolution }
         ensures tables { result.tables.now ≡ self.now.tables }
-        ensures is { (p : rules.Program) → IsFound (mode_of p.plan) plan.now objects.now self.now p → IsProgram result p }
+        ensures is { (mode : Mode) (p : rules.Program) → IsFound mode plan.now objects.now self.now p → IsProgramOf mode result p }
     {
         Program {
             plan,

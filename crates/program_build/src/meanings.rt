@@ -2,7 +2,6 @@
 ghost use Rattle.std.specs.Prelude.{◌≡◌};
 ghost use Rattle.loose_calls.specs.link_program.name_entries.Fits.{Fits};
 ghost use Rattle.loose_calls.specs.link_program.Loaded.{Origin};
-ghost use Rattle.loose_calls.specs.link_program.link_rules.ModeOf.{mode_of};
 ghost use Rattle.program_build.specs.Steps.{MeansOrRefused};
 
 use crate::cases::refuse_cases;
@@ -29,16 +28,17 @@ pub(crate) fn meanings_of<G: Gate, R: Threads + Sync>(
     alloc: Global,
     plan: &Plan,
     view: Entries<'_>,
+    mode: Mode,
     workers: Workers,
     gate: &G,
 ) -> Result<Meanings, LinkError>
     ghost origin: { Origin }
     requires same { origin.plan ≡ plan.now }
-    requires fits { Fits (mode_of plan.now) view }
-    ensures { MeansOrRefused (mode_of plan.now) result origin view.entry.objects.now view.entry.names.now.names }
+    requires fits { Fits mode view }
+    ensures { MeansOrRefused mode result origin view.entry.objects.now view.entry.names.now.names }
 {
-    let ranks = name_winners(rt, alloc, view, Mode::Plain, workers, gate)?;
-    refuse_cases(rt, alloc, view, plan.loose_calls, workers)?;
-    let resolution = resolve(alloc, view, &ranks, plan.allow_undefined, Mode::Plain)?;
+    let ranks = name_winners(rt, alloc, view, mode, workers, gate)?;
+    refuse_cases(rt, alloc, view, plan.loose_calls, mode, workers)?;
+    let resolution = resolve(alloc, view, &ranks, plan.allow_undefined, mode)?;
     Ok(Meanings { ranks, resolution })
 }

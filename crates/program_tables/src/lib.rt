@@ -19,9 +19,9 @@ mod windows;
 mod winners;
 
 pub use link_program::{
-    Entries, EntryRef, EntryTable, FuncTypeRef, Home, Lead, LinkError, Meaning, Names, Object,
-    PairCase, Program, Resolution, Symbol, SymbolRef, Tables, TypeRef, add_names, asked_names,
-    resolve,
+    Entries, EntryRef, EntryTable, FuncTypeRef, Home, Lead, LinkError, Meaning, Mode, Names,
+    Object, PairCase, Program, Resolution, Symbol, SymbolRef, Tables, TypeRef, add_names,
+    asked_names, mode_of, resolve,
 };
 pub use loose::Loose;
 pub use tables::tables_of;

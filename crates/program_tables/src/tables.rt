@@ -6,7 +6,6 @@ ghost use Rattle.link_program.specs.name_rules.Meanings.{resolve};
 ghost use Rattle.link_program.specs.name_entries.View.{WinnersAre};
 ghost use Rattle.link_program.specs.name_entries.Fits.{Fits};
 ghost use Rattle.link_program.specs.name_meanings.Means.{IsResolution};
-ghost use Rattle.link_program.specs.link_rules.ModeOf.{mode_of};
 ghost use Rattle.link_program.specs.link_rules.Program.{program_of};
 ghost use Rattle.link_program.specs.Loaded.{Origin, IsLoaded};
 ghost use Rattle.link_program.specs.Program.{AreTables};
@@ -26,7 +25,7 @@ use symbol_race::Winners;
 use wl_base::OutOfMemory;
 use wl_fan::Workers;
 
-/// The tables of the program of these loaded objects, by the numbers of names and imports. `ranks` has the winner of each name,
+/// The tables of the plain program of these loaded objects, by the numbers of names and imports. `ranks` has the winner of each name,
 /// `resolution` what each symbol means, `homes` where the bytes of each candidate begin, `loose` what is called by other types.
 ///
 /// The parts are made by the workers, where there are many; what is answered doesn't depend on their number.
@@ -50,7 +49,7 @@ pub fn tables_of<R: Threads + Sync>(
     requires loaded { IsLoaded origin.files origin.all entries.objects.now homes.now }
     requires loose { IsLoose origin.plan.loose_calls origin.plan.allow_undefined entries.names.now.names resolution.now.imports entries.objects.now loose.now }
     ensures { IfOk result (λ tables. AreTables entries.entry.names.now.names resolution.now.imports tables
-        (program_of (mode_of origin.plan) origin.plan origin.files origin.all entries.entry.objects.now)) }
+        (program_of modes.Plain origin.plan origin.files origin.all entries.entry.objects.now)) }
 {
     let places = places_by_input(alloc, entries)?;
     let sources = Sources {

@@ -75,8 +75,8 @@ objects_run : (p : Program) (exports : List InputSymbol) (bytes : List ℕ) → 
 objects_run p exports bytes g = λ s n enough. of_sym s (objects_of p exports) n (all_inside s p exports (g.holds s enough)) ∙ ap Traced (trace_is s p exports n)
 
 pub agree_law : LinksRun → FitsLaw → TracesAgree
-agree_law links law = λ plan files bytes is count given.
-    let r : Runs plan files bytes = links plan files bytes is count given in
+agree_law links law = λ plan files bytes is count plain given.
+    let r : Runs plan files bytes = links plan files bytes is count given plain in
     let p : Program = program_of Plain plan files r.all r.objects in
     record {
       all = r.all;

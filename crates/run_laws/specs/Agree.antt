@@ -8,6 +8,7 @@ use Rattle.made_symbols.specs.declared.mode.Mode.TheVariants.{Plain}
 use Rattle.name_rules.specs.Entries.{InputSymbol}
 use Rattle.run_rules.specs.declared.session.Session.{Session}
 use Rattle.link_rules.specs.Candidates.{candidates_of}
+use Rattle.link_rules.specs.ModeOf.{IsPlain}
 use Rattle.link_rules.specs.LinkOf.{asked_names, the_readers, link_of}
 use Rattle.link_rules.specs.Marks.{exported}
 use Rattle.link_rules.specs.Program.{Program, program_of}
@@ -38,4 +39,4 @@ pub record Agree (plan : Plan) (files : List (List ℕ)) (bytes : List ℕ) : Ty
 -- So it is of each link that gives bytes.
 abbrev pub TracesAgree : Type 0
 TracesAgree = (plan : Plan) (files : List (List ℕ)) (bytes : List ℕ)
-    → IsPlan plan → length files ≡ unwrap_or plan.make_case (length plan.inputs) → link_of plan files ≡ Ok bytes → Agree plan files bytes
+    → IsPlan plan → length files ≡ unwrap_or plan.make_case (length plan.inputs) → IsPlain plan → link_of plan files ≡ Ok bytes → Agree plan files bytes

@@ -25,7 +25,7 @@ use Rattle.link_program.specs.declared.program.Program.{Program as Data}
 use Rattle.link_program.specs.Told.{told_definition, told_lead}
 use Rattle.link_program.specs.Meant.{index_of}
 use Rattle.link_program.specs.Keys.{told_function, told_global, same_function_key, same_global_key}
-use Rattle.link_program.specs.Program.{IsProgram}
+use Rattle.link_program.specs.Program.{IsProgramOf}
 use Rattle.link_program.specs.Stand.{PartsStand}
 use Rattle.link_keys.proofs.Any.{all_none, any_left}
 use Rattle.link_keys.proofs.Equals.{OnePlace, one_place, holds_distinct}
@@ -59,7 +59,7 @@ given_all {A} {B} P test f each (x ∷ xs) = by_test (test x) (given_all P test 
     by_test true rest = All-cons P (f x) (filter_map (λ x. given (test x) (f x)) xs) (each x) rest
     by_test false rest = rest
 
-module _ (d : Data) (p : rules.Program) (is : IsProgram d p) (stand : PartsStand p) where
+module _ (d : Data) (p : rules.Program) (is : IsProgramOf Plain d p) (stand : PartsStand p) where
   abbrev pub names_of : List (List ℕ)
   names_of = d.names.now.names
 

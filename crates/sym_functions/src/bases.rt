@@ -1,7 +1,7 @@
 //! What the cell of the address of each symbol would hold.
 ghost use Rattle.std.specs.Prelude.{◌≡◌, map, IfOk};
 ghost use Rattle.link_program.specs.linking_section.Flags.{kind_code};
-ghost use Rattle.link_program.specs.link_rules.ModeOf.{mode_of};
+ghost use Rattle.link_program.specs.made_symbols.declared.mode.Mode.TheVariants as modes;
 ghost use Rattle.link_program.specs.link_rules.Values as values;
 ghost use Rattle.link_program.specs.link_rules.Output.{layout as laid_out};
 ghost use Rattle.link_program.specs.Live.{Stage};
@@ -19,7 +19,7 @@ use wl_base::OutOfMemory;
 pub fn address(layout: Layout<'_>, definition: Definition) -> u64
     ghost s: { Stage }
     requires { IsLayout s.program s.parts s.exports layout }
-    ensures { result ≡ values.address_of (mode_of s.program.plan) (laid_out (mode_of s.program.plan) s.program s.parts s.exports) (entry_of definition) }
+    ensures { result ≡ values.address_of modes.Plain (laid_out modes.Plain s.program s.parts s.exports) (entry_of definition) }
 {
     layout.address(definition)
 }
@@ -28,7 +28,7 @@ pub fn address(layout: Layout<'_>, definition: Definition) -> u64
 fn base_of(layout: Layout<'_>, symbol: Symbol) -> u64
     ghost s: { Stage }
     requires { IsLayout s.program s.parts s.exports layout }
-    ensures { result ≡ base_seen (laid_out (mode_of s.program.plan) s.program s.parts s.exports) layout.entry.numbering.now symbol }
+    ensures { result ≡ base_seen (laid_out modes.Plain s.program s.parts s.exports) layout.entry.numbering.now symbol }
 {
     match symbol.lead {
         Lead::Here(definition) => {
@@ -47,7 +47,7 @@ fn base_of(layout: Layout<'_>, symbol: Symbol) -> u64
 pub fn bases_of(alloc: Global, layout: Layout<'_>) -> Result<Vec<u64>, OutOfMemory>
     ghost s: { Stage }
     requires { IsLayout s.program s.parts s.exports layout }
-    ensures { IfOk result (λ bases. bases.items ≡ map (base_seen (laid_out (mode_of s.program.plan) s.program s.parts s.exports) layout.entry.numbering.now) layout.entry.program.tables.now.symbols) }
+    ensures { IfOk result (λ bases. bases.items ≡ map (base_seen (laid_out modes.Plain s.program s.parts s.exports) layout.entry.numbering.now) layout.entry.program.tables.now.symbols) }
 {
     let symbols = layout.program.tables.symbols.as_slice();
     let mut bases = Vec::with_capacity(alloc, symbols.len())?;

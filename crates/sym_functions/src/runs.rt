@@ -1,7 +1,7 @@
 //! What functions run, and the table.
 ghost use Rattle.std.specs.Prelude.{◌≡◌, map, IfOk};
 ghost use Rattle.link_program.specs.name_entries.Fits.{FitsObjects};
-ghost use Rattle.link_program.specs.link_rules.ModeOf.{mode_of};
+ghost use Rattle.link_program.specs.made_symbols.declared.mode.Mode.TheVariants as modes;
 ghost use Rattle.link_program.specs.link_rules.Output.{layout as laid_out};
 ghost use Rattle.link_program.specs.Live.{Stage};
 ghost use Rattle.link_image.specs.link_layout.Layout.{IsLayout};
@@ -26,12 +26,12 @@ pub fn functions(
 ) -> Result<Seq<Option<Function>>, OutOfMemory>
     ghost s: { Stage }
     requires layout { IsLayout s.program s.parts s.exports layout }
-    requires sought { IsSoughtOf (laid_out (mode_of s.program.plan) s.program s.parts s.exports) layout k }
+    requires sought { IsSoughtOf (laid_out modes.Plain s.program s.parts s.exports) layout k }
     requires fits { FitsObjects entries }
     requires objects { entries.objects.now ≡ layout.program.objects.now }
     requires names { entries.names.now ≡ layout.program.names.now }
     requires files { files.now ≡ s.program.files }
-    ensures { IfOk result (λ fs. fs ≡ map (plan_function s.program (laid_out (mode_of s.program.plan) s.program s.parts s.exports)) (all_functions s.program)) }
+    ensures { IfOk result (λ fs. fs ≡ map (plan_function s.program (laid_out modes.Plain s.program s.parts s.exports)) (all_functions s.program)) }
 {
     let program = layout.program;
     let firsts = least_entries(alloc, program.names, entries.count())?;
@@ -47,8 +47,8 @@ pub fn table(
 ) -> Result<Seq<Option<u32>>, OutOfMemory>
     ghost s: { Stage }
     requires layout { IsLayout s.program s.parts s.exports layout }
-    requires sought { IsSoughtOf (laid_out (mode_of s.program.plan) s.program s.parts s.exports) layout k }
-    ensures { IfOk result (λ t. t ≡ plan_table s.program (laid_out (mode_of s.program.plan) s.program s.parts s.exports)) }
+    requires sought { IsSoughtOf (laid_out modes.Plain s.program s.parts s.exports) layout k }
+    ensures { IfOk result (λ t. t ≡ plan_table s.program (laid_out modes.Plain s.program s.parts s.exports)) }
 {
     let table = table_of(alloc, k.functions, layout.numbering)?;
     Ok(table)

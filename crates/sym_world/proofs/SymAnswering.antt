@@ -26,7 +26,7 @@ use Rattle.program_build.specs.Found.{Finds, found_of}
 use Rattle.link_layout.specs.Placed.{AnswersPlaced, IsPlaced}
 use Rattle.link_numbers.specs.Numbered.{TellsOverflow, IsNumbering}
 use Rattle.link_program.specs.Live.{AreLive, AllMeant}
-use Rattle.link_program.specs.Program.{IsProgram}
+use Rattle.link_program.specs.Program.{IsProgramOf}
 use Rattle.link_program.specs.Stand.{PartsStand}
 use Rattle.link_layout.specs.Layout.{IsLayout}
 use Rattle.link_layout.specs.declared.values.Layout.{Layout as LayoutData}
@@ -160,7 +160,7 @@ module _ (p : Program) (es : List InputSymbol) (parts : List Part) where
   unfolding layout
   goes_on_placed r fits none a = subst (Told r) (sym (steps.placed p es parts fits none)) a
 
-pub layout_is : (p : Program) (parts : List Part) (es : List InputSymbol) (d : LayoutData) (ns : List ℕ) → IsProgram d.program p → PartsStand p → AreLive p ns parts → AllMeant parts
+pub layout_is : (p : Program) (parts : List Part) (es : List InputSymbol) (d : LayoutData) (ns : List ℕ) → IsProgramOf Plain d.program p → PartsStand p → AreLive p ns parts → AllMeant parts
     → IsNumbering d.program.names.now.names d.program.resolution.now.imports d.program.tables.now.types p parts d.numbering.now (numbers Plain p parts es) → IsPlaced p parts d.placed.now → IsLayout p parts es d
 layout_is p parts es d ns program stand live meant numbering placed =
     record { program = program; stand = stand; live = (ns, live); meant = meant; numbering = numbering; placed = placed }

@@ -1,6 +1,6 @@
 -- What choosing what is exported and live answers.
 use Rattle.std.specs.Prelude.{◌≡◌, Result, Ok, Err}
-use Rattle.link_program.specs.link_rules.ModeOf.{mode_of}
+use Rattle.link_program.specs.made_symbols.declared.mode.Mode.TheVariants.{Plain}
 use Rattle.link_program.specs.link_rules.Program as rules
 use Rattle.link_program.specs.link_rules.Marks.{exported, live}
 use Rattle.link_program.specs.declared.error.LinkError.{LinkError}
@@ -13,8 +13,8 @@ use Rattle.sym_world.specs.SymOf.{sym_exporting, sym_laid_out}
 
 -- What is exported and live, and then the objects are what laying it out gives; or the fault that ends it before.
 abbrev pub Chooses : Result Chosen LinkError → Program → rules.Program → Type 0
-Chooses (Ok c) d p = (sym_exporting p (exported (mode_of p.plan) p) ≡ sym_laid_out p (exported (mode_of p.plan) p) (live p (exported (mode_of p.plan) p))) × IsChosen (stage_of p) d c.exports c.live.numbers
-Chooses (Err e) d p = Fails e (sym_exporting p (exported (mode_of p.plan) p))
+Chooses (Ok c) d p = (sym_exporting p (exported Plain p) ≡ sym_laid_out p (exported Plain p) (live p (exported Plain p))) × IsChosen (stage_of p) d c.exports c.live.numbers
+Chooses (Err e) d p = Fails e (sym_exporting p (exported Plain p))
 
 -- Its parts are those that live by its exports.
 abbrev pub IsStage : Stage → Type 0

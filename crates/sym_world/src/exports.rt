@@ -1,7 +1,7 @@
 //! The exports, and what they lead to.
 ghost use Rattle.std.specs.Prelude.{◌≡◌, ◌++◌, map, drop, All, Contains, IfOk, OnOk};
 ghost use Rattle.link_program.specs.name_rules.Entries.{InputSymbol};
-ghost use Rattle.link_program.specs.link_rules.ModeOf.{mode_of};
+ghost use Rattle.link_program.specs.made_symbols.declared.mode.Mode.TheVariants as modes;
 ghost use Rattle.link_program.specs.link_rules.Values as values;
 ghost use Rattle.link_program.specs.link_rules.Output.{layout as laid_out};
 ghost use Rattle.link_program.specs.Live.{Stage};
@@ -53,7 +53,7 @@ fn target(
     ghost s: { Stage }
     requires { IsLayout s.program s.parts s.exports layout }
     ensures { IfOk result (λ t. t ≡ target_seen functions.now cells.now
-        (values.address_of (mode_of s.program.plan) (laid_out (mode_of s.program.plan) s.program s.parts s.exports) (entry_of definition)) definition definition.kind) }
+        (values.address_of modes.Plain (laid_out modes.Plain s.program s.parts s.exports) (entry_of definition)) definition definition.kind) }
 {
     match definition.kind {
         SymbolKind::Function => Ok(to_function(functions.place(function_of(definition)))),
@@ -81,7 +81,7 @@ fn export(
     requires layout { IsLayout s.program s.parts s.exports layout }
     requires winner { IsWinner layout.program.names.now.names s.program.winners winner.now }
     ensures { (e : InputSymbol) → Contains s.program.winners e → winner.now ≡ told_winner layout.entry.program.names.now.names e
-        → IfOk result (λ x. x ≡ export_seen s.program (laid_out (mode_of s.program.plan) s.program s.parts s.exports) functions.now cells.now e) }
+        → IfOk result (λ x. x ≡ export_seen s.program (laid_out modes.Plain s.program s.parts s.exports) functions.now cells.now e) }
 {
     let name = Seq::from_slice(alloc, export_name(layout.program, winner))?;
     let target = target(layout, functions, cells, winner.definition)?;
@@ -101,7 +101,7 @@ pub(crate) fn add_winners(
     requires layout { IsLayout s.program s.parts s.exports layout }
     requires winners { All (Contains s.program.winners) s.exports }
     requires exports { winners.now ≡ map (told_winner layout.program.names.now.names) s.exports }
-    ensures { OnOk result (exports.new ≡ exports.old ++ map (export_seen s.program (laid_out (mode_of s.program.plan) s.program s.parts s.exports) functions.now cells.now) s.exports) }
+    ensures { OnOk result (exports.new ≡ exports.old ++ map (export_seen s.program (laid_out modes.Plain s.program s.parts s.exports) functions.now cells.now) s.exports) }
 {
     for winner in winners {
         let export = export(alloc, layout, functions, cells, winner)?;

@@ -1,7 +1,7 @@
 //! The loaded objects of a program as the machine takes them.
 ghost use Rattle.std.specs.Prelude.{◌≡◌, map, Some, All, Contains, IfOk};
 ghost use Rattle.link_program.specs.name_entries.Fits.{FitsObjects};
-ghost use Rattle.link_program.specs.link_rules.ModeOf.{mode_of};
+ghost use Rattle.link_program.specs.made_symbols.declared.mode.Mode.TheVariants as modes;
 ghost use Rattle.link_program.specs.link_rules.Output.{layout as laid_out};
 ghost use Rattle.link_program.specs.Live.{Stage, AreLive};
 ghost use Rattle.link_program.specs.Told.{told_winner};
@@ -35,14 +35,14 @@ fn world(
 ) -> Result<World, OutOfMemory>
     ghost s: { Stage }
     requires layout { IsLayout s.program s.parts s.exports layout }
-    requires sought { IsSoughtOf (laid_out (mode_of s.program.plan) s.program s.parts s.exports) layout k }
+    requires sought { IsSoughtOf (laid_out modes.Plain s.program s.parts s.exports) layout k }
     requires fits { FitsObjects entries }
     requires objects { entries.objects.now ≡ layout.program.objects.now }
     requires names { entries.names.now ≡ layout.program.names.now }
     requires files { files.now ≡ s.program.files }
     requires winners { All (Contains s.program.winners) s.exports }
     requires exports { exports.now ≡ map (told_winner layout.program.names.now.names) s.exports }
-    ensures { IfOk result (λ w. w ≡ world_by s.program (laid_out (mode_of s.program.plan) s.program s.parts s.exports) s.exports) }
+    ensures { IfOk result (λ w. w ≡ world_by s.program (laid_out modes.Plain s.program s.parts s.exports) s.exports) }
 {
     let program = layout.program;
     let functions = functions(alloc, layout, k, entries, files)?;
@@ -67,10 +67,10 @@ fn segments(
 ) -> Result<Seq<SymSegment>, OutOfMemory>
     ghost s: { Stage }
     requires layout { IsLayout s.program s.parts s.exports layout }
-    requires sought { IsSoughtOf (laid_out (mode_of s.program.plan) s.program s.parts s.exports) layout k }
+    requires sought { IsSoughtOf (laid_out modes.Plain s.program s.parts s.exports) layout k }
     requires files { files.now ≡ s.program.files }
     requires live { AreLive s.program live.now s.parts }
-    ensures { IfOk result (λ ss. ss ≡ map sym_segment (blocks_of s.program s.parts (laid_out (mode_of s.program.plan) s.program s.parts s.exports))) }
+    ensures { IfOk result (λ ss. ss ≡ map sym_segment (blocks_of s.program s.parts (laid_out modes.Plain s.program s.parts s.exports))) }
 {
     let numbers = numbers_in_order(alloc, k.tables, files, live)?;
     let addresses = layout.placed.addresses.as_slice();

@@ -1,6 +1,7 @@
 //! From files to the loaded objects as the machine takes them, by the steps of a link up to its layout.
 ghost use Rattle.std.specs.Prelude.{◌≡◌, length, unwrap_or};
 ghost use Rattle.link_program.specs.link_plan.Plan.{IsPlan};
+ghost use Rattle.link_program.specs.made_symbols.declared.mode.Mode.TheVariants as modes;
 ghost use Rattle.link_program.specs.link_rules.ModeOf.{mode_of};
 ghost use Rattle.link_program.specs.link_rules.Program as rules;
 ghost use Rattle.link_program.specs.Loaded.{IsLoaded};
@@ -20,7 +21,7 @@ use link_layout::{Layout, place_segments};
 use link_marks::{Live, all_are_meant, exports, live_parts, repeated_export, unresolved};
 use link_numbers::number;
 use link_plan::Plan;
-use link_program::{Entries, LinkError, Program, Winner};
+use link_program::{Entries, LinkError, Mode, Program, Winner, mode_of};
 use lost_ctors::uncalled;
 use program_build::find;
 use program_build::laws::parts_stand;
@@ -46,7 +47,8 @@ pub(crate) struct Chosen {
 /// # Errors
 ///
 /// The first fault of the link up to its layout: of loading, of names, of exports, an unresolved name, lost constructors, too much memory, too large a table.
-/// A link whose output is too long, or in which a reference is out of range, has its objects all the same. `OutOfMemory`.
+/// A link whose output is too long, or in which a reference is out of range, has its objects all the same. `OutOfMemory`, and for a plan that
+/// asks for a shared output.
 pub fn sym_world<R: Threads + Sync, G: Gate>(
     rt: &R,
     alloc: Global,
@@ -57,6 +59,26 @@ pub fn sym_world<R: Threads + Sync, G: Gate>(
 ) -> Result<SymWorld, LinkError>
     requires plan { IsPlan plan.now }
     requires files { length files.now ≡ unwrap_or plan.now.make_case (length plan.now.inputs) }
+    ensures { Told result (sym_of plan.now files.now) }
+{
+    match mode_of(plan) {
+        Mode::Plain => plain_world(rt, alloc, plan, files, workers, gate),
+        Mode::Shared => Err(LinkError::OutOfMemory),
+    }
+}
+
+// The same of a plan that asks for a plain output.
+fn plain_world<R: Threads + Sync, G: Gate>(
+    rt: &R,
+    alloc: Global,
+    plan: &Plan,
+    files: &[Seq<u8>],
+    workers: Workers,
+    gate: &G,
+) -> Result<SymWorld, LinkError>
+    requires plan { IsPlan plan.now }
+    requires files { length files.now ≡ unwrap_or plan.now.make_case (length plan.now.inputs) }
+    requires plain { mode_of plan.now ≡ modes.Plain }
     ensures { Told result (sym_of plan.now files.now) }
 {
     let inputs = load_inputs(rt, alloc, plan, files, workers, gate)?;
@@ -80,6 +102,7 @@ fn found_world<R: Threads + Sync, G: Gate>(
     requires files { l.origin.files ≡ files.now }
     requires objects { l.objects ≡ inputs.now.loaded }
     requires loaded { IsLoaded l.origin.files l.origin.all inputs.now.loaded inputs.now.homes }
+    requires plain { mode_of plan.now ≡ modes.Plain }
     ensures { Told result (sym_program (program_in l)) }
 {
     let objects = inputs.objects();
@@ -108,6 +131,7 @@ fn choose<R: Threads + Sync, G: Gate>(
     requires fits { Fits (mode_of p.plan) entries }
     requires objects { entries.objects.now ≡ program.objects.now }
     requires stand { PartsStand p }
+    requires plain { mode_of p.plan ≡ modes.Plain }
     ensures { Chooses result program.entry p }
 {
     let exports = exports(alloc, program)?;

@@ -1,6 +1,6 @@
 //! What of the world isn't told by its parts: the exports, and how large the memory may be.
 ghost use Rattle.std.specs.Prelude.{◌≡◌, ◌∷◌, [], ◌/◌, ◌++◌, map, option_map, unwrap_or, if◌then◌else◌, All, Contains, IfOk};
-ghost use Rattle.link_program.specs.link_rules.ModeOf.{mode_of};
+ghost use Rattle.link_program.specs.made_symbols.declared.mode.Mode.TheVariants as modes;
 ghost use Rattle.link_program.specs.link_rules.Marks.{memory_name};
 ghost use Rattle.link_program.specs.link_rules.Output.{layout as laid_out};
 ghost use Rattle.link_program.specs.Live.{Stage};
@@ -45,7 +45,7 @@ pub(crate) fn exports_of(
     requires winners { All (Contains s.program.winners) s.exports }
     requires exports { winners.now ≡ map (told_winner layout.program.names.now.names) s.exports }
     ensures { IfOk result (λ es. es ≡ (if layout.entry.program.plan.now.import_memory then [] else record { name = memory_name; target = Elsewhere } ∷ [])
-        ++ map (export_seen s.program (laid_out (mode_of s.program.plan) s.program s.parts s.exports) functions.now cells.now) s.exports) }
+        ++ map (export_seen s.program (laid_out modes.Plain s.program s.parts s.exports) functions.now cells.now) s.exports) }
 {
     let mut exports = memory_exports(alloc, layout.program.plan.import_memory)?;
     add_winners(alloc, layout, functions, cells, winners, &mut exports)?;

@@ -26,7 +26,7 @@ use Rattle.link_runs.specs.link_facts.link_worlds.link_rules.Candidates.{candida
 use Rattle.link_runs.specs.link_facts.link_worlds.link_rules.Program.{Program, program_of, Part}
 use Rattle.link_runs.specs.link_facts.link_worlds.link_rules.Marks.{exported, repeated_export}
 use Rattle.link_runs.specs.link_facts.link_worlds.link_rules.Values.{part_bytes}
-use Rattle.link_runs.specs.link_facts.link_worlds.link_rules.LinkOf.{asked_names, the_readers, link_of, link_program, too_many_names}
+use Rattle.link_runs.specs.link_facts.link_worlds.link_rules.LinkOf.{asked_names, the_readers, link_by, link_program, too_many_names, plain_link}
 use Rattle.link_runs.specs.link_program.Loaded.{home_of, IsLoaded, IsReadFrom}
 use Rattle.link_runs.specs.link_inputs.Loaded.{LoadedAreSound}
 use Rattle.link_runs.specs.link_facts.link_worlds.Sound.{IsConstant, IsShaped, Shaped, Takes}
@@ -125,7 +125,7 @@ module _ (one_type : NamesHaveOneType) (outputs : OutputsAreValid) (places : Pla
   module_valid : (plan : Plan) (files : List (List ℕ)) (bytes : List ℕ) (all : List Candidate) (objects : List Object) → IsPlan plan → length files ≡ unwrap_or plan.make_case (length plan.inputs)
       → candidates_of the_readers plan files ≡ Ok all → load Plain (asked_names plan) all ≡ Ok objects
       → ((o : Object) (c : Candidate) → Has objects o → find (λ c. c.input == o.input) all ≡ Some c → IsValidObject o (bytes_of files c))
-      → link_of plan files ≡ Ok bytes → IsValid (linked_module (program_of Plain plan files all objects) (exported Plain (program_of Plain plan files all objects)))
+      → link_by Plain the_readers plan files ≡ Ok bytes → IsValid (linked_module (program_of Plain plan files all objects) (exported Plain (program_of Plain plan files all objects)))
   unfolding program_of
   module_valid plan files bytes all objects is long c l valid e =
       let p = program_of Plain plan files all objects in
@@ -156,8 +156,9 @@ module _ (one_type : NamesHaveOneType) (outputs : OutputsAreValid) (places : Pla
       })
 
   pub links_law : LinksRun → LinksAreValid
-  links_law runs plan files bytes is long valid e =
-      let r = runs plan files bytes is long e in
+  links_law runs plan files bytes is long plain valid given =
+      let e = sym (plain_link plan files plain) ∙ given in
+      let r = runs plan files bytes is long given plain in
       let v = places (linked_module (program_of Plain plan files r.all r.objects) (exported Plain (program_of Plain plan files r.all r.objects))) r.gives.is r.gives.linked
       (module_valid plan files bytes r.all r.objects is long r.found r.loaded (valid r.all r.objects r.found r.loaded) e) in
       record { is = r.gives.is; read = r.gives.read; spelled = r.gives.spelled; valid = v; no_fault = judged_is_computed r.gives.is (Ok tt) v }

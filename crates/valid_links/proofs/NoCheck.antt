@@ -18,13 +18,15 @@ use Rattle.object_file.specs.object_parts.Reading.{parts_of}
 use Rattle.object_file.specs.object_rules.Rules.{broken_rule}
 use Rattle.object_file.specs.declared.object.Object.{Object}
 use Rattle.object_file.specs.ObjectOf.{section_fault, agreed, spelled_object, framed_object, object_of}
-use Rattle.made_symbols.specs.declared.mode.Mode.TheVariants.{Plain}
+use Rattle.made_symbols.specs.declared.mode.Mode.{Mode}
+use Rattle.made_symbols.specs.declared.mode.Mode.TheVariants.{Plain, Shared}
 use Rattle.link_plan.specs.declared.plan.Plan.{Plan}
 use Rattle.link_plan.specs.declared.plan.InputWord.{InputWord}
 use Rattle.link_runs.specs.link_facts.link_worlds.link_rules.name_rules.Entries.{InputSymbol, name_of}
 use Rattle.link_runs.specs.link_facts.link_worlds.link_rules.name_rules.Cases.{first_entry, judge, breaks, differs, clashes, clash_of, clash, clash_beside, other_import, broken, loose_clash, clash_by, first_strong, is_duplicate, duplicate_of, duplicate}
 use Rattle.link_runs.specs.link_facts.link_worlds.link_rules.round_rules.Rounds.{Candidate, Added, fault_in, object_fault, is_always_read, always_read_fault, wanted_names, objects_of, added_with, adds_any, added_fault_in, added_fault, inputs_of, go_on, next_adds, rounds, at_once, loaded_inputs, load}
 use Rattle.link_runs.specs.link_facts.link_worlds.link_rules.Candidates.{opened_library, opened, is_library, candidates_in, candidates_from, too_much_input, too_many_inputs, words_for, candidates_of}
+use Rattle.link_runs.specs.link_facts.link_worlds.link_rules.ModeOf.{mode_of}
 use Rattle.link_runs.specs.link_facts.link_worlds.link_rules.Program.{Program, Part, program_of}
 use Rattle.link_runs.specs.link_facts.link_worlds.link_rules.Values.{Layout}
 use Rattle.link_runs.specs.link_facts.link_worlds.link_rules.Output.{layout, image, source_windows}
@@ -138,10 +140,10 @@ added_free : (a : Added) (r : Result Object Fault) → NotRefused r → Free (ad
 added_free a (Err f) free = free
 added_free a (Ok o) free = map_free _ _ (λ name. refl)
 
-module _ (asked : List (List ℕ)) (all : List Candidate) (each : (c : Candidate) → Has all c → NotRefused c.object) where
-  new_free : (loaded : List ℕ) (a : Added) → Has (next_adds Plain asked all loaded) a → NotRefused a.candidate.object
+module _ (mode : Mode) (asked : List (List ℕ)) (all : List Candidate) (each : (c : Candidate) → Has all c → NotRefused c.object) where
+  new_free : (loaded : List ℕ) (a : Added) → Has (next_adds mode asked all loaded) a → NotRefused a.candidate.object
   new_free loaded a h =
-      let wanted = wanted_names Plain asked (objects_of all loaded) in
+      let wanted = wanted_names mode asked (objects_of all loaded) in
       let m = has_map (added_with all wanted) _ a (has_filter adds_any _ a h).0 in
       subst (λ (a : Added). NotRefused a.candidate.object) m.2 (each m.0 (has_filter _ all m.0 m.1).0)
 
@@ -152,15 +154,15 @@ module _ (asked : List (List ℕ)) (all : List Candidate) (each : (c : Candidate
       guard_free (first_some (map added_fault (a ∷ as'))) (loaded ++ inputs_of (a ∷ as')) again
       (all_free added_fault (a ∷ as') (λ b h. added_free b b.candidate.object (free b h))) (more (loaded ++ inputs_of (a ∷ as')))
 
-  rounds_free : (n : ℕ) (loaded : List ℕ) → NotRefused (rounds Plain asked all n loaded)
+  rounds_free : (n : ℕ) (loaded : List ℕ) → NotRefused (rounds mode asked all n loaded)
   rounds_free zero loaded = tt
-  rounds_free (suc n) loaded = go_free (rounds Plain asked all n) loaded (next_adds Plain asked all loaded) (rounds_free n) (new_free loaded)
+  rounds_free (suc n) loaded = go_free (rounds mode asked all n) loaded (next_adds mode asked all loaded) (rounds_free n) (new_free loaded)
 
-  load_free : NotRefused (load Plain asked all)
+  load_free : NotRefused (load mode asked all)
   unfolding load
   load_free =
-      then_free (loaded_inputs Plain asked all) _
-      (guard_free (always_read_fault all) (at_once all) (rounds Plain asked all (length all + 1))
+      then_free (loaded_inputs mode asked all) _
+      (guard_free (always_read_fault all) (at_once all) (rounds mode asked all (length all + 1))
       (all_free object_fault _ (λ c h. fault_free c.object (each c (has_filter is_always_read all c h).0))) (rounds_free (length all + 1) (at_once all)))
       (λ loaded is. tt)
 
@@ -191,13 +193,14 @@ repeat_free : (earlier given : List Given) → Free (first_repeat earlier given)
 repeat_free earlier [] = tt
 repeat_free earlier (g ∷ gs) = first_free (repeated_by earlier g) _ (map_free _ _ (λ f. refl)) (first_free (first_repeat (earlier ++ g ∷ []) gs) [] (repeat_free (earlier ++ g ∷ []) gs) tt)
 
-export_free : (p : Program) (es : List InputSymbol) → Free (repeated_export Plain p es)
+export_free : (mode : Mode) (p : Program) (es : List InputSymbol) → Free (repeated_export mode p es)
 unfolding repeated_export
-export_free p es = repeat_free [] (given_names Plain p es)
+export_free mode p es = repeat_free [] (given_names mode p es)
 
-pic_free : (parts : List Part) → Free (pic_fault Plain parts)
+pic_free : (mode : Mode) (parts : List Part) → Free (pic_fault mode parts)
 unfolding pic_fault
-pic_free parts = tt
+pic_free Plain parts = tt
+pic_free Shared parts = map_free _ _ (λ ref. refl)
 
 open_free : (p : Program) (parts : List Part) → Free (unresolved p parts)
 unfolding unresolved
@@ -205,15 +208,16 @@ open_free p parts =
     first_free (first_some (map (missing p) (demanded p.plan))) _ (all_free (missing p) (demanded p.plan) (λ name h. given_free _ _ refl))
     (first_free _ [] (map_free _ _ (λ e. refl)) tt)
 
-uncalled_free : (p : Program) (parts : List Part) → Free (uncalled Plain p parts)
+uncalled_free : (mode : Mode) (p : Program) (parts : List Part) → Free (uncalled mode p parts)
 unfolding uncalled
-uncalled_free p parts = given_free _ _ refl
+uncalled_free Plain p parts = given_free _ _ refl
+uncalled_free Shared p parts = tt
 
 -- ---- the output
 
-memory_free : (p : Program) (parts : List Part) → Free (memory_fault Plain p parts)
+memory_free : (mode : Mode) (p : Program) (parts : List Part) → Free (memory_fault mode p parts)
 unfolding memory_fault
-memory_free p parts = map_free passed_fault _ (λ x. refl)
+memory_free mode p parts = map_free passed_fault _ (λ x. refl)
 
 table_free : (l : Layout) → Free (table_fault l)
 unfolding table_fault
@@ -223,33 +227,33 @@ output_free : (p : Program) (i : Image) → Free (output_fault p i)
 unfolding output_fault
 output_free p i = given_free _ _ refl
 
-written_free : (p : Program) (i : Image) (wss : _) → NotRefused (written Plain p i wss)
+written_free : (mode : Mode) (p : Program) (i : Image) (wss : _) → NotRefused (written mode p i wss)
 unfolding written reference_fault
-written_free p i wss =
+written_free mode p i wss =
     guard_free (output_fault p i) i _ (output_free p i)
-    (guard_free (reference_fault wss) wss (λ wss. Ok (output_bytes Plain p i wss)) (map_free _ _ (λ n. refl)) tt)
+    (guard_free (reference_fault wss) wss (λ wss. Ok (output_bytes mode p i wss)) (map_free _ _ (λ n. refl)) tt)
 
-laid_free : (p : Program) (es : List InputSymbol) (parts : List Part) → NotRefused (laid_out Plain p es parts)
+laid_free : (mode : Mode) (p : Program) (es : List InputSymbol) (parts : List Part) → NotRefused (laid_out mode p es parts)
 unfolding laid_out
-laid_free p es parts =
-    guard_free (memory_fault Plain p parts) parts _ (memory_free p parts)
-    (guard_free (table_fault (layout Plain p parts es)) (layout Plain p parts es) _ (table_free (layout Plain p parts es))
-    (written_free p (image Plain p parts es (layout Plain p parts es)) (source_windows Plain p parts es (layout Plain p parts es))))
+laid_free mode p es parts =
+    guard_free (memory_fault mode p parts) parts _ (memory_free mode p parts)
+    (guard_free (table_fault (layout mode p parts es)) (layout mode p parts es) _ (table_free (layout mode p parts es))
+    (written_free mode p (image mode p parts es (layout mode p parts es)) (source_windows mode p parts es (layout mode p parts es))))
 
-marked_free : (p : Program) (es : List InputSymbol) → NotRefused (marked Plain p es)
+marked_free : (mode : Mode) (p : Program) (es : List InputSymbol) → NotRefused (marked mode p es)
 unfolding marked
-marked_free p es =
-    guard_free (pic_fault Plain (live p es)) (live p es) _ (pic_free (live p es))
+marked_free mode p es =
+    guard_free (pic_fault mode (live p es)) (live p es) _ (pic_free mode (live p es))
     (guard_free (unresolved p (live p es)) (live p es) _ (open_free p (live p es))
-    (guard_free (uncalled Plain p (live p es)) (live p es) _ (uncalled_free p (live p es)) (laid_free p es (live p es))))
+    (guard_free (uncalled mode p (live p es)) (live p es) _ (uncalled_free mode p (live p es)) (laid_free mode p es (live p es))))
 
-program_free : (p : Program) → NotRefused (link_program Plain p)
+program_free : (mode : Mode) (p : Program) → NotRefused (link_program mode p)
 unfolding link_program
-program_free p =
+program_free mode p =
     guard_free (too_many_names p) p _ (names_free p)
     (guard_free (clash_by p.plan.loose_calls p.entries) p _ (clash_free p.plan.loose_calls p.entries)
     (guard_free (duplicate p.entries) p _ (duplicate_free p.entries)
-    (guard_free (repeated_export Plain p (exported Plain p)) (exported Plain p) _ (export_free p (exported Plain p)) (marked_free p (exported Plain p)))))
+    (guard_free (repeated_export mode p (exported mode p)) (exported mode p) _ (export_free mode p (exported mode p)) (marked_free mode p (exported mode p)))))
 
 -- ---- all
 
@@ -260,9 +264,9 @@ unfolding link_of link_by
 link_free plan files read =
     then_free (candidates_of the_readers plan files) _ (candidates_free plan files)
     (λ all is.
-    then_free (load Plain (asked_names plan) all) _
-    (load_free (asked_names plan) all (λ c h. let b = read all is c h in subst NotRefused (sym b.1) (object_free c.input b.0)))
-    (λ objects got. program_free (program_of Plain plan files all objects)))
+    then_free (load (mode_of plan) (asked_names plan) all) _
+    (load_free (mode_of plan) (asked_names plan) all (λ c h. let b = read all is c h in subst NotRefused (sym b.1) (object_free c.input b.0)))
+    (λ objects got. program_free (mode_of plan) (program_of (mode_of plan) plan files all objects)))
 
 pub not_check : {A : Type 0} (r : Result A Fault) (at : InvalidAt) → NotRefused r → r ≡ Err (Invalid at) → ⊥
 not_check r at free is = let h : true ≡ false = subst NotRefused is free in absurd cc

@@ -9,6 +9,7 @@ use Rattle.link_plan.specs.declared.plan.Plan.{Plan}
 use Rattle.link_plan.specs.Plan.{IsPlan}
 use Rattle.made_symbols.specs.declared.mode.Mode.TheVariants.{Plain}
 use Rattle.link_runs.specs.link_facts.link_worlds.link_rules.Candidates.{candidates_of}
+use Rattle.link_runs.specs.link_facts.link_worlds.link_rules.ModeOf.{IsPlain}
 use Rattle.link_runs.specs.link_facts.link_worlds.link_rules.LinkOf.{asked_names, the_readers, link_of}
 use Rattle.link_runs.specs.link_facts.Facts.{bytes_of}
 use Rattle.output_check.specs.Check.{IsValidOutput}
@@ -20,11 +21,11 @@ AllValid plan files = (all : List Candidate) (objects : List Object)
     → candidates_of the_readers plan files ≡ Ok all → load Plain (asked_names plan) all ≡ Ok objects
     → (o : Object) (c : Candidate) → Has objects o → find (λ c. c.input == o.input) all ≡ Some c → IsValidObject o (bytes_of files c)
 
--- The bytes of the output are a valid module, so a check finds no fault in them.
+-- The bytes of a plain output are a valid module, so a check finds no fault in them.
 abbrev pub LinksAreValid : Type 0
 LinksAreValid = (plan : Plan) (files : List (List ℕ)) (bytes : List ℕ)
-    → IsPlan plan → length files ≡ unwrap_or plan.make_case (length plan.inputs) → AllValid plan files → link_of plan files ≡ Ok bytes → IsValidOutput bytes
+    → IsPlan plan → length files ≡ unwrap_or plan.make_case (length plan.inputs) → IsPlain plan → AllValid plan files → link_of plan files ≡ Ok bytes → IsValidOutput bytes
 
--- The fault of the check is none of the link's own.
+-- The fault of the check is none of the link's own, of a plain output or of a shared one.
 abbrev pub LinksDontJudge : Type 0
 LinksDontJudge = (plan : Plan) (files : List (List ℕ)) (at : InvalidAt) → link_of plan files ≡ Err (Invalid at) → ⊥

@@ -15,7 +15,7 @@ pub fn names_have_one_type()
     live_mark::reached_exactly();
 }
 
-/// Where `link_of` gives bytes, and each object that it loads is valid, the bytes spell a valid module:
+/// Where the plan isn't shared, `link_of` gives bytes, and each object that it loads is valid, the bytes spell a valid module:
 /// validation finds no fault in it.
 pub fn links_are_valid()
     ensures { LinksAreValid }

@@ -12,6 +12,7 @@ use Rattle.memory_layout.specs.Memory.{places, memory_overflow}
 use Rattle.ctor_call.specs.Body.{ctor_body}
 use Rattle.reloc_apply.specs.Windows.{value_overflow}
 use Rattle.image_emit.specs.Bytes.{bytes_of}
+use Rattle.link_rules.specs.ModeOf.{mode_of}
 use Rattle.link_rules.specs.Candidates.{candidates_of}
 use Rattle.link_rules.specs.Program.{init_calls, parts_of, winners_of, program_of}
 use Rattle.link_rules.specs.Marks.{exported, repeated_export, live, pic_fault, unresolved, uncalled}
@@ -25,7 +26,7 @@ use Rattle.worked_runs.specs.Clang.{clang_object, exporting_f, linked}
 use Rattle.worked_runs.proofs.Read.{object_is}
 
 pub link_is : link_of exporting_f (clang_object ∷ []) ≡ Ok linked
-unfolding link_of link_by candidates_of load entries resolve program_of winners_of parts_of init_calls asked_names too_many_names clash duplicate exported repeated_export link_program marked live reached pic_fault unresolved uncalled memory_fault memory_overflow shapes laid_out layout places functions slots globals types imports_in_order table_fault written image source_windows windows output_fault reference_fault value_overflow output_bytes bytes_of u32 u32_padded s32 s32_padded s64 ctor_body
+unfolding mode_of link_of link_by candidates_of load entries resolve program_of winners_of parts_of init_calls asked_names too_many_names clash duplicate exported repeated_export link_program marked live reached pic_fault unresolved uncalled memory_fault memory_overflow shapes laid_out layout places functions slots globals types imports_in_order table_fault written image source_windows windows output_fault reference_fault value_overflow output_bytes bytes_of u32 u32_padded s32 s32_padded s64 ctor_body
 link_is = ap (λ read. link_by Plain (record { object = λ input bytes. read; library = library_of }) exporting_f (clang_object ∷ [])) object_is
 
 pub is_plan : IsPlan exporting_f

@@ -6,4 +6,4 @@ pub returns-clause-bytes : goal.returns-clause-bytes
 returns-clause-bytes c = link_is
 
 pub returns-clause-runs : goal.returns-clause-runs
-returns-clause-runs c = c.links_run.ensures _ _ _ is_plan refl link_is
+returns-clause-runs c = c.links_run.ensures _ _ _ is_plan refl link_is refl

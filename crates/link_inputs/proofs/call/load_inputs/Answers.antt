@@ -1,7 +1,7 @@
 use Rattle.std.proofs.Common.{◌∙◌, ap, sym, subst, List, length}
 use Rattle.std.proofs.lemmas.Result.{err_from_is_err_and}
-use Rattle.link_program.specs.made_symbols.declared.mode.Mode.TheVariants.{Plain}
 use Rattle.link_program.specs.link_plan.declared.plan.InputWord.{InputWord}
+use Rattle.link_program.specs.link_rules.ModeOf.{mode_of}
 use Rattle.link_inputs.specs.Sources.{AreSources}
 use Rattle.link_inputs.proofs.Files.{opened_are, opened_long}
 use Rattle.link_inputs.proofs.Sourced.{words_long, few_files, opened_ok, sourced, refused_early, exact, found}
@@ -10,7 +10,7 @@ use Rattle.link_inputs.proofs.call.load_inputs.Goals as goal
 pub returns-in_err-opened-clause-exact : goal.returns-in_err-opened-clause-exact
 returns-in_err-opened-clause-exact g c =
     let p = err_from_is_err_and c.from_residual.result c.from_residual.ensures.1 in
-    let f = refused_early Plain c.args.plan.now c.args.files.now c.in_err-opened.field-0.0 c.requires.files c.in_err-opened.ensures in
+    let f = refused_early (mode_of c.args.plan.now) c.args.plan.now c.args.files.now c.in_err-opened.field-0.0 c.requires.files c.in_err-opened.ensures in
     rw (p.1, p.2) f
 
 pub number_inputs-requires-clause-same : goal.number_inputs-requires-clause-same

@@ -1,5 +1,5 @@
 use Rattle.std.proofs.Common.{rules}
-use Rattle.link_program.specs.made_symbols.declared.mode.Mode.TheVariants.{Plain}
+use Rattle.link_program.specs.link_rules.ModeOf.{mode_of}
 use Rattle.link_program.specs.link_rules.LinkOf.{asked_names}
 use Rattle.link_inputs.proofs.Sourced.{fits, candidates, all_read, all_few, homes_all, refused_by}
 use Rattle.link_inputs.proofs.call.load_sources.Goals as goal
@@ -28,5 +28,5 @@ refused-least-requires-clause-few g c =
 
 pub returns : goal.returns
 returns g c =
-    refused_by c.args.plan.now c.args.files.now c.args.sources c.requires.sources Plain (asked_names c.args.plan.now) c.as_slice.result.now
+    refused_by c.args.plan.now c.args.files.now c.args.sources c.requires.sources (mode_of c.args.plan.now) (asked_names c.args.plan.now) c.as_slice.result.now
     c.as_slice-in-Err.result.now c.in-Err.first c.refused-least.result c.as_slice.ensures c.as_slice-in-Err.ensures c.in-Err.ensures c.refused-least.ensures

@@ -3,7 +3,7 @@ use Rattle.std.proofs.lemmas.Result.{err_from_is_err_and}
 use Rattle.link_keys.specs.link_program.made_symbols.declared.mode.Mode.TheVariants.{Plain}
 use Rattle.link_keys.specs.link_program.name_entries.Fits.{Fits}
 use Rattle.link_keys.specs.link_program.Told.{told_winner}
-use Rattle.link_keys.specs.link_program.Program.{IsProgram}
+use Rattle.link_keys.specs.link_program.Program.{IsProgramOf}
 use Rattle.link_keys.specs.link_program.Stand.{PartsStand}
 use Rattle.link_keys.specs.link_program.Live.{AreLive, AllMeant}
 use Rattle.link_numbers.specs.Numbered.{Numbered}
@@ -21,7 +21,7 @@ numbers_told-requires-clause-rows g c κs within =
 
 pub returns-in_err-numbering-clause-table : goal.returns-in_err-numbering-clause-table
 returns-in_err-numbering-clause-table g c =
-    let is : IsProgram c.args.program g.link.program = search rules in
+    let is : IsProgramOf Plain c.args.program g.link.program = search rules in
     let stand : PartsStand g.link.program = search rules in
     let are : AreLive g.link.program c.args.live.now g.link.parts = search rules in
     let meant : AllMeant g.link.parts = search rules in
@@ -34,7 +34,7 @@ returns-in_err-numbering-clause-table g c =
 
 pub returns-clause-numbers : goal.returns-clause-numbers
 returns-clause-numbers g c =
-    let is : IsProgram c.args.program g.link.program = search rules in
+    let is : IsProgramOf Plain c.args.program g.link.program = search rules in
     let stand : PartsStand g.link.program = search rules in
     let are : AreLive g.link.program c.args.live.now g.link.parts = search rules in
     let meant : AllMeant g.link.parts = search rules in
@@ -45,7 +45,7 @@ returns-clause-numbers g c =
 
 pub returns-clause-table : goal.returns-clause-table
 returns-clause-table g c =
-    let is : IsProgram c.args.program g.link.program = search rules in
+    let is : IsProgramOf Plain c.args.program g.link.program = search rules in
     let stand : PartsStand g.link.program = search rules in
     let are : AreLive g.link.program c.args.live.now g.link.parts = search rules in
     let meant : AllMeant g.link.parts = search rules in

@@ -1,4 +1,4 @@
 use Rattle.lost_ctors.proofs.lost.uncalled.Given as goal
 
-abbrev pub ghost-is_exempt : goal.ghost-is_exempt
-ghost-is_exempt g a = g.w.program
+abbrev pub ghost-plain_uncalled : goal.ghost-plain_uncalled
+ghost-plain_uncalled g a = g.w

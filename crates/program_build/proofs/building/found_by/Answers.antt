@@ -23,7 +23,7 @@ use Rattle.program_build.proofs.building.found_by.Goals as goal
 pub loosened-requires : goal.loosened-requires
 loosened-requires g c =
     let loaded : IsLoaded g.origin.files g.origin.all c.args.objects.now c.args.homes.now = c.requires.1.1.1.0 in
-    let meant : AreMeant g.origin c.args.objects.now c.args.names c.args.entries c.args.meanings = c.requires.1.1.1.1 in
+    let meant : AreMeant Plain g.origin c.args.objects.now c.args.names c.args.entries c.args.meanings = c.requires.1.1.1.1 in
     let numbers = meant.numbered.2 in
     let rise = loaded.rise in
     let table = meant.looked_up in
@@ -39,7 +39,7 @@ tables_of-requires g c κs within =
     let ms = c.args.meanings in
     let same : origin.plan ≡ c.args.plan.now = c.requires.1.1.0 in
     let loaded : IsLoaded origin.files origin.all objects c.args.homes.now = c.requires.1.1.1.0 in
-    let meant : AreMeant origin objects n c.args.entries ms = c.requires.1.1.1.1 in
+    let meant : AreMeant Plain origin objects n c.args.entries ms = c.requires.1.1.1.1 in
     let like : c.args.plan.now.loose_calls ≡ origin.plan.loose_calls = ap (λ (p : Plan). p.loose_calls) (sym same) in
     let stays : Stays n m = c.in_ok-loose.ensures.stays in
     let few : length m.names < 2 ^ 32 = c.in_ok-loose.ensures.few in
@@ -71,7 +71,7 @@ returns g c =
     let ms = c.args.meanings in
     let same : origin.plan ≡ c.args.plan.now = c.requires.1.1.0 in
     let loaded : IsLoaded origin.files origin.all objects c.args.homes.now = c.requires.1.1.1.0 in
-    let meant : AreMeant origin objects n c.args.entries ms = c.requires.1.1.1.1 in
+    let meant : AreMeant Plain origin objects n c.args.entries ms = c.requires.1.1.1.1 in
     let like : c.args.plan.now.loose_calls ≡ origin.plan.loose_calls = ap (λ (p : Plan). p.loose_calls) (sym same) in
     let behind = subst (λ b. m.names ≡ n.names ++ variant_names (variants_in b origin.plan.allow_undefined objects)) like c.in_ok-loose.ensures.names in
     let apart = subst (λ b. All (λ (v : InputSymbol). list_any (bytes_eq (name_of v)) n.names ≡ false) (variants_in b origin.plan.allow_undefined objects)) like c.in_ok-loose.ensures.apart in

@@ -7,6 +7,9 @@ use Rattle.sym_functions.specs.link_image.Sections.{entry_of}
 use Rattle.sym_functions.specs.sym_parts.Data.{target_seen}
 use Rattle.sym_world.proofs.exports.export.Goals as goal
 
+pub export_name-requires : goal.export_name-requires
+export_name-requires g c = ((Plain, c.requires.0.program), c.requires.1)
+
 pub returns : goal.returns
 returns g c = λ e held is.
     let l = layout Plain g.s.program g.s.parts g.s.exports in

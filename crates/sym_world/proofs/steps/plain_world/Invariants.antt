@@ -1,5 +1,5 @@
 use Rattle.link_program.specs.Loaded.{the_candidates}
-use Rattle.sym_world.proofs.steps.sym_world.Given as goal
+use Rattle.sym_world.proofs.steps.plain_world.Given as goal
 
 abbrev pub ghost-found_world : goal.ghost-found_world
 ghost-found_world g a = record {

@@ -1,0 +1,4 @@
+use Rattle.link_marks.proofs.exported.exports.Given as goal
+
+abbrev pub ghost-plain_exports : goal.ghost-plain_exports
+ghost-plain_exports g a = g.p
