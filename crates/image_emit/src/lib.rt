@@ -2,14 +2,14 @@
 #![tactic(auto)]
 
 mod emission;
-mod fronts;
+pub mod fronts;
 mod laws;
 mod measuring;
 mod parts;
 pub mod piece_laws;
-mod put;
+pub mod put;
 mod put_kinds;
-mod sizes;
+pub mod sizes;
 mod sources;
 mod splitting;
 mod tree;
