@@ -41,7 +41,7 @@ fn put_sections(image: &Image, files: &[Seq<u8>], out: &mut [u8]) -> usize
 }
 
 // Writes a custom section, where there is one.
-fn put_custom(payload: &Option<Seq<u8>>, at: usize, out: &mut [u8]) -> usize
+pub fn put_custom(payload: &Option<Seq<u8>>, at: usize, out: &mut [u8]) -> usize
     requires { HasRoom out.old at (custom_section payload.now) }
     ensures { IsPut out.old at (custom_section payload.now) result out.new }
 {
@@ -55,7 +55,7 @@ fn put_custom(payload: &Option<Seq<u8>>, at: usize, out: &mut [u8]) -> usize
 }
 
 // Writes a section, unless it has no entries.
-fn put_section<T: Put>(id: u8, items: &[T], at: usize, out: &mut [u8]) -> usize
+pub fn put_section<T: Put>(id: u8, items: &[T], at: usize, out: &mut [u8]) -> usize
     requires { HasRoom out.old at (section id T.spelled items.now) }
     ensures { IsPut out.old at (section id T.spelled items.now) result out.new }
 {
