@@ -29,7 +29,8 @@ use Rattle.link_program.specs.declared.part.Content.TheVariants as contents
 use Rattle.link_program.specs.declared.part.Part.{Part as Told}
 use Rattle.link_program.specs.Look.{no_part, row_at}
 use Rattle.link_program.specs.Seen.{SeenNamed, seen_symbol, seen_type, seen_named, told_named, SeenContent, a_function, a_segment, a_global, the_linkers, SeenPart, seen_part, told_part, seen_content, told_content}
-use Rattle.link_program.specs.Program.{IsProgram}
+use Rattle.link_program.specs.made_symbols.declared.mode.Mode.TheVariants.{Plain}
+use Rattle.link_program.specs.Program.{IsProgramOf}
 use Rattle.partial_rules.specs.Partial as partial
 use Rattle.partial_symbols.specs.declared.facts.At.{At}
 use Rattle.partial_symbols.specs.Known.{symbol_there, import_there}
@@ -121,7 +122,7 @@ type_of_key objects at k is = by_symbol (symbol_there objects at) refl is
         ap function_type_of (by_object (slice_get objects at.object) refl x there (sym (ap (option_and_then (λ (e : InputSymbol). e.import)) there) ∙ e))
         ∙ sym (ap (λ o. function_type_of (symbol_type o)) there)
 
-module _ (d : Data) (p : Program) (is : IsProgram d p) where
+module _ (d : Data) (p : Program) (is : IsProgramOf Plain d p) where
   abbrev t : Tables
   t = d.tables.now
 
