@@ -1,6 +1,7 @@
 -- What is made of kept parts by their numbers is what is made of the parts.
 use Rattle.std.proofs.Common.{◌≡◌, ℕ, zero, suc, ◌+◌, ◌<◌, ◌==◌, Bool, true, false, not, ◌&&◌, cond, List, [], ◌∷◌, ◌++◌, map, filter, filter_map, take, length, get_or, slice_get, Option, Some, None, option_map, refl, sym, ap, subst, ◌∙◌, arith, All}
 use Rattle.std.specs.List.{AllByRecursion, cons_option}
+use Rattle.std.proofs.lemmas.Bool.{and_parts}
 use Rattle.std.proofs.lemmas.List.{take_more, map-append}
 use Rattle.std.proofs.lemmas.List.Elements.{filter_map-append, All-head, All-tail}
 use Rattle.std.proofs.lemmas.Option.{slice_get-map, same_Some, none-some, get_or_from_slice_get}
@@ -59,20 +60,15 @@ IsKept kind part = (is_object_part part && (part.chunk.kind == kind)) ≡ true
 pub all_kept : (p : Program) (kind : ℕ) → AllByRecursion (IsKept kind) (partial.kept p kind)
 all_kept p kind = passing (λ (part : Part). is_object_part part && (part.chunk.kind == kind)) p.parts
 
-both : (a b : Bool) → (a && b) ≡ true → (a ≡ true) × (b ≡ true)
-both true true e = (refl, refl)
-both true false e = absurd cc
-both false b e = absurd cc
-
 not_true : (b : Bool) → not b ≡ true → b ≡ false
 not_true true e = absurd cc
 not_true false e = refl
 
 pub of_object : (kind : ℕ) (part : Part) → IsKept kind part → (part.chunk.input == 0) ≡ false
-of_object kind part kept = not_true (part.chunk.input == 0) (both (is_object_part part) (part.chunk.kind == kind) kept).0
+of_object kind part kept = not_true (part.chunk.input == 0) (and_parts (is_object_part part) (part.chunk.kind == kind) kept).0
 
 pub of_kind : (kind : ℕ) (part : Part) → IsKept kind part → (part.chunk.kind == kind) ≡ true
-of_kind kind part kept = (both (is_object_part part) (part.chunk.kind == kind) kept).1
+of_kind kind part kept = (and_parts (is_object_part part) (part.chunk.kind == kind) kept).1
 
 pub at_number : {A : Type 0} (P : A → Type 0) (xs : List A) (i : ℕ) (x : A) → All P xs → slice_get xs i ≡ Some x → P x
 at_number P [] i x all at = absurd (none-some x at)

@@ -1,5 +1,5 @@
 -- What the kept parts are is what their objects have at their places.
-use Rattle.std.proofs.Common.{◌≡◌, ℕ, suc, ◌+◌, ◌<◌, ◌==◌, Bool, true, false, cond, List, [], ◌∷◌, ◌++◌, map, filter, flat_map, find, length, get_or, slice_get, Option, Some, None, option_map, option_and_then, refl, sym, ap, subst, ◌∙◌, arith, All}
+use Rattle.std.proofs.Common.{◌≡◌, ℕ, suc, ◌+◌, ◌<◌, ◌==◌, Bool, true, false, ◌&&◌, cond, List, [], ◌∷◌, ◌++◌, map, filter, flat_map, find, length, get_or, slice_get, Option, Some, None, option_map, option_and_then, refl, sym, ap, subst, ◌∙◌, arith, All}
 use Rattle.std.specs.Prelude.{if◌then◌else◌, IfSome}
 use Rattle.std.specs.List.{AllByRecursion}
 use Rattle.std.proofs.lemmas.Bool.{eqb-true}
@@ -103,9 +103,8 @@ module _ (p : Program) (es : List InputSymbol) (allow : Bool) (all : List Candid
       (of_objects os (All-tail (λ (o : Object). object_at p.objects o.input ≡ Some o) o os each))
 
   of_all : InputsRise 0 p.objects → All (Owned p.objects) (parts_of Plain all p.objects (resolve Plain allow es p.objects))
-  unfolding parts_of
+  unfolding parts_of resolve
 
-  unfolding resolve
   of_all rise =
       All-append (Owned p.objects) (made_parts_from (init_calls (map resolved p.objects)) 0 (made Plain)) (flat_map (parts_in all p.objects) (map resolved p.objects))
       (all_made p.objects (init_calls (map resolved p.objects)) 0 (made Plain))
