@@ -1,10 +1,10 @@
 -- What plain data say is what the definition says of the object that they stand for.
-use Rattle.std.proofs.Common.{◌≡◌, ℕ, zero, suc, ◌+◌, ◌==◌, Bool, true, false, List, [], ◌∷◌, ◌++◌, length, map, refl, sym, ap, ◌∙◌, arith, rules, append_assoc, length-append}
+use Rattle.std.proofs.Common.{◌≡◌, ℕ, zero, suc, ◌+◌, ◌<◌, ◌==◌, Bool, true, false, List, [], ◌∷◌, ◌++◌, length, map, refl, sym, ap, ◌∙◌, arith, rules, append_assoc, length-append}
 use Rattle.std.specs.Prelude.{if◌then◌else◌, codes, All}
 use Rattle.std.specs.List.{flat_map, list_all}
 use Rattle.std.proofs.lemmas.List.{length-map}
 use Rattle.std.proofs.lemmas.Grind.{flat_map-append}
-use Rattle.leb_codec.specs.Shortest.{u32}
+use Rattle.leb_codec.specs.Shortest.{u32, s32}
 use Rattle.reloc_section.specs.declared.entry.Reloc.{Reloc}
 use Rattle.reloc_apply.specs.declared.window.Patch.{Patch}
 use Rattle.reloc_apply.specs.Windows.{filled}
@@ -16,7 +16,7 @@ use Rattle.partial_bytes.specs.declared.part.PartKind.{PartKind}
 use Rattle.partial_bytes.specs.declared.part.PartKind.TheVariants.{Body, Segment}
 use Rattle.partial_bytes.specs.Told.{emptied, part_told, global_told, info_told, symbol_told, group_told, tree_told, PartFits, TreeFits}
 use Rattle.partial_bytes.specs.Items.{global_row, info_row, symbol_row, group_row}
-use Rattle.partial_bytes.specs.Written.{head_of, lead_of, head_len, part_len, parts_len, payload_len, part_spelled, parts_section, relocs_at, relocs_in, entries, front_of, linking_of, linking_section, code_at, data_at, written, part_fits}
+use Rattle.partial_bytes.specs.Written.{lead, head_of, head_len, part_len, parts_len, payload_len, part_spelled, parts_section, relocs_at, relocs_in, entries, front_of, linking_of, linking_section, code_at, data_at, written, part_fits}
 use Rattle.partial_bytes.proofs.Fitting.{emptied_long, head_long, part_long, parts_judged}
 use Rattle.std.proofs.lemmas.Bool.{and_parts}
 use Rattle.std.proofs.lemmas.List.Sums.{sum_by-drop_more}
@@ -61,15 +61,21 @@ linking_told t =
 
 -- ---- parts
 
-whole : PartKind → Windowed → List ℕ
-whole kind w = head_of kind w.bytes ++ w.bytes
+-- what leads to a part, in the definition
+heads : PartKind → List ℕ → List ℕ
+heads Body = body_head
+heads Segment = segment_head
 
-head_told : (kind : PartKind) (bytes other : List ℕ) → length other ≡ length bytes → head_of kind bytes ≡ head_of kind other
-head_told Body bytes other is = ap u32 (sym is)
-head_told Segment bytes other is = ap (λ n. segment_lead ++ u32 n) (sym is)
-  where
-    segment_lead : List ℕ
-    segment_lead = []
+heads_are : (kind : PartKind) (bytes : List ℕ) → head_of kind bytes ≡ heads kind bytes
+unfolding heads s32
+heads_are Body bytes = refl
+heads_are Segment bytes = refl
+
+whole : PartKind → Windowed → List ℕ
+whole kind w = heads kind w.bytes ++ w.bytes
+
+head_told : (kind : PartKind) (bytes other : List ℕ) → length other ≡ length bytes → head_of kind bytes ≡ heads kind other
+head_told kind bytes other is = ap (λ n. lead kind ++ u32 n) (sym is) ∙ heads_are kind other
 
 parts_told : (kind : PartKind) (ps : List Part) → list_all part_fits ps ≡ true → flat_map (part_spelled kind) ps ≡ flat_map (whole kind) (map part_told ps)
 unfolding whole
@@ -97,33 +103,44 @@ section_parts id kind (p ∷ ps) h =
     let same = parts_told kind qs h in
     let number = ap (λ n. length (u32 n)) count in
     let long : payload_len kind qs ≡ length (vector (whole kind) ws) =
-        omega (arith, length-append (u32 (length ws)) (flat_map (whole kind) ws), number, ap (λ (zs : List ℕ). length zs) same, parts_long kind qs h) in
+    omega (arith, length-append (u32 (length ws)) (flat_map (whole kind) ws), number, ap (λ (zs : List ℕ). length zs) same, parts_long kind qs h) in
     append_assoc (id ∷ u32 (payload_len kind qs)) (u32 (length qs)) (flat_map (part_spelled kind) qs)
     ∙ (λ i. id ∷ u32 (long i) ++ (u32 (sym count i) ++ same i))
     ∙ sym (some (length (map part_told ps)) [] (id ∷ sized (vector (whole kind) ws)))
 
+-- ---- how long a section of parts is
+
+pub section_long : (id : ℕ) (kind : PartKind) (ps : List Part) (payload n : ℕ) → 0 < length ps → payload ≡ payload_len kind ps → list_all part_fits ps ≡ true
+    → n ≡ 1 + length (u32 payload) + payload → n ≡ length (parts_section id kind ps)
+section_long id kind [] payload n there is h all = absurd (omega (arith, there))
+section_long id kind (p ∷ ps) payload n there is h all =
+    let qs : List Part = p ∷ ps in
+    let size = payload_len kind qs in
+    let number = ap (λ k. length (u32 k)) is in
+    omega (arith, is, all, number, parts_long kind qs h, length-append (id ∷ u32 size ++ u32 (length qs)) (flat_map (part_spelled kind) qs), length-append (u32 size) (u32 (length qs)))
+
 -- ---- relocations
 
-relocs_told : (kind : PartKind) (at : ℕ) (ps : List Part) → list_all part_fits ps ≡ true → relocs_at kind at ps ≡ relocs_from (head_of kind) at (map part_told ps)
+relocs_told : (kind : PartKind) (at : ℕ) (ps : List Part) → list_all part_fits ps ≡ true → relocs_at kind at ps ≡ relocs_from (heads kind) at (map part_told ps)
 relocs_told kind at [] h = refl
 relocs_told kind at (p ∷ ps) h =
     let fits = and_parts (part_fits p) (list_all part_fits ps) h in
     let e = emptied p.relocs.now p.bytes.now in
     let long : length p.bytes.now ≡ length e = sym (emptied_long p.relocs.now p.bytes.now fits.0) in
     let number = ap (λ n. length (u32 n)) long in
-    let head : head_len kind p ≡ length (head_of kind e) = omega (arith, head_long kind e, number) in
+    let head : head_len kind p ≡ length (heads kind e) = omega (arith, head_long kind e, number, ap (λ (zs : List ℕ). length zs) (heads_are kind e)) in
     (λ i. map {A = Reloc} {B = Reloc} (later (at + head i)) p.relocs.now ++ relocs_at kind (at + head i + long i) ps)
-    ∙ ap (λ (zs : List Reloc). map {A = Reloc} {B = Reloc} (later (at + length (head_of kind e))) p.relocs.now ++ zs) (relocs_told kind (at + length (head_of kind e) + length e) ps fits.1)
+    ∙ ap (λ (zs : List Reloc). map {A = Reloc} {B = Reloc} (later (at + length (heads kind e))) p.relocs.now ++ zs) (relocs_told kind (at + length (heads kind e) + length e) ps fits.1)
 
-section_told_relocs : (kind : PartKind) (ps : List Part) → list_all part_fits ps ≡ true → relocs_in kind ps ≡ section_relocs (head_of kind) (map part_told ps)
+section_told_relocs : (kind : PartKind) (ps : List Part) → list_all part_fits ps ≡ true → relocs_in kind ps ≡ section_relocs (heads kind) (map part_told ps)
 section_told_relocs kind ps h =
     relocs_told kind (length (u32 (length ps))) ps h
-    ∙ ap (λ n. relocs_from (head_of kind) (length (u32 n)) (map part_told ps)) (sym (length-map ps part_told))
+    ∙ ap (λ n. relocs_from (heads kind) (length (u32 n)) (map part_told ps)) (sym (length-map ps part_told))
 
 -- ---- the whole
 
 pub told_written : (t : Tree) → TreeFits t → written t ≡ relocatable_bytes (tree_told t)
-unfolding whole relocatable_bytes
+unfolding whole heads relocatable_bytes
 told_written t fits =
     let hb = parts_judged t.bodies.now fits.bodies in
     let hs = parts_judged t.segments.now fits.segments in
@@ -134,9 +151,38 @@ told_written t fits =
     let some_globals = present_told global_told t.globals.now in
     let some_bodies = present_told part_told t.bodies.now in
     let code = section_told_relocs Body t.bodies.now hb in
-    let data = section_told_relocs Segment t.segments.now hs in
+    let later_code = section_told_relocs Segment t.segments.now hs in
     λ i.
-      header ++ section 1 func_type t.types.now ++ section 2 import_entry t.imports.now ++ section 3 u32 t.functions.now ++ globals i ++ section 7 export t.exports.now
-      ++ bodies i ++ segments i ++ custom (codes "linking") (link i)
-      ++ reloc_section (codes "reloc.CODE") (present t.types.now + present t.imports.now + present t.functions.now + some_globals i + present t.exports.now) (code i)
-      ++ reloc_section (codes "reloc.DATA") (present t.types.now + present t.imports.now + present t.functions.now + some_globals i + present t.exports.now + some_bodies i) (data i)
+    header ++ section 1 func_type t.types.now ++ section 2 import_entry t.imports.now ++ section 3 u32 t.functions.now ++ globals i ++ section 7 export t.exports.now
+    ++ bodies i ++ segments i ++ custom (codes "linking") (link i)
+    ++ reloc_section (codes "reloc.CODE") (present t.types.now + present t.imports.now + present t.functions.now + some_globals i + present t.exports.now) (code i)
+    ++ reloc_section (codes "reloc.DATA") (present t.types.now + present t.imports.now + present t.functions.now + some_globals i + present t.exports.now + some_bodies i) (later_code i)
+
+pub all_long : (t : Tree) → TreeFits t → (front code later_code link rest a b c len : ℕ)
+    → front ≡ length (front_of t) → code ≡ length (parts_section 10 Body t.bodies.now) → later_code ≡ length (parts_section 11 Segment t.segments.now) → link ≡ length (linking_section t)
+    → rest ≡ length (reloc_section (codes "reloc.CODE") (code_at t) (relocs_in Body t.bodies.now)) + length (reloc_section (codes "reloc.DATA") (data_at t) (relocs_in Segment t.segments.now))
+    → a ≡ front + code → b ≡ a + later_code → c ≡ b + link → len ≡ c + rest → len ≡ length (relocatable_bytes (tree_told t))
+all_long t fits front code later_code link rest a b c len f g h l r first second third last =
+    let bodies = parts_section 10 Body t.bodies.now in
+    let segments = parts_section 11 Segment t.segments.now in
+    let linking_is = linking_section t in
+    let relocs = reloc_section (codes "reloc.CODE") (code_at t) (relocs_in Body t.bodies.now) in
+    let more = reloc_section (codes "reloc.DATA") (data_at t) (relocs_in Segment t.segments.now) in
+    omega (
+      arith,
+      f,
+      g,
+      h,
+      l,
+      r,
+      first,
+      second,
+      third,
+      last,
+      length-append (front_of t) bodies,
+      length-append (front_of t ++ bodies) segments,
+      length-append (front_of t ++ bodies ++ segments) linking_is,
+      length-append (front_of t ++ bodies ++ segments ++ linking_is) relocs,
+      length-append (front_of t ++ bodies ++ segments ++ linking_is ++ relocs) more,
+      ap (λ (zs : List ℕ). length zs) (told_written t fits),
+    )

@@ -1,10 +1,10 @@
 -- Windows that lie in a part: emptying them leaves it as long, and their relocations have places in its section.
-use Rattle.std.proofs.Common.{◌≡◌, ℕ, ◌+◌, ◌<◌, ◌≤◌, ◌^◌, nat_le, nat_lt, Bool, true, false, List, [], ◌∷◌, ◌++◌, length, map, refl, sym, ap, ◌∙◌, arith, rules, length-append}
-use Rattle.std.specs.Prelude.{All, ◌&&◌, pos}
-use Rattle.std.specs.List.{AllByRecursion, list_all}
+use Rattle.std.proofs.Common.{◌≡◌, ℕ, zero, suc, take, get_or, ◌+◌, ◌<◌, ◌≤◌, ◌^◌, nat_le, nat_lt, Bool, true, false, List, [], ◌∷◌, ◌++◌, length, map, refl, sym, ap, ◌∙◌, arith, rules, length-append}
+use Rattle.std.specs.Prelude.{All, ◌&&◌}
+use Rattle.std.specs.List.{AllByRecursion, list_all, flat_map}
 use Rattle.std.proofs.lemmas.Bool.{and_parts, leb-true}
 use Rattle.std.proofs.lemmas.List.Elements.{All-from_recursion, recursion_from_All}
-use Rattle.leb_codec.specs.Shortest.{u32, s32}
+use Rattle.leb_codec.specs.Shortest.{u32}
 use Rattle.reloc_section.specs.declared.entry.Reloc.{Reloc}
 use Rattle.reloc_apply.specs.declared.window.Patch.{Patch}
 use Rattle.reloc_apply.specs.Apart.{LiesIn, size_of}
@@ -12,10 +12,9 @@ use Rattle.reloc_apply.proofs.Over.{long_all}
 use Rattle.link_rules.specs.Values.{form_of}
 use Rattle.partial_bytes.specs.declared.tree.Part.{Part}
 use Rattle.partial_bytes.specs.declared.part.PartKind.{PartKind}
-use Rattle.partial_bytes.specs.declared.part.PartKind.TheVariants.{Body, Segment}
 use Rattle.partial_bytes.specs.Told.{empty_of, emptied, PartFits}
 use Rattle.partial_bytes.specs.Pieces.{entry_fits}
-use Rattle.partial_bytes.specs.Written.{head_of, lead_of, head_len, part_len, part_spelled, window_fits, part_fits}
+use Rattle.partial_bytes.specs.Written.{head_of, lead, head_len, part_len, part_spelled, window_fits, part_fits}
 
 -- ---- windows in so many bytes, judged and known
 
@@ -49,10 +48,8 @@ parts_judged ps h = by ps (recursion_from_All PartFits ps h)
 pub emptied_long : (xs : List Reloc) (bytes : List ℕ) → list_all (window_fits (length bytes)) xs ≡ true → length (emptied xs bytes) ≡ length bytes
 emptied_long xs bytes h = long_all (map empty_of xs) bytes (All-from_recursion (LiesIn (length bytes)) (map empty_of xs) (all_of (length bytes) xs h))
 
-pub head_long : (kind : PartKind) (bytes : List ℕ) → length (head_of kind bytes) ≡ lead_of kind + length (u32 (length bytes))
-unfolding s32
-head_long Body bytes = omega arith
-head_long Segment bytes = omega arith
+pub head_long : (kind : PartKind) (bytes : List ℕ) → length (head_of kind bytes) ≡ length (lead kind) + length (u32 (length bytes))
+head_long kind bytes = length-append (lead kind) (u32 (length bytes))
 
 pub part_long : (kind : PartKind) (p : Part) → part_fits p ≡ true → length (part_spelled kind p) ≡ part_len kind p
 part_long kind p h =
@@ -70,3 +67,11 @@ entries_fit (x ∷ xs) from len h low =
   where
     is_lt : (a : ℕ) → a < 2 ^ 32 → nat_lt a (2 ^ 32) ≡ true
     is_lt a lt = search rules
+
+-- there is room for one item more
+pub item_room : {X : Type 0} (f : X → List ℕ) (xs : List X) (i : ℕ) (d : X) → i < length xs
+    → length (flat_map f (take i xs)) + length (f (get_or xs i d)) ≤ length (flat_map f xs)
+item_room f [] i d lt = absurd (omega (arith, lt))
+item_room f (x ∷ xs) zero d lt = omega (arith, length-append (f x) (flat_map f xs))
+item_room f (x ∷ xs) (suc i) d lt =
+    omega (arith, item_room f xs i d (omega (arith, lt)), length-append (f x) (flat_map f xs), length-append (f x) (flat_map f (take i xs)))

@@ -1,6 +1,6 @@
 -- Which pieces there are: their bytes, and that they fit.
 use Rattle.std.proofs.Common.{◌≡◌, ℕ, suc, ◌+◌, ◌<◌, ◌≤◌, ◌^◌, Bool, true, List, [], ◌∷◌, ◌++◌, length, map, drop, get_or, refl, sym, ap, ◌∙◌, subst, arith, rules, append_assoc, length-append}
-use Rattle.std.specs.Prelude.{◌&&◌}
+use Rattle.std.specs.Prelude.{◌&&◌, codes}
 use Rattle.std.specs.List.{flat_map, list_all}
 use Rattle.std.proofs.lemmas.Bool.{and_parts}
 use Rattle.std.proofs.lemmas.List.{at_drop_more}
@@ -10,11 +10,13 @@ use Rattle.reloc_section.specs.declared.entry.Reloc.{Reloc}
 use Rattle.image_emit.specs.Bytes.{sized, vector}
 use Rattle.partial_rules.specs.Relocatable.{reloc, later, custom, reloc_section}
 use Rattle.partial_bytes.specs.declared.tree.Part.{Part as Lent}
+use Rattle.partial_bytes.specs.declared.tree.Tree.{Tree}
 use Rattle.partial_bytes.specs.declared.part.PartKind.{PartKind}
+use Rattle.partial_bytes.specs.declared.part.PartKind.TheVariants.{Body, Segment}
 use Rattle.partial_bytes.specs.declared.pieces.Piece.{Piece}
 use Rattle.partial_bytes.specs.declared.pieces.Piece.TheVariants.{Front, Head, Part, Linking, RelocHead, Relocs}
 use Rattle.partial_bytes.specs.Pieces.{reloc_head, head_bytes, piece_bytes, pieces_bytes, part_pieces, reloc_pieces, fits, Fit, entry_fits}
-use Rattle.partial_bytes.specs.Written.{head_len, part_len, parts_len, payload_len, part_spelled, parts_section, relocs_at, relocs_in, entries, part_fits}
+use Rattle.partial_bytes.specs.Written.{head_len, part_len, parts_len, payload_len, part_spelled, parts_section, relocs_at, relocs_in, entries, part_fits, front_of, linking_section, code_at, data_at, written}
 use Rattle.partial_bytes.proofs.Bridge.{flat_told, some}
 use Rattle.partial_bytes.proofs.Fitting.{entries_fit}
 
@@ -114,17 +116,36 @@ module _ (name : List ℕ) (target : ℕ) (kind : PartKind) (ps : List Lent) whe
       (λ i. reloc_head name (is i) target (many i) ++ flat_map reloc (x ∷ xs))
       ∙ regrouped (u32 (length (sized name ++ (u32 target ++ vector reloc (x ∷ xs))))) (u32 (length (x ∷ xs))) (flat_map reloc (x ∷ xs))
 
-  pub relocs_laid : (lent : _) (qs rs ss : List Piece) (size count at : ℕ) → 0 < length (relocs_in kind ps)
+  pub relocs_laid : (qs rs ss : List Piece) (size count at : ℕ) → 0 < length (relocs_in kind ps)
       → size ≡ length (sized name ++ (u32 target ++ vector reloc (relocs_in kind ps))) → count ≡ length (relocs_in kind ps) → at ≡ length (u32 (length ps))
       → pieces_bytes rs ≡ pieces_bytes qs ++ reloc_head name size target count → ss ≡ rs ++ reloc_pieces kind at ps
       → pieces_bytes ss ≡ pieces_bytes qs ++ reloc_section name target (relocs_in kind ps)
-  relocs_laid lent qs rs ss size count at there is many from first then =
+  relocs_laid qs rs ss size count at there is many from first then =
       let xs = relocs_in kind ps in
       ap pieces_bytes then ∙ both_bytes rs (reloc_pieces kind at ps)
       ∙ (λ i. first i ++ relocs_bytes kind at ps i)
       ∙ ap (λ n. (pieces_bytes qs ++ reloc_head name size target count) ++ flat_map reloc (relocs_at kind n ps)) from
       ∙ append_assoc (pieces_bytes qs) (reloc_head name size target count) (flat_map reloc xs)
       ∙ ap (λ zs. pieces_bytes qs ++ zs) (section_is xs size count there is many)
+
+-- ---- all pieces
+
+pub all_bytes : (t : Tree) (q l : Piece) (code_name data_name : List ℕ) (code later_code : ℕ) (a b c d e f : List Piece)
+    → piece_bytes q ≡ front_of t → piece_bytes l ≡ linking_section t → code_name ≡ codes "reloc.CODE" → data_name ≡ codes "reloc.DATA" → code ≡ code_at t → later_code ≡ data_at t
+    → a ≡ q ∷ []
+    → pieces_bytes b ≡ pieces_bytes a ++ parts_section 10 Body t.bodies.now
+    → pieces_bytes c ≡ pieces_bytes b ++ parts_section 11 Segment t.segments.now
+    → d ≡ c ++ l ∷ []
+    → pieces_bytes e ≡ pieces_bytes d ++ reloc_section code_name code (relocs_in Body t.bodies.now)
+    → pieces_bytes f ≡ pieces_bytes e ++ reloc_section data_name later_code (relocs_in Segment t.segments.now)
+    → pieces_bytes f ≡ written t
+all_bytes t q l code_name data_name code later_code a b c d e f front linking named named_too place place_too first bodies segments fourth relocs relocs_too =
+    let at_front : pieces_bytes a ≡ front_of t = ap pieces_bytes first ∙ (nil_behind (piece_bytes q) ∙ front) in
+    let at_bodies = bodies ∙ ap (λ zs. zs ++ parts_section 10 Body t.bodies.now) at_front in
+    let at_segments = segments ∙ ap (λ zs. zs ++ parts_section 11 Segment t.segments.now) at_bodies in
+    let at_linking = ap pieces_bytes fourth ∙ (one_bytes c l ∙ (λ i. at_segments i ++ linking i)) in
+    let at_relocs = relocs ∙ (λ i. at_linking i ++ reloc_section (named i) (place i) (relocs_in Body t.bodies.now)) in
+    relocs_too ∙ (λ i. at_relocs i ++ reloc_section (named_too i) (place_too i) (relocs_in Segment t.segments.now))
 
 -- ---- relocations of one part more
 

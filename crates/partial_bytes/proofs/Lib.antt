@@ -3,4 +3,5 @@ pub mod Placed
 pub mod Runs
 pub mod Bridge
 pub mod Windowed
+pub mod Adding
 pub mod Laid

@@ -1,5 +1,5 @@
 -- Where pieces begin, and that they are written one behind another.
-use Rattle.std.proofs.Common.{◌≡◌, ℕ, zero, suc, ◌+◌, ◌-◌, subst, ◌<◌, ◌≤◌, List, [], ◌∷◌, ◌++◌, length, map, take, drop, get_or, slice_index_or, flat_map, sum_by, true, refl, sym, ap, ◌∙◌, arith, append_assoc, length-append}
+use Rattle.std.proofs.Common.{◌≡◌, ℕ, zero, suc, ◌+◌, ◌-◌, ◌^◌, subst, ◌<◌, ◌≤◌, List, [], ◌∷◌, ◌++◌, length, map, take, drop, get_or, slice_index_or, flat_map, sum_by, true, refl, sym, ap, ◌∙◌, arith, append_assoc, length-append}
 use Rattle.std.specs.List.{list_all}
 use Rattle.std.specs.Prelude.{slice_range, ◌&&◌}
 use Rattle.std.proofs.lemmas.Bool.{and_parts}
@@ -81,8 +81,8 @@ module _ (qs : List Piece) (i : ℕ) (d : Piece) (lt : i < length qs) where
 
   pub pieces_more : d ≡ get_or qs i d → (out new whole : List ℕ) (at end : ℕ)
       → IsPut out at (piece_bytes d) end new
-      → (at + pieces_len (drop i qs) ≡ length out) × (take at out ++ pieces_bytes (drop i qs) ≡ whole) × Fit (drop i qs) × (length out < 2147483648)
-      → (end + pieces_len (drop (i + 1) qs) ≡ length new) × (take end new ++ pieces_bytes (drop (i + 1) qs) ≡ whole) × Fit (drop (i + 1) qs) × (length new < 2147483648)
+      → (at + pieces_len (drop i qs) ≡ length out) × (take at out ++ pieces_bytes (drop i qs) ≡ whole) × Fit (drop i qs) × (length out < 2 ^ 31)
+      → (end + pieces_len (drop (i + 1) qs) ≡ length new) × (take end new ++ pieces_bytes (drop (i + 1) qs) ≡ whole) × Fit (drop (i + 1) qs) × (length new < 2 ^ 31)
   pieces_more same out new whole at end is_put so_far =
       let put : IsPut out at (piece_bytes (get_or qs i d)) end new = subst (λ (q : Piece). IsPut out at (piece_bytes q) end new) same is_put in
       let fit = piece_fits so_far.2 in

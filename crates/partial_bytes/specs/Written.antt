@@ -1,12 +1,12 @@
 -- The bytes of the object by what plain data say: each word here is the definition's, of the object that they stand for.
 use Rattle.std.specs.Prelude.{◌≡◌, ℕ, ◌+◌, nat_le, Bool, List, [], ◌∷◌, ◌++◌, map, length, flat_map, sum_by, codes}
 use Rattle.std.specs.List.{list_all}
-use Rattle.leb_codec.specs.Shortest.{u32, s32}
+use Rattle.leb_codec.specs.Shortest.{u32}
 use Rattle.reloc_section.specs.declared.entry.Reloc.{Reloc}
 use Rattle.reloc_apply.specs.Apart.{size_of}
 use Rattle.link_rules.specs.Values.{form_of}
 use Rattle.image_emit.specs.Bytes.{header, section, sized, vector, func_type, import_entry, export}
-use Rattle.partial_rules.specs.Relocatable.{init, subsection, reloc, later, body_head, segment_head, custom, reloc_section, present}
+use Rattle.partial_rules.specs.Relocatable.{init, subsection, reloc, later, custom, reloc_section, present}
 use Rattle.partial_bytes.specs.declared.tree.Part.{Part}
 use Rattle.partial_bytes.specs.declared.tree.Tree.{Tree}
 use Rattle.partial_bytes.specs.declared.part.PartKind.{PartKind}
@@ -16,22 +16,21 @@ use Rattle.partial_bytes.specs.Items.{global_row, info_row, symbol_row, group_ro
 
 -- ---- the parts
 
+-- What stands before a part's size: nothing, or the flag 0 and the offset 0.
+abbrev pub lead : PartKind → List ℕ
+lead Body = []
+lead Segment = 0 ∷ 0x41 ∷ 0 ∷ 0x0B ∷ []
+
 -- What leads to a part.
 abbrev pub head_of : PartKind → List ℕ → List ℕ
-head_of Body = body_head
-head_of Segment = segment_head
-
--- How many bytes of that stand before the part's size.
-abbrev pub lead_of : PartKind → ℕ
-lead_of Body = 0
-lead_of Segment = 4
+head_of kind bytes = lead kind ++ u32 (length bytes)
 
 abbrev pub part_spelled : PartKind → Part → List ℕ
 part_spelled kind p = head_of kind p.bytes.now ++ emptied p.relocs.now p.bytes.now
 
 -- How long what leads to a part is, and the part with it.
 abbrev pub head_len : PartKind → Part → ℕ
-head_len kind p = lead_of kind + length (u32 (length p.bytes.now))
+head_len kind p = length (lead kind) + length (u32 (length p.bytes.now))
 
 abbrev pub part_len : PartKind → Part → ℕ
 part_len kind p = head_len kind p + length p.bytes.now

@@ -95,7 +95,10 @@ impl Item for GroupRow<'_> {
     ghost some = { group_some };
 
     fn size(&self) -> u64 {
-        plus(plus(sized_size(self.name), 1), vector_size(self.members))
+        plus(
+            plus(sized_size(self.name), u32_size(0)),
+            vector_size(self.members),
+        )
     }
 
     fn put(&self, at: usize, out: &mut [u8]) -> usize {

@@ -4,10 +4,10 @@ ghost use Rattle.std.specs.List.{list_all};
 ghost use Rattle.partial_rules.specs.Relocatable.{reloc_section};
 ghost use Rattle.partial_bytes.specs.declared.part.PartKind.TheVariants as kinds;
 ghost use Rattle.partial_bytes.specs.Pieces.{pieces_bytes, part_pieces, reloc_pieces, Fit};
-ghost use Rattle.partial_bytes.specs.Measured.{IsSized, AreSized};
+ghost use Rattle.partial_bytes.specs.Measured.{IsSized};
 ghost use Rattle.partial_bytes.specs.Written.{payload_len, parts_section, relocs_in, part_fits, written};
 
-use crate::measure::{Measured, SectionSize, reloc_payload};
+use crate::measuring::{Measured, SectionSize, reloc_payload};
 use crate::part::{PartKind, head_size};
 use crate::pieces::Piece;
 use crate::sections::{code_at, present};

@@ -1,6 +1,6 @@
 //! The bytes of the object that a partial link makes, written from plain data.
 //!
-//! Nothing of files is copied but into the object. First the object is measured (`measure`), so that
+//! Nothing of files is copied but into the object. First the object is measured (`measuring`), so that
 //! the caller can refuse one that is too long. Then it is laid out as pieces that stand one behind
 //! another (`pieces`, `laying`): a body or a segment is one (`part`), and so are the relocations of
 //! each (`entries`), all before the code section and the section `linking` (`sections`, with what
@@ -14,7 +14,7 @@ mod item;
 mod items;
 mod laws;
 mod laying;
-mod measure;
+mod measuring;
 mod part;
 mod pieces;
 mod sections;
@@ -25,7 +25,7 @@ mod tree;
 mod writing;
 
 pub use laws::parts_are_windowed;
-pub use measure::{Measured, SectionSize, measure};
+pub use measuring::{Measured, SectionSize, measure};
 pub use spans::bytes_in;
 pub use tree::{GlobalRow, GroupRow, InfoRow, Part, SymbolRow, Tree};
 pub use writing::written;

@@ -6,7 +6,7 @@ ghost use Rattle.reloc_apply.specs.Windows.{over, spelled};
 ghost use Rattle.reloc_apply.specs.Apart.{size_of};
 ghost use Rattle.link_rules.specs.Values.{form_of};
 ghost use Rattle.partial_bytes.specs.Told.{emptied};
-ghost use Rattle.partial_bytes.specs.Written.{head_of, lead_of, head_len, part_len, part_spelled, window_fits, part_fits};
+ghost use Rattle.partial_bytes.specs.Written.{head_of, lead, head_len, part_len, part_spelled, window_fits, part_fits};
 
 use crate::tree::Part;
 use image_emit::put::{put_bytes, put_number, u32_size};
@@ -24,13 +24,13 @@ pub enum PartKind {
 }
 
 impl PartKind {
-    /// How many bytes stand before a part's size.
-    fn lead(self) -> u64
-        ensures { result ≡ lead_of self }
+    /// What stands before a part's size.
+    fn lead<'a>(self) -> &'a [u8]
+        ensures { result.now ≡ lead self }
     {
         match self {
-            PartKind::Body => 0,
-            PartKind::Segment => 4,
+            PartKind::Body => &[],
+            PartKind::Segment => b"\0\x41\0\x0b".as_slice(),
         }
     }
 }
@@ -40,7 +40,7 @@ pub fn head_size(kind: PartKind, part: &Part<'_>) -> u64
     ensures size { result ≡ head_len kind part.now }
     ensures few { result ≤ 9 }
 {
-    kind.lead() + u32_size(part.bytes.len() as u64)
+    kind.lead().len() as u64 + u32_size(part.bytes.len() as u64)
 }
 
 /// How the number in a window of a relocation of this type is spelled.
@@ -93,17 +93,12 @@ fn put_emptied(part: &Part<'_>, out: &mut [u8])
 }
 
 fn put_head(kind: PartKind, part: &Part<'_>, at: usize, out: &mut [u8]) -> usize
-    requires { HasRoom out.old at (head_of kind part.now.bytes.now) }
+    requires room { HasRoom out.old at (head_of kind part.now.bytes.now) }
+    requires short { length part.now.bytes.now < 2 ^ 31 }
     ensures { IsPut out.old at (head_of kind part.now.bytes.now) result out.new }
 {
-    let len = part.bytes.len() as u32;
-    match kind {
-        PartKind::Body => put_number(len, at, out),
-        PartKind::Segment => {
-            let at = put_bytes(b"\0\x41\0\x0b".as_slice(), at, out);
-            put_number(len, at, out)
-        }
-    }
+    let at = put_bytes(kind.lead(), at, out);
+    put_number(part.bytes.len() as u32, at, out)
 }
 
 /// Writes a part behind what leads to it.

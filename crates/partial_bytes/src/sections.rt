@@ -9,7 +9,7 @@ ghost use Rattle.partial_bytes.specs.Written.{front_of, linking_of, linking_sect
 use crate::item::{put_section, put_vector, section_size, vector_size};
 use crate::tree::{SymbolRow, Tree};
 use image_emit::fronts::put_section as put_known;
-use image_emit::put::{plus, put_byte, put_bytes, put_number, put_sized, u32_size};
+use image_emit::put::{plus, put_byte, put_bytes, put_number, put_sized, sized_size, u32_size};
 use image_emit::sizes::section_size as known_size;
 
 /// The length of all before the code section.
@@ -57,7 +57,7 @@ fn put_symbols(symbols: &[SymbolRow<'_>], at: usize, out: &mut [u8]) -> usize
 fn content_size(tree: &Tree<'_>) -> u64
     ensures { result ≡ capped (length (linking_of tree.now)) }
 {
-    let size = plus(1, symbols_size(tree.symbols));
+    let size = plus(u32_size(2), symbols_size(tree.symbols));
     let size = plus(size, section_size(tree.infos));
     let size = plus(size, section_size(tree.inits));
     plus(size, section_size(tree.groups))
@@ -78,7 +78,7 @@ fn put_content(tree: &Tree<'_>, at: usize, out: &mut [u8]) -> usize
 fn payload_size(tree: &Tree<'_>) -> u64
     ensures { result ≡ capped (length (sized (codes "linking") ++ linking_of tree.now)) }
 {
-    plus(8, content_size(tree))
+    plus(sized_size(b"linking".as_slice()), content_size(tree))
 }
 
 /// The length of the section `linking`.

@@ -7,7 +7,7 @@ ghost use Rattle.partial_bytes.specs.Told.{TreeFits, tree_told};
 
 use crate::division::write;
 use crate::laying::pieces_of;
-use crate::measure::Measured;
+use crate::measuring::Measured;
 use crate::pieces::{Piece, starts_of};
 use crate::tree::Tree;
 use std::alloc::Global;

@@ -122,7 +122,6 @@ fn relocs_len(
 ///
 /// It asks that the windows of relocations lie in their parts. It takes no memory: `OutOfMemory` is
 /// the answer where 64 bits don't hold the length.
-#[tactic(auto, using(crate::proofs::Bridge::told_written))]
 pub fn measure(tree: &Tree<'_>) -> Result<Measured, OutOfMemory>
     requires { TreeFits tree.now }
     ensures { IfOk result (IsMeasured tree.now) }
