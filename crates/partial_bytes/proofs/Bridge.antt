@@ -1,22 +1,19 @@
 -- What plain data say is what the definition says of the object that they stand for.
-use Rattle.std.proofs.Common.{◌≡◌, ℕ, zero, suc, ◌+◌, ◌<◌, ◌==◌, Bool, true, false, List, [], ◌∷◌, ◌++◌, length, map, refl, sym, ap, ◌∙◌, arith, rules, append_assoc, length-append}
-use Rattle.std.specs.Prelude.{if◌then◌else◌, codes, All}
+use Rattle.std.proofs.Common.{◌≡◌, ℕ, suc, ◌+◌, ◌<◌, ◌==◌, true, false, List, [], ◌∷◌, ◌++◌, length, map, refl, sym, ap, ◌∙◌, arith, rules, append_assoc, length-append}
+use Rattle.std.specs.Prelude.{if◌then◌else◌, codes}
 use Rattle.std.specs.List.{flat_map, list_all}
 use Rattle.std.proofs.lemmas.List.{length-map}
-use Rattle.std.proofs.lemmas.Grind.{flat_map-append}
 use Rattle.leb_codec.specs.Shortest.{u32, s32}
 use Rattle.reloc_section.specs.declared.entry.Reloc.{Reloc}
-use Rattle.reloc_apply.specs.declared.window.Patch.{Patch}
-use Rattle.reloc_apply.specs.Windows.{filled}
 use Rattle.image_emit.specs.Bytes.{header, section, sized, vector, func_type, import_entry, export}
-use Rattle.partial_rules.specs.Relocatable.{Windowed, Relocatable, init, subsection, reloc, later, body_head, segment_head, relocs_from, section_relocs, custom, reloc_section, body, segment, spelled_global, segment_info, symbol, group, present, linking, relocatable_bytes}
+use Rattle.partial_rules.specs.Relocatable.{Windowed, init, subsection, later, body_head, segment_head, relocs_from, section_relocs, custom, reloc_section, spelled_global, segment_info, symbol, group, present, linking, relocatable_bytes}
 use Rattle.partial_bytes.specs.declared.tree.Part.{Part}
 use Rattle.partial_bytes.specs.declared.tree.Tree.{Tree}
 use Rattle.partial_bytes.specs.declared.part.PartKind.{PartKind}
 use Rattle.partial_bytes.specs.declared.part.PartKind.TheVariants.{Body, Segment}
-use Rattle.partial_bytes.specs.Told.{emptied, part_told, global_told, info_told, symbol_told, group_told, tree_told, PartFits, TreeFits}
-use Rattle.partial_bytes.specs.Items.{global_row, info_row, symbol_row, group_row}
-use Rattle.partial_bytes.specs.Written.{lead, head_of, head_len, part_len, parts_len, payload_len, part_spelled, parts_section, relocs_at, relocs_in, entries, front_of, linking_of, linking_section, code_at, data_at, written, part_fits}
+use Rattle.partial_bytes.specs.Told.{emptied, part_told, global_told, info_told, symbol_told, group_told, tree_told, TreeFits}
+use Rattle.partial_bytes.specs.Items.{symbol_row}
+use Rattle.partial_bytes.specs.Written.{lead, head_of, head_len, part_len, parts_len, payload_len, part_spelled, parts_section, relocs_at, relocs_in, front_of, linking_of, linking_section, code_at, data_at, written, part_fits}
 use Rattle.partial_bytes.proofs.Fitting.{emptied_long, head_long, part_long, parts_judged}
 use Rattle.std.proofs.lemmas.Bool.{and_parts}
 use Rattle.std.proofs.lemmas.List.Sums.{sum_by-drop_more}

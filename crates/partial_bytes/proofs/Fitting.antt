@@ -1,20 +1,20 @@
 -- Windows that lie in a part: emptying them leaves it as long, and their relocations have places in its section.
-use Rattle.std.proofs.Common.{◌≡◌, ℕ, zero, suc, take, get_or, ◌+◌, ◌<◌, ◌≤◌, ◌^◌, nat_le, nat_lt, Bool, true, false, List, [], ◌∷◌, ◌++◌, length, map, refl, sym, ap, ◌∙◌, arith, rules, length-append}
+use Rattle.std.proofs.Common.{◌≡◌, ℕ, zero, suc, take, get_or, ◌+◌, ◌<◌, ◌≤◌, ◌^◌, nat_le, nat_lt, true, List, [], ◌∷◌, length, map, refl, ap, ◌∙◌, arith, rules, length-append}
 use Rattle.std.specs.Prelude.{All, ◌&&◌}
 use Rattle.std.specs.List.{AllByRecursion, list_all, flat_map}
 use Rattle.std.proofs.lemmas.Bool.{and_parts, leb-true}
 use Rattle.std.proofs.lemmas.List.Elements.{All-from_recursion, recursion_from_All}
 use Rattle.leb_codec.specs.Shortest.{u32}
 use Rattle.reloc_section.specs.declared.entry.Reloc.{Reloc}
-use Rattle.reloc_apply.specs.declared.window.Patch.{Patch}
 use Rattle.reloc_apply.specs.Apart.{LiesIn, size_of}
 use Rattle.reloc_apply.proofs.Over.{long_all}
 use Rattle.link_rules.specs.Values.{form_of}
 use Rattle.partial_bytes.specs.declared.tree.Part.{Part}
+use Rattle.partial_bytes.specs.declared.tree.Tree.{Tree}
 use Rattle.partial_bytes.specs.declared.part.PartKind.{PartKind}
-use Rattle.partial_bytes.specs.Told.{empty_of, emptied, PartFits}
+use Rattle.partial_bytes.specs.Told.{empty_of, emptied, PartFits, TreeFits}
 use Rattle.partial_bytes.specs.Pieces.{entry_fits}
-use Rattle.partial_bytes.specs.Written.{head_of, lead, head_len, part_len, part_spelled, window_fits, part_fits}
+use Rattle.partial_bytes.specs.Written.{head_of, lead, part_len, part_spelled, window_fits, part_fits}
 
 -- ---- windows in so many bytes, judged and known
 
@@ -75,3 +75,19 @@ item_room f [] i d lt = absurd (omega (arith, lt))
 item_room f (x ∷ xs) zero d lt = omega (arith, length-append (f x) (flat_map f xs))
 item_room f (x ∷ xs) (suc i) d lt =
     omega (arith, item_room f xs i d (omega (arith, lt)), length-append (f x) (flat_map f xs), length-append (f x) (flat_map f (take i xs)))
+
+-- ---- all parts
+
+parts_known : (ps : List Part) → list_all part_fits ps ≡ true → All PartFits ps
+parts_known ps h = All-from_recursion PartFits ps (by ps h)
+  where
+    by : (ps : List Part) → list_all part_fits ps ≡ true → AllByRecursion PartFits ps
+    by [] h = tt
+    by (p ∷ ps) h =
+        let q = and_parts (part_fits p) (list_all part_fits ps) h in
+        (All-from_recursion (LiesIn (length p.bytes.now)) (map empty_of p.relocs.now) (all_of (length p.bytes.now) p.relocs.now q.0), by ps q.1)
+
+pub tree_known : (t : Tree) → (list_all part_fits t.bodies.now && list_all part_fits t.segments.now) ≡ true → TreeFits t
+tree_known t h =
+    let p = and_parts (list_all part_fits t.bodies.now) (list_all part_fits t.segments.now) h in
+    record { bodies = parts_known t.bodies.now p.0; segments = parts_known t.segments.now p.1 }

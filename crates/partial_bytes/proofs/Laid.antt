@@ -1,5 +1,5 @@
 -- Which pieces there are: their bytes, and that they fit.
-use Rattle.std.proofs.Common.{◌≡◌, ℕ, suc, ◌+◌, ◌<◌, ◌≤◌, ◌^◌, Bool, true, List, [], ◌∷◌, ◌++◌, length, map, drop, get_or, refl, sym, ap, ◌∙◌, subst, arith, rules, append_assoc, length-append}
+use Rattle.std.proofs.Common.{◌≡◌, ℕ, ◌+◌, ◌<◌, ◌^◌, true, List, [], ◌∷◌, ◌++◌, length, map, drop, get_or, refl, sym, ap, ◌∙◌, subst, arith, append_assoc, length-append}
 use Rattle.std.specs.Prelude.{◌&&◌, codes}
 use Rattle.std.specs.List.{flat_map, list_all}
 use Rattle.std.proofs.lemmas.Bool.{and_parts}
@@ -8,16 +8,16 @@ use Rattle.std.proofs.lemmas.Grind.{flat_map-append}
 use Rattle.leb_codec.specs.Shortest.{u32}
 use Rattle.reloc_section.specs.declared.entry.Reloc.{Reloc}
 use Rattle.image_emit.specs.Bytes.{sized, vector}
-use Rattle.partial_rules.specs.Relocatable.{reloc, later, custom, reloc_section}
+use Rattle.partial_rules.specs.Relocatable.{reloc, later, reloc_section}
 use Rattle.partial_bytes.specs.declared.tree.Part.{Part as Lent}
 use Rattle.partial_bytes.specs.declared.tree.Tree.{Tree}
 use Rattle.partial_bytes.specs.declared.part.PartKind.{PartKind}
 use Rattle.partial_bytes.specs.declared.part.PartKind.TheVariants.{Body, Segment}
 use Rattle.partial_bytes.specs.declared.pieces.Piece.{Piece}
-use Rattle.partial_bytes.specs.declared.pieces.Piece.TheVariants.{Front, Head, Part, Linking, RelocHead, Relocs}
-use Rattle.partial_bytes.specs.Pieces.{reloc_head, head_bytes, piece_bytes, pieces_bytes, part_pieces, reloc_pieces, fits, Fit, entry_fits}
-use Rattle.partial_bytes.specs.Written.{head_len, part_len, parts_len, payload_len, part_spelled, parts_section, relocs_at, relocs_in, entries, part_fits, front_of, linking_section, code_at, data_at, written}
-use Rattle.partial_bytes.proofs.Bridge.{flat_told, some}
+use Rattle.partial_bytes.specs.declared.pieces.Piece.TheVariants.{Head, Part, Relocs}
+use Rattle.partial_bytes.specs.Pieces.{reloc_head, piece_bytes, pieces_bytes, part_pieces, reloc_pieces, fits, Fit}
+use Rattle.partial_bytes.specs.Written.{head_len, payload_len, part_spelled, parts_section, relocs_at, relocs_in, part_fits, front_of, linking_section, code_at, data_at, written}
+use Rattle.partial_bytes.proofs.Bridge.{flat_told}
 use Rattle.partial_bytes.proofs.Fitting.{entries_fit}
 
 -- ---- bytes of lists of pieces

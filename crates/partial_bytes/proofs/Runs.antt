@@ -1,5 +1,5 @@
 -- The runs of pieces are the whole.
-use Rattle.std.proofs.Common.{◌≡◌, ℕ, zero, suc, ◌+◌, ◌-◌, ◌<◌, ◌≤◌, List, [], ◌∷◌, ◌++◌, length, map, take, drop, flat_map, slice_get, Option, Some, None, ◌*◌, ◌/◌, refl, sym, ap, ◌∙◌, subst, arith}
+use Rattle.std.proofs.Common.{◌≡◌, ℕ, zero, suc, ◌+◌, ◌-◌, ◌<◌, ◌≤◌, List, [], ◌∷◌, ◌++◌, length, take, drop, slice_get, Some, None, ◌*◌, ◌/◌, refl, sym, ap, ◌∙◌, subst, arith}
 use Rattle.std.specs.Prelude.{slice_range}
 use Rattle.std.proofs.Math.Seq.{take-length}
 use Rattle.std.proofs.lemmas.List.{drop-drop}
@@ -7,11 +7,11 @@ use Rattle.std.proofs.lemmas.Grind.{flat_map-append}
 use Rattle.wl_fan.specs.Slices.{Works}
 use Rattle.wl_fan.proofs.Whole.{whole}
 use Rattle.partial_bytes.specs.declared.pieces.Piece.{Piece}
-use Rattle.partial_bytes.specs.Pieces.{piece_bytes, piece_len, pieces_bytes, pieces_len, starts_from, run_first, run_start, run_pieces}
+use Rattle.partial_bytes.specs.Pieces.{piece_bytes, pieces_bytes, pieces_len, starts_from, run_first, run_start, run_pieces}
 use Rattle.std.proofs.Math.Nat.{div-mul-le_self, mul-le-mul_left}
 use Rattle.std.proofs.lemmas.Option.{get_or_from_slice_get}
 use Rattle.image_emit.specs.Parts.{below}
-use Rattle.partial_bytes.specs.PieceLaws.{first_rises, first_zero, first_most, inner, outer, starts_rise}
+use Rattle.partial_bytes.specs.PieceLaws.{first_rises, first_zero, inner, outer, starts_rise}
 use Rattle.partial_bytes.proofs.Placed.{starts_count, starts_at, start_behind}
 
 no_more : (k : ℕ) → [] ≡ take {A = Piece} k []

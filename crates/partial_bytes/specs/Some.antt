@@ -1,8 +1,8 @@
 -- No small record is spelled by no byte.
-use Rattle.std.proofs.Common.{◌<◌, ◌+◌, ◌++◌, ℕ, List, length, arith, length-append}
+use Rattle.std.proofs.Common.{◌<◌, ◌++◌, ℕ, List, length, arith, length-append}
 use Rattle.image_emit.specs.Bytes.{sized}
 use Rattle.leb_codec.specs.Shortest.{u32}
-use Rattle.image_emit.specs.Some.{u32_some, global_type_some}
+use Rattle.image_emit.specs.Some.{u32_some}
 use Rattle.linking_section.specs.declared.init.InitFunc.{InitFunc}
 use Rattle.linking_section.specs.declared.group.Member.{Member}
 use Rattle.partial_rules.specs.Relocatable.{init, member}

@@ -1,12 +1,12 @@
 -- The bytes of the object by what plain data say: each word here is the definition's, of the object that they stand for.
-use Rattle.std.specs.Prelude.{◌≡◌, ℕ, ◌+◌, nat_le, Bool, List, [], ◌∷◌, ◌++◌, map, length, flat_map, sum_by, codes}
+use Rattle.std.specs.Prelude.{ℕ, ◌+◌, nat_le, Bool, List, [], ◌∷◌, ◌++◌, map, length, flat_map, sum_by, codes}
 use Rattle.std.specs.List.{list_all}
 use Rattle.leb_codec.specs.Shortest.{u32}
 use Rattle.reloc_section.specs.declared.entry.Reloc.{Reloc}
 use Rattle.reloc_apply.specs.Apart.{size_of}
 use Rattle.link_rules.specs.Values.{form_of}
 use Rattle.image_emit.specs.Bytes.{header, section, sized, vector, func_type, import_entry, export}
-use Rattle.partial_rules.specs.Relocatable.{init, subsection, reloc, later, custom, reloc_section, present}
+use Rattle.partial_rules.specs.Relocatable.{init, reloc, later, custom, reloc_section, present}
 use Rattle.partial_bytes.specs.declared.tree.Part.{Part}
 use Rattle.partial_bytes.specs.declared.tree.Tree.{Tree}
 use Rattle.partial_bytes.specs.declared.part.PartKind.{PartKind}

@@ -22,10 +22,12 @@ mod spans;
 mod sums;
 mod symbols;
 mod tree;
+mod within;
 mod writing;
 
 pub use laws::parts_are_windowed;
 pub use measuring::{Measured, SectionSize, measure};
 pub use spans::bytes_in;
 pub use tree::{GlobalRow, GroupRow, InfoRow, Part, SymbolRow, Tree};
+pub use within::lie_in;
 pub use writing::written;

@@ -44,7 +44,7 @@ pub fn head_size(kind: PartKind, part: &Part<'_>) -> u64
 }
 
 /// How the number in a window of a relocation of this type is spelled.
-fn form_of(kind: u8) -> Form
+pub fn form_of(kind: u8) -> Form
     ensures { result ≡ form_of kind }
 {
     match kind {

@@ -1,4 +1,4 @@
-use Rattle.std.proofs.Common.{◌≡◌, length, take, drop, true}
+use Rattle.std.proofs.Common.{◌≡◌, take, drop, true}
 use Rattle.std.specs.List.{list_all}
 use Rattle.image_emit.specs.Put.{IsPut}
 use Rattle.partial_bytes.specs.Pieces.{entry_fits}

@@ -1,4 +1,4 @@
-use Rattle.std.proofs.Common.{◌≡◌, ◌++◌, ◌∷◌, [], ◌∙◌, refl, sym, ap, subst, arith}
+use Rattle.std.proofs.Common.{◌++◌, ◌∷◌, [], ◌∙◌, refl, sym, ap, subst, arith}
 use Rattle.partial_bytes.specs.Pieces.{Fit}
 use Rattle.partial_bytes.specs.declared.pieces.Piece.TheVariants.{Front, Linking}
 use Rattle.partial_bytes.proofs.Laid.{one_fit, all_bytes}

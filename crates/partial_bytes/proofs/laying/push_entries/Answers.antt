@@ -1,5 +1,4 @@
-use Rattle.std.proofs.Common.{◌≡◌, ◌<◌, ◌+◌, ◌^◌, ◌∙◌, length, get_or, ap, sym, arith}
-use Rattle.partial_bytes.specs.declared.tree.Part.{Part}
+use Rattle.std.proofs.Common.{◌<◌, ◌+◌, ◌^◌, ◌∙◌, ap, arith}
 use Rattle.partial_bytes.proofs.Laid.{entries_more, entries_fit_more}
 use Rattle.partial_bytes.proofs.laying.push_entries.Goals as goal
 

@@ -1,4 +1,4 @@
-use Rattle.std.proofs.Common.{◌≡◌, ◌<◌, ◌∙◌, ap, length, arith, rules}
+use Rattle.std.proofs.Common.{◌<◌, ◌∙◌, ap, length, arith, rules}
 use Rattle.partial_bytes.specs.Pieces.{pieces_bytes}
 use Rattle.partial_bytes.specs.Written.{relocs_in}
 use Rattle.partial_bytes.proofs.Laid.{one_bytes, payload_long, relocs_laid}

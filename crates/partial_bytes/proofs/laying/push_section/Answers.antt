@@ -1,4 +1,4 @@
-use Rattle.std.proofs.Common.{rules, ◌∙◌, sym, ap}
+use Rattle.std.proofs.Common.{rules, ◌∙◌}
 use Rattle.partial_bytes.proofs.Laid.{section_laid, section_fit}
 use Rattle.partial_bytes.proofs.laying.push_section.Goals as goal
 

@@ -1,7 +1,6 @@
-use Rattle.std.proofs.Common.{◌≡◌, ◌<◌, ◌≤◌, sym, subst, ◌∙◌, rules, arith}
+use Rattle.std.proofs.Common.{sym, subst}
 use Rattle.image_emit.specs.Parts.{Rising}
 use Rattle.partial_bytes.proofs.Placed.{starts_rising}
-use Rattle.partial_bytes.proofs.Runs.{first_high, first_low, share_most}
 use Rattle.partial_bytes.proofs.division.Division.first.Goals as goal
 
 pub below-requires : goal.below-requires

@@ -1,4 +1,4 @@
-use Rattle.std.proofs.Common.{◌≡◌, length, slice_get, Some, None, refl}
+use Rattle.std.proofs.Common.{◌≡◌, length, slice_get, Some, refl}
 use Rattle.std.proofs.lemmas.Option.{slice_get_read, slice_get_past}
 use Rattle.partial_bytes.proofs.Runs.{start_is, start_none}
 use Rattle.partial_bytes.proofs.division.Division.start.Goals as goal

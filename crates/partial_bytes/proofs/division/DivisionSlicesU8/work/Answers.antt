@@ -1,4 +1,4 @@
-use Rattle.std.proofs.Common.{◌≡◌, ◌≤◌, ◌+◌, ◌-◌, take, ap, sym, subst, arith, ◌∙◌}
+use Rattle.std.proofs.Common.{◌≤◌, ◌+◌, ◌-◌, take, ap, sym, subst, arith, ◌∙◌}
 use Rattle.std.specs.Prelude.{slice_range}
 use Rattle.partial_bytes.specs.Pieces.{starts_from, run_first, pieces_len, pieces_bytes, Fit}
 use Rattle.partial_bytes.specs.PieceLaws.{first_rises, first_most}
