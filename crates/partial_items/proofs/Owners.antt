@@ -104,7 +104,6 @@ module _ (p : Program) (es : List InputSymbol) (allow : Bool) (all : List Candid
 
   of_all : InputsRise 0 p.objects → All (Owned p.objects) (parts_of Plain all p.objects (resolve Plain allow es p.objects))
   unfolding parts_of resolve
-
   of_all rise =
       All-append (Owned p.objects) (made_parts_from (init_calls (map resolved p.objects)) 0 (made Plain)) (flat_map (parts_in all p.objects) (map resolved p.objects))
       (all_made p.objects (init_calls (map resolved p.objects)) 0 (made Plain))
