@@ -1,5 +1,5 @@
 pub mod Among
-pub mod Places
+pub mod Sought
 pub mod Owners
 pub mod Listed
 pub mod Contents

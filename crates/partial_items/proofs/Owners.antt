@@ -22,7 +22,7 @@ use Rattle.link_program.specs.link_rules.Program.{Program, Part, Ref, Content, f
 use Rattle.link_program.specs.declared.program.Program.{Program as Data}
 use Rattle.link_program.specs.Program.{IsProgramOf}
 use Rattle.partial_items.specs.Owned.{object_at, content_in, content_of}
-use Rattle.partial_items.proofs.Places.{found_itself}
+use Rattle.partial_items.proofs.Sought.{found_itself}
 
 -- ---- where the object of an input stands
 

@@ -1,6 +1,6 @@
 use Rattle.std.proofs.Common.{rules, Ok, Err, sym}
 use Rattle.std.proofs.lemmas.List.Sorted.{answers_always}
-use Rattle.partial_items.proofs.Places.{found}
+use Rattle.partial_items.proofs.Sought.{found}
 use Rattle.partial_items.proofs.owned.search.Goals as goal
 
 pub returns-in-Ok : goal.returns-in-Ok
