@@ -23,5 +23,5 @@ pub places_of : (plan : Plan) (files : List (List ℕ)) (answer : Result (List �
     → AnswersPlain plan answer → Answers answer (linked plan files) → plan.keep_debug ≡ true → IfOk answer (SaysPlaces plan files)
 places_of plan files (Ok whole) law long plain is kept =
     let p = linked_parts plan files whole is in
-    (p.0, p.1, law plan files p.0 whole long kept p.1 p.2)
+    (p.0, p.1, law plan files p.0 whole long plain kept p.1 p.2)
 places_of plan files (Err e) law long plain is kept = tt
