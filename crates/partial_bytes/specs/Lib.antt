@@ -1,0 +1,7 @@
+pub mod Items
+pub mod Measured
+pub mod PieceLaws
+pub mod Pieces
+pub mod Some
+pub mod Told
+pub mod Written

@@ -1,0 +1,69 @@
+//! The object as plain data: all lists are lent, and so are names and the bytes of files.
+
+use linking_section::{InitFunc, Member, SymbolKind};
+use reloc_section::Reloc;
+use wasm_module::Export;
+use wasm_types::{ConstExpr, FuncType, GlobalType, Import};
+
+/// A body or a data segment.
+#[derive(Clone, Copy)]
+pub struct Part<'a> {
+    /// Its bytes, as they stand in a file.
+    pub bytes: &'a [u8],
+    /// Its relocations, by their places in it. Their windows are emptied where it is written.
+    pub relocs: &'a [Reloc],
+}
+
+/// A defined global.
+#[derive(Clone, Copy)]
+pub struct GlobalRow<'a> {
+    pub kind: GlobalType,
+    /// The first value.
+    pub value: ConstExpr,
+    /// The bytes that spell it in its own object.
+    pub bytes: &'a [u8],
+}
+
+/// What is said of a data segment.
+#[derive(Clone, Copy)]
+pub struct InfoRow<'a> {
+    pub name: &'a [u8],
+    pub align: u32,
+    pub flags: u32,
+}
+
+/// A symbol.
+#[derive(Clone, Copy)]
+pub struct SymbolRow<'a> {
+    pub kind: SymbolKind,
+    pub flags: u32,
+    pub name: Option<&'a [u8]>,
+    pub index: u32,
+    pub offset: u32,
+    pub size: u32,
+}
+
+/// A group.
+#[derive(Clone, Copy)]
+pub struct GroupRow<'a> {
+    pub name: &'a [u8],
+    pub members: &'a [Member],
+}
+
+/// The object. `tree_told` says which it is.
+#[derive(Clone, Copy)]
+pub struct Tree<'a> {
+    pub types: &'a [FuncType],
+    pub imports: &'a [Import],
+    /// The place of each function's type.
+    pub functions: &'a [u32],
+    pub globals: &'a [GlobalRow<'a>],
+    pub exports: &'a [Export],
+    pub bodies: &'a [Part<'a>],
+    pub segments: &'a [Part<'a>],
+    /// One for each segment.
+    pub infos: &'a [InfoRow<'a>],
+    pub symbols: &'a [SymbolRow<'a>],
+    pub inits: &'a [InitFunc],
+    pub groups: &'a [GroupRow<'a>],
+}
