@@ -17,7 +17,8 @@ use Rattle.link_program.specs.name_entries.View.{entry_number}
 use Rattle.link_program.specs.link_rules.Program.{Program}
 use Rattle.link_program.specs.link_rules.Marks.{all_symbols}
 use Rattle.link_program.specs.declared.program.Program.{Program as Data}
-use Rattle.link_program.specs.Program.{IsProgram}
+use Rattle.link_program.specs.made_symbols.declared.mode.Mode.TheVariants.{Plain}
+use Rattle.link_program.specs.Program.{IsProgramOf}
 use Rattle.link_program.proofs.name_entries_lemmas.Numbers.{name_at}
 use Rattle.partial_rules.specs.Partial as partial
 use Rattle.partial_rules.specs.Partial.{is_none}
@@ -54,7 +55,7 @@ kept_all P test (x ∷ xs) all = by (test x) (kept_all P test xs all.1)
     by true rest = (all.0, rest)
     by false rest = rest
 
-module _ (d : Data) (p : Program) (is : IsProgram d p) (v : Sight) (seen : IsSight p d.names.now.names v) where
+module _ (d : Data) (p : Program) (is : IsProgramOf Plain d p) (v : Sight) (seen : IsSight p d.names.now.names v) where
   abbrev names : List (List ℕ)
   names = d.names.now.names
 

@@ -5,7 +5,8 @@ ghost use Rattle.std.specs.Option.{option_or};
 ghost use Rattle.link_program.specs.name_entries.Fits.{FitsObjects};
 ghost use Rattle.link_program.specs.link_rules.Program.{Program as Rules};
 ghost use Rattle.link_program.specs.declared.program.Program.{Program as Data};
-ghost use Rattle.link_program.specs.Program.{IsProgram};
+ghost use Rattle.link_program.specs.made_symbols.declared.mode.Mode.TheVariants.{Plain};
+ghost use Rattle.link_program.specs.Program.{IsProgramOf};
 ghost use Rattle.partial_rules.specs.Partial as partial;
 ghost use Rattle.partial_symbols.specs.Known.{symbol_there, IsSight};
 ghost use Rattle.partial_imports.specs.Opens.{open_at, open_seen, told_open, is_of, one_more, count_in};
@@ -93,7 +94,7 @@ pub fn opens_of(
     symbols: &[At],
 ) -> Result<Seq<Open>, OutOfMemory>
     requires { FitsObjects entries }
-    ensures { IfOk result (λ opens. (d : Data) (p : Rules) → IsProgram d p → d.objects.now ≡ entries.entry.objects.now → d.names.now ≡ entries.entry.names.now
+    ensures { IfOk result (λ opens. (d : Data) (p : Rules) → IsProgramOf Plain d p → d.objects.now ≡ entries.entry.objects.now → d.names.now ≡ entries.entry.names.now
         → IsSight p d.names.now.names sight.now → map (symbol_there p.objects) symbols.now ≡ map Some (partial.standing p)
         → map (open_seen p.objects) opens ≡ map (told_open p) (filter (partial.is_open p) (partial.standing p))) }
 {

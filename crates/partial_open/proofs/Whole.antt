@@ -28,7 +28,7 @@ use Rattle.link_program.specs.name_entries.declared.parts.ObjectParts.{ObjectPar
 use Rattle.link_program.specs.link_rules.Program.{Program, Part, Ref, a_symbol, named_ref, refs, ref_to, InitCall, init_call, init_calls_in, init_calls, is_skipped, by_priority, insert_call, function_part, parts_in, parts_of, is_part_kept, made_parts_from, made_kind, option_onto, linker_made, no_source, loose_parts}
 use Rattle.link_program.specs.link_rules.Marks.{refs_of}
 use Rattle.link_program.specs.declared.program.Program.{Program as Data}
-use Rattle.link_program.specs.Program.{IsProgram}
+use Rattle.link_program.specs.Program.{IsProgramOf}
 use Rattle.partial_rules.specs.Partial.{open_local}
 use Rattle.partial_open.specs.Named.{named_in, marked, flags_of}
 use Rattle.partial_open.specs.Lost.{is_lost, fault_of, first_flagged, object_fault, first_fault}
@@ -405,5 +405,5 @@ module _ (p : Program) (strict : p.plan.loose_calls ≡ false) (rise : InputsRis
       ∙ ap (λ es. option_map fault_of (find (λ e. is_lost e && is_there e) es)) (sym (ap (flat_map (λ (r : Resolved). r.symbols)) resolved_are ∙ by_object_symbols p.objects))
 
 -- What the data of a program give.
-pub open_told : (d : Data) (p : Program) → IsProgram d p → p.plan.loose_calls ≡ false → (parts : List ObjectParts) → AreParts p.objects parts → first_fault p.objects p.objects parts ≡ open_local p
+pub open_told : (d : Data) (p : Program) → IsProgramOf Plain d p → p.plan.loose_calls ≡ false → (parts : List ObjectParts) → AreParts p.objects parts → first_fault p.objects p.objects parts ≡ open_local p
 open_told d p is strict parts are = open_is p strict is.rise is.resolved is.parts_are.0 is.parts_are.1 parts are

@@ -5,7 +5,8 @@ ghost use Rattle.link_program.specs.name_entries.View.{rows_of, entry_at};
 ghost use Rattle.link_program.specs.name_entries.Fits.{FitsObjects};
 ghost use Rattle.link_program.specs.link_rules.Program.{Program as Rules};
 ghost use Rattle.link_program.specs.declared.program.Program.{Program as Data};
-ghost use Rattle.link_program.specs.Program.{IsProgram};
+ghost use Rattle.link_program.specs.made_symbols.declared.mode.Mode.TheVariants.{Plain};
+ghost use Rattle.link_program.specs.Program.{IsProgramOf};
 ghost use Rattle.partial_rules.specs.Partial.{open_local};
 ghost use Rattle.partial_open.specs.Lost.{is_lost, is_lost_one, fault_of, first_flagged, object_fault, first_fault};
 
@@ -136,7 +137,7 @@ fn first_fault(alloc: Global, entries: Entries<'_>) -> Result<Option<Fault>, Out
 /// refers to; `None` exactly where there is none. `entries` is the view of a program's objects.
 pub fn open_local(alloc: Global, entries: Entries<'_>) -> Result<Option<Fault>, OutOfMemory>
     requires { FitsObjects entries }
-    ensures { IfOk result (λ f. (d : Data) (p : Rules) → IsProgram d p → p.plan.loose_calls ≡ false → entries.entry.objects.now ≡ d.objects.now → f ≡ open_local p) }
+    ensures { IfOk result (λ f. (d : Data) (p : Rules) → IsProgramOf Plain d p → p.plan.loose_calls ≡ false → entries.entry.objects.now ≡ d.objects.now → f ≡ open_local p) }
 {
     let fault = first_fault(alloc, entries)?;
     Ok(fault)

@@ -11,7 +11,8 @@ use Rattle.link_program.specs.link_rules.Program.{Program, Part, same_chunk}
 use Rattle.link_program.specs.link_rules.Marks.{is_object_part}
 use Rattle.link_program.specs.declared.program.Program.{Program as Data}
 use Rattle.link_program.specs.declared.part.Part.{Part as Told}
-use Rattle.link_program.specs.Program.{IsProgram}
+use Rattle.link_program.specs.made_symbols.declared.mode.Mode.TheVariants.{Plain}
+use Rattle.link_program.specs.Program.{IsProgramOf}
 use Rattle.link_program.specs.Seen.{SeenPart, seen_part, told_part}
 use Rattle.link_program.proofs.Chunks.{chunk_is}
 use Rattle.partial_rules.specs.Partial as partial
@@ -339,7 +340,7 @@ global_steps = record {
 
 -- ---- all
 
-module _ (d : Data) (p : Program) (is : IsProgram d p) where
+module _ (d : Data) (p : Program) (is : IsProgramOf Plain d p) where
   chunks_same : map (λ (part : Told). part.chunk) d.tables.now.parts ≡ map (λ (part : Part). part.chunk) p.parts
   chunks_same = sym (twice d.tables.now.parts) ∙ (ap (map (λ (s : SeenPart). s.chunk)) is.tables.parts ∙ told p.parts)
     where

@@ -1,7 +1,8 @@
 //! The kept parts of objects by their kinds, and the place of each among those of its kind.
 ghost use Rattle.std.specs.Prelude.{◌≡◌, ◌<◌, ◌∷◌, ◌++◌, [], map, fold, length, slice_index_or, IfOk, OnOk};
 ghost use Rattle.link_program.specs.link_rules.Program.{Program as Rules};
-ghost use Rattle.link_program.specs.Program.{IsProgram};
+ghost use Rattle.link_program.specs.made_symbols.declared.mode.Mode.TheVariants.{Plain};
+ghost use Rattle.link_program.specs.Program.{IsProgramOf};
 ghost use Rattle.partial_rules.specs.Partial as partial;
 ghost use Rattle.partial_parts.specs.Kept.{none_kept, passed, a_function, a_segment, a_global, by_kind, kept_chunk, kept_parts, place_in, AreKept};
 
@@ -161,7 +162,7 @@ fn kept_in(alloc: Global, parts: &[Part]) -> Result<Kept, OutOfMemory>
 
 /// The kept parts of the objects of a program.
 pub fn kept_of(alloc: Global, program: Program<'_>) -> Result<Kept, OutOfMemory>
-    ensures { IfOk result (λ k. (p : Rules) → IsProgram program.entry p → AreKept p k) }
+    ensures { IfOk result (λ k. (p : Rules) → IsProgramOf Plain program.entry p → AreKept p k) }
 {
     let kept = kept_in(alloc, program.tables.parts.as_slice())?;
     Ok(kept)

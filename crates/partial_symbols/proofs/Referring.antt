@@ -20,7 +20,7 @@ use Rattle.link_program.specs.declared.symbol.Definition.{Definition}
 use Rattle.link_program.specs.Told.{told_definition, told_lead, told_symbol, told_all, told_symbols, told_variant}
 use Rattle.link_program.specs.Seen.{no_symbol}
 use Rattle.link_program.specs.Stand.{IsSymbolOf}
-use Rattle.link_program.specs.Program.{IsProgram}
+use Rattle.link_program.specs.Program.{IsProgramOf}
 use Rattle.partial_rules.specs.Partial as partial
 use Rattle.partial_symbols.specs.Standing.{Stood}
 use Rattle.partial_symbols.specs.Known.{AreStanding}
@@ -61,7 +61,7 @@ past_both [] (y ∷ ys) k same none = absurd (omega (arith, same))
 past_both (x ∷ xs) (y ∷ ys) zero same none = absurd (none-some x (sym none))
 past_both (x ∷ xs) (y ∷ ys) (suc k) same none = past_both xs ys k (omega (arith, same)) none
 
-module _ (d : Data) (p : Program) (is : IsProgram d p) (strict : p.plan.loose_calls ≡ false) (s : Stood) (are : AreStanding p d.names.now.names s) where
+module _ (d : Data) (p : Program) (is : IsProgramOf Plain d p) (strict : p.plan.loose_calls ≡ false) (s : Stood) (are : AreStanding p d.names.now.names s) where
   abbrev names : List (List ℕ)
   names = d.names.now.names
 

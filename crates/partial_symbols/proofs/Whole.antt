@@ -9,7 +9,7 @@ use Rattle.link_program.specs.name_rules.Meanings.{Resolved, references, least_i
 use Rattle.link_program.specs.link_rules.Program.{Program, winners_of}
 use Rattle.link_program.specs.link_rules.Marks.{all_symbols}
 use Rattle.link_program.specs.declared.program.Program.{Program as Data}
-use Rattle.link_program.specs.Program.{IsProgram}
+use Rattle.link_program.specs.Program.{IsProgramOf}
 use Rattle.partial_rules.specs.Partial as partial
 use Rattle.partial_symbols.specs.Facts.{facts_of}
 use Rattle.partial_symbols.specs.Columns.{won}
@@ -24,7 +24,7 @@ use Rattle.partial_symbols.proofs.Named.{flag_seen}
 use Rattle.partial_symbols.proofs.Stands.{stands_seen}
 use Rattle.partial_symbols.proofs.Numbered.{StandAlike, Differ, all_differ, count_is, symbols_are, of_symbols_are, of_names_are}
 
-module _ (d : Data) (p : Program) (is : IsProgram d p) where
+module _ (d : Data) (p : Program) (is : IsProgramOf Plain d p) where
   abbrev names : List (List ℕ)
   names = d.names.now.names
 

@@ -7,7 +7,8 @@ use Rattle.link_program.specs.declared.program.Program.{Program as Data}
 use Rattle.link_program.specs.Told.{told_symbol}
 use Rattle.link_program.specs.Seen.{no_symbol}
 use Rattle.link_program.specs.Stand.{IsSymbolOf}
-use Rattle.link_program.specs.Program.{IsProgram}
+use Rattle.link_program.specs.made_symbols.declared.mode.Mode.TheVariants.{Plain}
+use Rattle.link_program.specs.Program.{IsProgramOf}
 use Rattle.partial_rules.specs.Partial.{symbol_number}
 use Rattle.partial_symbols.specs.Standing.{Stood}
 use Rattle.partial_symbols.specs.Known.{AreStanding}
@@ -17,6 +18,6 @@ use Rattle.partial_symbols.specs.Referring.{number_for}
 -- definition gives.
 abbrev pub NumbersAre : Type 0
 NumbersAre =
-    (d : Data) (p : Program) → IsProgram d p → p.plan.loose_calls ≡ false → (s : Stood) → AreStanding p d.names.now.names s
+    (d : Data) (p : Program) → IsProgramOf Plain d p → p.plan.loose_calls ≡ false → (s : Stood) → AreStanding p d.names.now.names s
     → (k : ℕ) (e : InputSymbol) (m : Meaning) → IsSymbolOf p.resolved e m → slice_index_or d.tables.now.symbols k no_symbol ≡ told_symbol d.names.now.names d.resolution.now.imports e m
     → number_for s d.tables.now.symbols k ≡ symbol_number p e

@@ -11,7 +11,8 @@ ghost use Rattle.partial_symbols.specs.Sights.{sight_of};
 ghost use Rattle.partial_symbols.specs.Known.{IsSight, AreStanding};
 ghost use Rattle.partial_symbols.specs.Referring.{number_by_name, number_for};
 ghost use Rattle.link_program.specs.link_rules.Program.{Program as Rules};
-ghost use Rattle.link_program.specs.Program.{IsProgram};
+ghost use Rattle.link_program.specs.made_symbols.declared.mode.Mode.TheVariants.{Plain};
+ghost use Rattle.link_program.specs.Program.{IsProgramOf};
 
 use crate::columns::{Column, columns_of};
 use crate::facts::{At, Fact, Spot, fact_at};
@@ -313,7 +314,7 @@ pub fn sight_of(
     requires fits { FitsObjects entries }
     requires objects { entries.objects.now ≡ program.objects.now }
     requires names { entries.names.now ≡ program.names.now }
-    ensures { IfOk result (λ v. (p : Rules) → IsProgram program.entry p → IsSight p program.entry.names.now.names v) }
+    ensures { IfOk result (λ v. (p : Rules) → IsProgramOf Plain program.entry p → IsSight p program.entry.names.now.names v) }
 {
     let sight = sight_in(alloc, program.tables, entries)?;
     Ok(sight)
@@ -330,7 +331,7 @@ pub fn standing_of(
     requires fits { FitsObjects entries }
     requires objects { entries.objects.now ≡ program.objects.now }
     requires names { entries.names.now ≡ program.names.now }
-    ensures { IfOk result (λ s. (p : Rules) → IsProgram program.entry p → IsSight p program.entry.names.now.names sight.now → AreStanding p program.entry.names.now.names s) }
+    ensures { IfOk result (λ s. (p : Rules) → IsProgramOf Plain program.entry p → IsSight p program.entry.names.now.names sight.now → AreStanding p program.entry.names.now.names s) }
 {
     let standing = standing_in(alloc, sight, entries)?;
     Ok(standing)

@@ -17,7 +17,7 @@ use Rattle.link_program.specs.name_entries.View.{rows_of, entry_number}
 use Rattle.link_program.specs.link_rules.Program.{Program, Ref, ref_to, InitCall, init_call, init_calls_in, is_skipped}
 use Rattle.link_program.specs.link_rules.Marks.{all_symbols}
 use Rattle.link_program.specs.declared.program.Program.{Program as Data}
-use Rattle.link_program.specs.Program.{IsProgram}
+use Rattle.link_program.specs.Program.{IsProgramOf}
 use Rattle.partial_rules.specs.Partial as partial
 use Rattle.partial_rules.specs.Partial.{relocatable}
 use Rattle.partial_symbols.specs.Standing.{Stood}
@@ -65,7 +65,7 @@ no_object s names objects i start old whole none so_far = objects_end s names ob
 
 -- ---- by the definition
 
-module _ (d : Data) (p : Program) (is : IsProgram d p) (strict : p.plan.loose_calls ≡ false) (s : Stood) (are : AreStanding p d.names.now.names s) where
+module _ (d : Data) (p : Program) (is : IsProgramOf Plain d p) (strict : p.plan.loose_calls ≡ false) (s : Stood) (are : AreStanding p d.names.now.names s) where
   abbrev names : List (List ℕ)
   names = d.names.now.names
 

@@ -16,7 +16,8 @@ use Rattle.link_program.specs.name_entries.View.{entry_number}
 use Rattle.link_program.specs.link_rules.Program.{Program, chunk_at}
 use Rattle.link_program.specs.link_rules.Marks.{all_symbols}
 use Rattle.link_program.specs.declared.program.Program.{Program as Data}
-use Rattle.link_program.specs.Program.{IsProgram}
+use Rattle.link_program.specs.made_symbols.declared.mode.Mode.TheVariants.{Plain}
+use Rattle.link_program.specs.Program.{IsProgramOf}
 use Rattle.link_program.proofs.name_entries_lemmas.Numbers.{name_at}
 use Rattle.partial_rules.specs.Partial as partial
 use Rattle.partial_rules.specs.Partial.{is_none}
@@ -81,7 +82,7 @@ all_weak (r ∷ rs) = by (is_weak r.symbol) (all_weak rs)
     by true rest = rest
     by false rest = refl
 
-module _ (d : Data) (p : Program) (is : IsProgram d p) (l : Look) (look : IsLook p d.names.now.names l) where
+module _ (d : Data) (p : Program) (is : IsProgramOf Plain d p) (l : Look) (look : IsLook p d.names.now.names l) where
   abbrev names : List (List ℕ)
   names = d.names.now.names
 

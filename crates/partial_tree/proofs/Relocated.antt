@@ -17,7 +17,8 @@ use Rattle.link_program.specs.Look.{row_at}
 use Rattle.link_program.specs.Told.{told_symbol}
 use Rattle.link_program.specs.Seen.{SeenRef, SeenNamed, seen_named, told_ref, told_named, NamesOne, no_symbol}
 use Rattle.link_program.specs.Stand.{IsRefOf, IsVariantOf, PartStands, PartsStand}
-use Rattle.link_program.specs.Program.{IsProgram}
+use Rattle.link_program.specs.made_symbols.declared.mode.Mode.TheVariants.{Plain}
+use Rattle.link_program.specs.Program.{IsProgramOf}
 use Rattle.partial_rules.specs.Partial as partial
 use Rattle.partial_symbols.specs.Standing.{Stood}
 use Rattle.partial_symbols.specs.Known.{AreStanding}
@@ -35,7 +36,7 @@ mapped_number f [] n lt = absurd (omega (arith, lt))
 mapped_number f (t ∷ types) zero lt = refl
 mapped_number f (t ∷ types) (suc n) lt = mapped_number f types n (omega (arith, lt))
 
-module _ (d : Data) (p : Program) (is : IsProgram d p) (stand : PartsStand p) (strict : p.plan.loose_calls ≡ false) (s : Stood) (are : AreStanding p d.names.now.names s)
+module _ (d : Data) (p : Program) (is : IsProgramOf Plain d p) (stand : PartsStand p) (strict : p.plan.loose_calls ≡ false) (s : Stood) (are : AreStanding p d.names.now.names s)
     (numbers : List ℕ) (numbered : numbers ≡ map (partial.type_number p) d.tables.now.types) where
   abbrev symbols : List Symbol
   symbols = d.tables.now.symbols

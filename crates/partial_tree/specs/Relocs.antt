@@ -7,7 +7,8 @@ use Rattle.link_program.specs.declared.named.Named.{Named}
 use Rattle.link_program.specs.declared.named.Named.TheVariants as names
 use Rattle.link_program.specs.declared.program.Program.{Program as Data}
 use Rattle.link_program.specs.Look.{row_at}
-use Rattle.link_program.specs.Program.{IsProgram}
+use Rattle.link_program.specs.made_symbols.declared.mode.Mode.TheVariants.{Plain}
+use Rattle.link_program.specs.Program.{IsProgramOf}
 use Rattle.link_program.specs.Stand.{PartsStand}
 use Rattle.partial_rules.specs.Partial.{named_reloc, type_number}
 use Rattle.partial_symbols.specs.Standing.{Stood}
@@ -22,6 +23,6 @@ reloc_told s symbols numbers (names.Type place number) = record { kind = 6; offs
 -- The relocations of a part are those of the definition.
 abbrev pub RelocsAre : Type 0
 RelocsAre =
-    (d : Data) (p : Program) → IsProgram d p → PartsStand p → p.plan.loose_calls ≡ false → (s : Stood) → AreStanding p d.names.now.names s
+    (d : Data) (p : Program) → IsProgramOf Plain d p → PartsStand p → p.plan.loose_calls ≡ false → (s : Stood) → AreStanding p d.names.now.names s
     → (numbers : List ℕ) → numbers ≡ map (type_number p) d.tables.now.types → (n : ℕ) (part : Part) → slice_get p.parts n ≡ Some part
     → map (reloc_told s d.tables.now.symbols numbers) (row_at d.tables.now n) ≡ map (named_reloc p) part.named

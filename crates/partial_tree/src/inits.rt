@@ -4,7 +4,8 @@ ghost use Rattle.std.specs.List.{cons_option};
 ghost use Rattle.link_program.specs.name_entries.Fits.{FitsObjects};
 ghost use Rattle.link_program.specs.link_rules.Program.{Program as Rules};
 ghost use Rattle.link_program.specs.declared.program.Program.{Program as Data};
-ghost use Rattle.link_program.specs.Program.{IsProgram};
+ghost use Rattle.link_program.specs.made_symbols.declared.mode.Mode.TheVariants.{Plain};
+ghost use Rattle.link_program.specs.Program.{IsProgramOf};
 ghost use Rattle.partial_rules.specs.Partial as partial;
 ghost use Rattle.partial_symbols.specs.Known.{AreStanding};
 ghost use Rattle.partial_tree.specs.Inits.{init_at, inits_from};
@@ -119,7 +120,7 @@ pub fn inits_of(
     entries: Entries<'_>,
 ) -> Result<Seq<InitFunc>, OutOfMemory>
     requires { FitsObjects entries }
-    ensures { IfOk result (λ is. (d : Data) (p : Rules) → IsProgram d p → p.plan.loose_calls ≡ false → d.objects.now ≡ entries.entry.objects.now → d.names.now ≡ entries.entry.names.now
+    ensures { IfOk result (λ is. (d : Data) (p : Rules) → IsProgramOf Plain d p → p.plan.loose_calls ≡ false → d.objects.now ≡ entries.entry.objects.now → d.names.now ≡ entries.entry.names.now
         → AreStanding p d.names.now.names standing.now → is ≡ (partial.relocatable p).inits) }
 {
     let inits = inits_in(alloc, standing, entries)?;

@@ -7,7 +7,8 @@ ghost use Rattle.partial_tree.specs.Looks.{look_seen};
 ghost use Rattle.partial_tree.specs.Known.{IsLook};
 ghost use Rattle.link_program.specs.link_rules.Program.{Program as Rules};
 ghost use Rattle.link_program.specs.declared.program.Program.{Program as Data};
-ghost use Rattle.link_program.specs.Program.{IsProgram};
+ghost use Rattle.link_program.specs.made_symbols.declared.mode.Mode.TheVariants.{Plain};
+ghost use Rattle.link_program.specs.Program.{IsProgramOf};
 ghost use Rattle.partial_rules.specs.Partial as partial;
 ghost use Rattle.link_program.specs.link_rules.Program.{chunk_at};
 ghost use Rattle.partial_parts.specs.Kept.{place_in};
@@ -274,7 +275,7 @@ pub fn rows_of(
     symbols: &[At],
 ) -> Result<Seq<Row>, OutOfMemory>
     requires { FitsObjects entries }
-    ensures { IfOk result (λ rows. (d : Data) (p : Rules) → IsProgram d p → d.objects.now ≡ entries.entry.objects.now → d.names.now ≡ entries.entry.names.now
+    ensures { IfOk result (λ rows. (d : Data) (p : Rules) → IsProgramOf Plain d p → d.objects.now ≡ entries.entry.objects.now → d.names.now ≡ entries.entry.names.now
         → IsLook p d.names.now.names (look_seen look.entry) → map (symbol_there p.objects) symbols.now ≡ map Some (partial.standing p)
         → map (row_seen p.objects) rows ≡ map Some (map (partial.symbol_for p) (partial.standing p))) }
 {

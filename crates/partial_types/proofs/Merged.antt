@@ -29,7 +29,8 @@ use Rattle.link_program.specs.declared.part.Content.TheVariants as contents
 use Rattle.link_program.specs.declared.part.Part.{Part as Told}
 use Rattle.link_program.specs.Look.{no_part, row_at}
 use Rattle.link_program.specs.Seen.{SeenNamed, seen_symbol, seen_type, seen_named, told_named, SeenContent, a_function, a_segment, a_global, the_linkers, SeenPart, seen_part, told_part, seen_content, told_content}
-use Rattle.link_program.specs.Program.{IsProgram}
+use Rattle.link_program.specs.made_symbols.declared.mode.Mode.TheVariants.{Plain}
+use Rattle.link_program.specs.Program.{IsProgramOf}
 use Rattle.partial_rules.specs.Partial as partial
 use Rattle.partial_symbols.specs.declared.facts.At.{At}
 use Rattle.partial_symbols.specs.Known.{symbol_there, import_there}
@@ -101,8 +102,8 @@ key_type objects o p (s ∷ ss) zero x k at is =
     by (Some i) e = sym (ap (λ (y : ImportKey). y.type) (same_Some (key_of (type_in o s s.kind) i) k e))
 key_type objects o p (s ∷ ss) (suc i) x k at is = key_type objects o (p + 1) ss i x k at is
 
-type_of_key : (objects : List Object) (at : At) (k : ImportKey) → import_there objects at ≡ Some k → function_type_of k.type ≡ type_there objects at
-type_of_key objects at k is = by_symbol (symbol_there objects at) refl is
+pub typed_key : (objects : List Object) (at : At) (k : ImportKey) → import_there objects at ≡ Some k → k.type ≡ symbol_type (symbol_there objects at)
+typed_key objects at k is = by_symbol (symbol_there objects at) refl is
   where
     by_object : (o : Option Object) → slice_get objects at.object ≡ o → (x : InputSymbol) → slice_get (get_or (rows_of objects) at.object []) at.place ≡ Some x → x.import ≡ Some k → k.type ≡ x.type
     by_object None none x there e = absurd (none-some x (sym (ap (λ row. slice_get row at.place) (no_row (rows_of objects) at.object (slice_get-map (symbols_of objects) objects at.object ∙ ap (option_map (symbols_of objects)) none))) ∙ there))
@@ -115,13 +116,16 @@ type_of_key objects at k is = by_symbol (symbol_there objects at) refl is
         let row : get_or (rows_of objects) at.object [] ≡ symbols_of objects o = get_or_from_slice_get (rows_of objects) at.object (symbols_of objects o) [] (slice_get-map (symbols_of objects) objects at.object ∙ ap (option_map (symbols_of objects)) found) in
         key_type objects o 0 o.symbols at.place x k (ap (λ r. slice_get r at.place) (sym row) ∙ there) e
 
-    by_symbol : (x : Option InputSymbol) → symbol_there objects at ≡ x → option_and_then (λ (e : InputSymbol). e.import) (symbol_there objects at) ≡ Some k → function_type_of k.type ≡ function_type_of (symbol_type (symbol_there objects at))
+    by_symbol : (x : Option InputSymbol) → symbol_there objects at ≡ x → option_and_then (λ (e : InputSymbol). e.import) (symbol_there objects at) ≡ Some k → k.type ≡ symbol_type (symbol_there objects at)
     by_symbol None none e = absurd (none-some k (sym (ap (option_and_then (λ (e : InputSymbol). e.import)) none) ∙ e))
     by_symbol (Some x) there e =
-        ap function_type_of (by_object (slice_get objects at.object) refl x there (sym (ap (option_and_then (λ (e : InputSymbol). e.import)) there) ∙ e))
-        ∙ sym (ap (λ o. function_type_of (symbol_type o)) there)
+        by_object (slice_get objects at.object) refl x there (sym (ap (option_and_then (λ (e : InputSymbol). e.import)) there) ∙ e)
+        ∙ sym (ap symbol_type there)
 
-module _ (d : Data) (p : Program) (is : IsProgram d p) where
+type_of_key : (objects : List Object) (at : At) (k : ImportKey) → import_there objects at ≡ Some k → function_type_of k.type ≡ type_there objects at
+type_of_key objects at k is = ap function_type_of (typed_key objects at k is)
+
+module _ (d : Data) (p : Program) (is : IsProgramOf Plain d p) where
   abbrev t : Tables
   t = d.tables.now
 

@@ -2,7 +2,8 @@
 ghost use Rattle.std.specs.Prelude.{◌≡◌, [], Some, map, filter, fold, slice_get, IfOk, OnOk};
 ghost use Rattle.link_program.specs.name_entries.Fits.{FitsObjects};
 ghost use Rattle.link_program.specs.link_rules.Program.{Program as Rules};
-ghost use Rattle.link_program.specs.Program.{IsProgram};
+ghost use Rattle.link_program.specs.made_symbols.declared.mode.Mode.TheVariants.{Plain};
+ghost use Rattle.link_program.specs.Program.{IsProgramOf};
 ghost use Rattle.partial_rules.specs.Partial as partial;
 ghost use Rattle.partial_imports.specs.Opens.{open_seen, told_open};
 ghost use Rattle.partial_types.specs.Added.{with_open, with_function, with_window, with_row};
@@ -126,7 +127,7 @@ pub fn types_of(
 ) -> Result<TypeTable, OutOfMemory>
     requires fits { FitsObjects entries }
     requires objects { entries.objects.now ≡ program.objects.now }
-    ensures { IfOk result (λ t. (p : Rules) → IsProgram program.entry p → map (open_seen p.objects) opens.now ≡ map (told_open p) (filter (partial.is_open p) (partial.standing p))
+    ensures { IfOk result (λ t. (p : Rules) → IsProgramOf Plain program.entry p → map (open_seen p.objects) opens.now ≡ map (told_open p) (filter (partial.is_open p) (partial.standing p))
         → map (slice_get p.parts) functions.now ≡ map Some (partial.kept p 0) → t ≡ partial.types p) }
 {
     let table = types_in(alloc, program.tables, entries, opens, functions)?;

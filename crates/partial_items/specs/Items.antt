@@ -1,0 +1,66 @@
+-- What of the object stands in rows, each made of what is kept under a number of a part.
+use Rattle.std.specs.Prelude.{ℕ, ◌+◌, ◌-◌, List, [], ◌∷◌, map, slice_index_or, Option, None, option_map, option_and_then, unwrap_or}
+use Rattle.link_program.specs.wl_base.declared.span.FileSpan.{FileSpan}
+use Rattle.link_program.specs.wasm_module.declared.parts.Export.{Export}
+use Rattle.link_program.specs.linking_section.declared.segment.SegmentInfo.{SegmentInfo}
+use Rattle.link_program.specs.reloc_section.declared.entry.Reloc.{Reloc}
+use Rattle.link_program.specs.object_parts.declared.parts.GlobalDef.{GlobalDef}
+use Rattle.link_program.specs.object_file.declared.object.Object.{Object}
+use Rattle.link_program.specs.object_file.Objects.{no_info}
+use Rattle.link_program.specs.mark_bits.declared.chunk.Chunk.{Chunk}
+use Rattle.link_program.specs.image_emit.Bytes.{file_part}
+use Rattle.link_program.specs.declared.program.Tables.{Tables}
+use Rattle.link_program.specs.Look.{part_at, row_at}
+use Rattle.partial_rules.specs.Relocatable.{SpelledGlobal}
+use Rattle.partial_parts.specs.Kept.{Kept}
+use Rattle.partial_bytes.specs.declared.tree.Part.{Part}
+use Rattle.partial_items.specs.Owned.{function_at, segment_at, global_at}
+
+abbrev pub chunk_of : Tables → ℕ → Chunk
+chunk_of t n = (part_at t n).chunk
+
+-- ---- globals: every input is a file of its own
+
+abbrev pub global_source : ℕ → GlobalDef → FileSpan
+global_source input g = record { file = input - 1; span = g.span }
+
+abbrev pub spelled : List (List ℕ) → ℕ → GlobalDef → SpelledGlobal
+spelled files input g = record { kind = g.kind; value = g.value; bytes = file_part files (global_source input g) }
+
+abbrev pub global_for : List (List ℕ) → List Object → Tables → ℕ → Option SpelledGlobal
+global_for files objects t n = option_map (spelled files (chunk_of t n).input) (global_at objects (chunk_of t n))
+
+-- ---- exports
+
+abbrev pub export_name : List Object → Chunk → Option (List ℕ)
+export_name objects c = option_and_then (λ f. f.export_name) (function_at objects c)
+
+abbrev pub export_with : ℕ → List ℕ → Export
+export_with index name = record { name = name; kind = 0; index = index }
+
+-- The functions that are imported come first.
+abbrev pub export_for : List Object → Tables → Kept → ℕ → ℕ → Option Export
+export_for objects t k imported n = option_map (export_with (imported + slice_index_or k.places n 0)) (export_name objects (chunk_of t n))
+
+-- ---- segments
+
+abbrev pub info_for : List Object → Tables → ℕ → SegmentInfo
+info_for objects t n = unwrap_or (option_map (λ g. g.info) (segment_at objects (chunk_of t n))) no_info
+
+-- ---- bodies and segments
+
+-- Its bytes as they stand in a file, and its relocations.
+pub record Given : Type 0 where
+  pub bytes : List ℕ
+  pub relocs : List Reloc
+
+abbrev pub given : Part → Given
+given p = record { bytes = p.bytes.now; relocs = p.relocs.now }
+
+abbrev pub part_given : List (List ℕ) → Tables → ℕ → List Reloc → Given
+part_given files t n relocs = record { bytes = file_part files (part_at t n).source; relocs = relocs }
+
+-- Of the parts of these numbers, whose relocations stand from a place on.
+abbrev pub parts_given : List (List ℕ) → Tables → List (List Reloc) → ℕ → List ℕ → List Given
+parts_given files t rows at [] = []
+parts_given files t rows at (n ∷ ns) = part_given files t n (slice_index_or rows at []) ∷ parts_given files t rows (at + 1) ns

@@ -1,0 +1,106 @@
+//! The globals of the object: those of all kept parts, each with the bytes by which its own object spells its first value.
+ghost use Rattle.std.specs.Prelude.{◌≡◌, ◌-◌, ◌++◌, [], false, Some, map, filter_map, option_map, option_and_then, slice_get, IfOk, OnOk};
+ghost use Rattle.std.specs.List.{cons_option};
+ghost use Rattle.link_program.specs.made_symbols.declared.mode.Mode.TheVariants.{Plain};
+ghost use Rattle.link_program.specs.name_entries.View.{InputsRise};
+ghost use Rattle.link_program.specs.link_rules.Program.{Program as Rules};
+ghost use Rattle.link_program.specs.Program.{IsProgramOf};
+ghost use Rattle.partial_rules.specs.Partial as partial;
+ghost use Rattle.partial_bytes.specs.Told.{global_told};
+ghost use Rattle.partial_items.specs.Owned.{object_at, global_at};
+ghost use Rattle.partial_items.specs.Items.{global_source, spelled, global_for};
+
+use crate::owned::{global_in, place_of};
+use link_program::{GlobalDef, Object, Program, Tables, part_at};
+use mark_bits::Chunk;
+use partial_bytes::{GlobalRow, bytes_in};
+use std::alloc::Global;
+use wl_base::{FileSpan, InputId, OutOfMemory, Seq};
+
+/// Where the bytes of a global's expression stand. Every input is a file of its own.
+fn source(input: InputId, global: GlobalDef) -> FileSpan
+    ensures { result ≡ global_source input global }
+{
+    FileSpan {
+        file: input.saturating_sub(1),
+        span: global.span,
+    }
+}
+
+/// The global of an input.
+fn spelled<'a>(files: &'a [Seq<u8>], input: InputId, global: GlobalDef) -> GlobalRow<'a>
+    ensures { global_told result ≡ spelled files.now input global }
+{
+    GlobalRow {
+        kind: global.kind,
+        value: global.value,
+        bytes: bytes_in(files, source(input, global)),
+    }
+}
+
+/// The global of a chunk, where its object stands at a place.
+fn global_at_place<'a>(
+    files: &'a [Seq<u8>],
+    objects: &[Object],
+    place: Option<usize>,
+    chunk: Chunk,
+) -> Option<GlobalRow<'a>>
+    ensures { option_and_then (slice_get objects.now) place ≡ object_at objects.now chunk.input
+        → option_map global_told result ≡ option_map (spelled files.now chunk.input) (global_at objects.now chunk) }
+{
+    let Some(global) = global_in(objects, place, chunk.index) else {
+        return None;
+    };
+    Some(spelled(files, chunk.input, global))
+}
+
+/// Puts a global behind others, where there is one.
+fn put<'a>(
+    globals: &mut Seq<GlobalRow<'a>>,
+    found: Option<GlobalRow<'a>>,
+) -> Result<(), OutOfMemory>
+    ensures { OnOk result (globals.new ≡ globals.old ++ cons_option found []) }
+{
+    if let Some(global) = found {
+        globals.push(global)?;
+    }
+    Ok(())
+}
+
+/// The globals of these numbers.
+fn globals_in<'a>(
+    alloc: Global,
+    files: &'a [Seq<u8>],
+    objects: &[Object],
+    tables: &Tables,
+    globals: &[u32],
+) -> Result<Seq<GlobalRow<'a>>, OutOfMemory>
+    requires { InputsRise 0 objects.now }
+    ensures { IfOk result (λ gs. map global_told gs ≡ filter_map (global_for files.now objects.now tables.now) globals.now) }
+{
+    let mut rows = Seq::new(alloc);
+    let mut near = 0;
+    for part in globals {
+        let chunk = part_at(tables, *part).chunk;
+        let place = place_of(objects, near, chunk.input);
+        put(&mut rows, global_at_place(files, objects, place, chunk))?;
+        near = place.unwrap_or(near);
+    }
+    Ok(rows)
+}
+
+/// The globals of the object that a partial link makes of a program, of kept globals by the numbers of their parts. These are the files of
+/// the link.
+pub fn globals_of<'a>(
+    alloc: Global,
+    program: Program<'_>,
+    files: &'a [Seq<u8>],
+    globals: &[u32],
+) -> Result<Seq<GlobalRow<'a>>, OutOfMemory>
+    requires { InputsRise 0 program.objects.now }
+    ensures { IfOk result (λ gs. (p : Rules) → IsProgramOf Plain program.entry p → p.plan.loose_calls ≡ false → files.now ≡ p.files
+        → map (slice_get p.parts) globals.now ≡ map Some (partial.kept p 2) → map global_told gs ≡ (partial.relocatable p).globals) }
+{
+    let rows = globals_in(alloc, files, program.objects, program.tables, globals)?;
+    Ok(rows)
+}

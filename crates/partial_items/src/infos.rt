@@ -1,0 +1,72 @@
+//! What is said of the data segments of the object.
+ghost use Rattle.std.specs.Prelude.{◌≡◌, false, Some, map, option_map, option_and_then, unwrap_or, slice_get, IfOk, OnOk};
+ghost use Rattle.link_program.specs.object_file.Objects.{no_info};
+ghost use Rattle.link_program.specs.made_symbols.declared.mode.Mode.TheVariants.{Plain};
+ghost use Rattle.link_program.specs.name_entries.View.{InputsRise};
+ghost use Rattle.link_program.specs.link_rules.Program.{Program as Rules};
+ghost use Rattle.link_program.specs.Program.{IsProgramOf};
+ghost use Rattle.partial_rules.specs.Partial as partial;
+ghost use Rattle.partial_bytes.specs.Told.{info_told};
+ghost use Rattle.partial_items.specs.Owned.{object_at, segment_at};
+ghost use Rattle.partial_items.specs.Items.{info_for};
+
+use crate::owned::{place_of, segment_in};
+use link_program::{Object, Program, Tables, part_at};
+use mark_bits::Chunk;
+use partial_bytes::InfoRow;
+use std::alloc::Global;
+use wl_base::{OutOfMemory, Seq};
+
+/// What is said of the segment of a chunk, where its object stands at a place.
+fn info_in<'a>(objects: &'a [Object], place: Option<usize>, chunk: Chunk) -> InfoRow<'a>
+    ensures { option_and_then (slice_get objects.now) place ≡ object_at objects.now chunk.input
+        → info_told result ≡ unwrap_or (option_map (λ g. g.info) (segment_at objects.now chunk)) no_info }
+{
+    match segment_in(objects, place, chunk.index) {
+        Some(segment) => InfoRow {
+            name: segment.name,
+            align: segment.align,
+            flags: segment.flags,
+        },
+        None => InfoRow {
+            name: &[],
+            align: 0,
+            flags: 0,
+        },
+    }
+}
+
+/// What is said of the segments of these numbers.
+fn infos_in<'a>(
+    alloc: Global,
+    objects: &'a [Object],
+    tables: &Tables,
+    segments: &[u32],
+) -> Result<Seq<InfoRow<'a>>, OutOfMemory>
+    requires { InputsRise 0 objects.now }
+    ensures { IfOk result (λ is. map info_told is ≡ map (info_for objects.now tables.now) segments.now) }
+{
+    let mut rows = Seq::new(alloc);
+    let mut near = 0;
+    for part in segments {
+        let chunk = part_at(tables, *part).chunk;
+        let place = place_of(objects, near, chunk.input);
+        rows.push(info_in(objects, place, chunk))?;
+        near = place.unwrap_or(near);
+    }
+    Ok(rows)
+}
+
+/// What is said of the segments of the object that a partial link makes of a program, of kept segments by the numbers of their parts.
+pub fn infos_of<'a>(
+    alloc: Global,
+    program: Program<'a>,
+    segments: &[u32],
+) -> Result<Seq<InfoRow<'a>>, OutOfMemory>
+    requires { InputsRise 0 program.objects.now }
+    ensures { IfOk result (λ is. (p : Rules) → IsProgramOf Plain program.entry p → p.plan.loose_calls ≡ false
+        → map (slice_get p.parts) segments.now ≡ map Some (partial.kept p 1) → map info_told is ≡ (partial.relocatable p).infos) }
+{
+    let rows = infos_in(alloc, program.objects, program.tables, segments)?;
+    Ok(rows)
+}

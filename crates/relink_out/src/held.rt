@@ -1,0 +1,62 @@
+//! What of the object is held by its parts: groups, and the relocations of bodies and data segments.
+ghost use Rattle.std.specs.Prelude.{◌≡◌, IfOk};
+ghost use Rattle.link_program.specs.name_entries.Fits.{FitsObjects};
+ghost use Rattle.relink_out.specs.Held.{AreHeld};
+
+use crate::found::Found;
+use link_program::{Entries, Program};
+use partial_items::{Places, Won, groups_of, relocs_of};
+use partial_tree::Targets;
+use reloc_section::Reloc;
+use std::alloc::Global;
+use wl_base::OutOfMemory;
+use wl_lists::Lists;
+
+/// What of the object is held by its parts.
+#[derive(Drop)]
+pub struct Held {
+    pub groups: Won,
+    /// The relocations of each body.
+    pub bodies: Lists<Reloc>,
+    /// The relocations of each data segment.
+    pub segments: Lists<Reloc>,
+}
+
+/// What is held by the parts of the object, by what was found and the numbers that the program's types have there. `entries` is the view of
+/// the program's objects.
+pub fn held_of(
+    alloc: Global,
+    program: Program<'_>,
+    entries: Entries<'_>,
+    found: &Found,
+    numbers: &[u32],
+) -> Result<Held, OutOfMemory>
+    requires fits { FitsObjects entries }
+    requires objects { entries.objects.now ≡ program.objects.now }
+    requires names { entries.names.now ≡ program.names.now }
+    ensures { IfOk result (AreHeld program.entry found.now numbers.now) }
+{
+    let places = Places {
+        kept: &found.kept,
+        chunks: &program.tables.chunks,
+        functions: found.functions,
+    };
+    let groups = groups_of(alloc, places, entries)?;
+    let targets = Targets {
+        standing: &found.standing,
+        symbols: program.tables.symbols.as_slice(),
+        types: numbers,
+    };
+    let bodies = relocs_of(alloc, program.tables, targets, found.kept.functions())?;
+    let targets = Targets {
+        standing: &found.standing,
+        symbols: program.tables.symbols.as_slice(),
+        types: numbers,
+    };
+    let segments = relocs_of(alloc, program.tables, targets, found.kept.segments())?;
+    Ok(Held {
+        groups,
+        bodies,
+        segments,
+    })
+}

@@ -1,0 +1,79 @@
+//! The tree of the object, whose rows lend names and bytes.
+ghost use Rattle.std.specs.Prelude.{◌≡◌, ◌≤◌, ◌^◌, false, length, IfOk};
+ghost use Rattle.link_program.specs.made_symbols.declared.mode.Mode.TheVariants.{Plain};
+ghost use Rattle.link_program.specs.name_entries.Fits.{FitsObjects};
+ghost use Rattle.link_program.specs.link_rules.Program as rules;
+ghost use Rattle.link_program.specs.Answers.{Answers};
+ghost use Rattle.link_program.specs.Program.{IsProgramOf};
+ghost use Rattle.link_program.specs.Stand.{PartsStand};
+ghost use Rattle.partial_rules.specs.Relocatable.{relocatable_bytes};
+ghost use Rattle.partial_rules.specs.Partial.{relocatable};
+ghost use Rattle.relink_out.specs.Made.{bytes_or};
+ghost use Rattle.relink_out.specs.Found.{AreFound};
+ghost use Rattle.relink_out.specs.Typed.{AreTyped};
+ghost use Rattle.relink_out.specs.Named.{AreNamed};
+ghost use Rattle.relink_out.specs.Held.{AreHeld};
+
+use crate::found::Found;
+use crate::held::Held;
+use crate::named::Named;
+use crate::typed::Typed;
+use crate::writing::write;
+use link_program::{Entries, LinkError, Program};
+use partial_bytes::Tree;
+use partial_items::{globals_of, group_rows, infos_of, parts_of, symbols_of};
+use std::alloc::Global;
+use std::thread::Threads;
+use wl_base::Seq;
+use wl_fan::Workers;
+
+/// The bytes of the object, or how many there would be, by what was found and made. `entries` is the view of the program's objects, and these are
+/// its files.
+pub fn written_of<R: Threads + Sync>(
+    rt: &R,
+    alloc: Global,
+    program: Program<'_>,
+    entries: Entries<'_>,
+    files: &[Seq<u8>],
+    found: &Found,
+    typed: &Typed,
+    named: &Named,
+    held: &Held,
+    workers: Workers,
+) -> Result<Seq<u8>, LinkError>
+    ghost p: { rules.Program }
+    requires program { IsProgramOf Plain program p }
+    requires strict { p.plan.loose_calls ≡ false }
+    requires stand { PartsStand p }
+    requires fits { FitsObjects entries }
+    requires objects { entries.objects.now ≡ program.objects.now }
+    requires files { files.now ≡ p.files }
+    requires found { AreFound p program.names.now.names found.now }
+    requires typed { AreTyped program p typed.now }
+    requires named { AreNamed p named.now }
+    requires held { AreHeld program found.now typed.now.numbers held.now }
+    ensures exact { Answers (λ bytes. bytes) result (bytes_or (relocatable_bytes (relocatable p))) }
+    ensures short { IfOk result (λ bytes. length bytes ≤ 2 ^ 30) }
+{
+    let globals = globals_of(alloc, program, files, found.kept.globals())?;
+    let bodies = parts_of(alloc, program, files, &held.bodies, found.kept.functions())?;
+    let segments = parts_of(alloc, program, files, &held.segments, found.kept.segments())?;
+    let infos = infos_of(alloc, program, found.kept.segments())?;
+    let symbols = symbols_of(alloc, entries, named.symbols.as_slice())?;
+    let groups = group_rows(alloc, program.objects, &held.groups)?;
+    let tree = Tree {
+        types: typed.types.types(),
+        imports: typed.imports.as_slice(),
+        functions: typed.functions.as_slice(),
+        globals: globals.as_slice(),
+        exports: named.exports.as_slice(),
+        bodies: bodies.as_slice(),
+        segments: segments.as_slice(),
+        infos: infos.as_slice(),
+        symbols: symbols.as_slice(),
+        inits: named.inits.as_slice(),
+        groups: groups.as_slice(),
+    };
+    let bytes = write(rt, alloc, &tree, workers)?;
+    Ok(bytes)
+}
