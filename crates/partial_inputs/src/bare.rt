@@ -1,14 +1,14 @@
-//! The plan by which a partial link loads its inputs: that of the words, in which no option has an effect but the output's name and the number
-//! of workers.
+//! The plan by which a partial link loads its inputs: that of the words, but no option has an effect save the output's name and the number of
+//! workers.
 ghost use Rattle.std.specs.Prelude.{◌≡◌, IfOk};
-ghost use Rattle.partial_rules.specs.link_plan.Plan.{IsPlan};
+ghost use Rattle.link_plan.specs.Plan.{IsPlan};
 ghost use Rattle.partial_rules.specs.PartialLink.{bare};
 
 use link_plan::Plan;
 use std::alloc::Global;
 use wl_base::{OutOfMemory, Seq, Text};
 
-/// The bytes of the stack of a plan that says nothing of it.
+/// How many bytes the stack has where no word says it.
 const STACK_SIZE: u32 = 65536;
 
 /// A name once more, where there is one.
@@ -25,8 +25,11 @@ fn name_again(alloc: Global, name: &Option<Text>) -> Result<Option<Text>, OutOfM
 }
 
 /// The plan with its options left out.
+#[tactic(auto, using(crate::proofs::Bare::bare_is_plan))]
 pub fn bare_plan(alloc: Global, plan: &Plan) -> Result<Plan, OutOfMemory>
+    requires { IsPlan plan.now }
     ensures is { IfOk result (λ p. p ≡ bare plan.now) }
+    ensures numbers { IfOk result IsPlan }
 {
     Ok(Plan {
         inputs: Seq::from_slice(alloc, plan.inputs.as_slice())?,

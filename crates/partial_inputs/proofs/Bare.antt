@@ -1,0 +1,18 @@
+-- The plan of a partial link keeps to the ranges of plans.
+use Rattle.std.proofs.Common.{◌≡◌, ℕ, refl, tt}
+use Rattle.link_plan.specs.declared.plan.Plan.{Plan}
+use Rattle.link_plan.specs.Plan.{IsPlan}
+use Rattle.partial_rules.specs.PartialLink.{bare}
+
+pub bare_is_plan : (plan : Plan) → IsPlan plan → IsPlan (bare plan)
+bare_is_plan plan is = record {
+  stack = refl;
+  stack_small = grind arith;
+  initial = (refl, grind arith);
+  max = tt;
+  base = tt;
+  some_thread = is.some_thread;
+  few_threads = is.few_threads;
+  cases = tt;
+  inputs = is.inputs;
+}
