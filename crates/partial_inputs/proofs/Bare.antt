@@ -2,7 +2,9 @@
 use Rattle.std.proofs.Common.{◌≡◌, ℕ, refl, tt}
 use Rattle.link_plan.specs.declared.plan.Plan.{Plan}
 use Rattle.link_plan.specs.Plan.{IsPlan}
+use Rattle.link_inputs.specs.link_program.link_rules.LinkOf.{asked_names}
 use Rattle.partial_rules.specs.PartialLink.{bare}
+use Rattle.partial_inputs.specs.Refused.{IsBare}
 
 pub bare_is_plan : (plan : Plan) → IsPlan plan → IsPlan (bare plan)
 bare_is_plan plan is = record {
@@ -16,3 +18,7 @@ bare_is_plan plan is = record {
   cases = tt;
   inputs = is.inputs;
 }
+
+pub bare_is_bare : (plan : Plan) → IsBare (bare plan)
+unfolding asked_names
+bare_is_bare plan = record { plain = refl; given = refl; strict = refl; asked = refl }

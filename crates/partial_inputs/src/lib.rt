@@ -2,6 +2,7 @@
 #![tactic(auto)]
 
 mod bare;
+pub mod laws;
 mod plain;
 
 pub use bare::bare_plan;
