@@ -9,7 +9,7 @@ ghost use Rattle.link_core.specs.Answers.{Answers, IsShort};
 ghost use Rattle.link_core.specs.Loading.{Loading, program_in};
 
 use debug_links::{Inputs, load_inputs};
-use link_output::{LinkError, refuse};
+use link_output::LinkError;
 use link_plan::Plan;
 use partial_inputs::laws::inputs_come_first;
 use partial_inputs::{bare_plan, refused_inputs};
@@ -38,7 +38,9 @@ pub(crate) fn join<R: Threads + Sync, G: Gate>(
     ensures short { IsShort result }
 {
     inputs_come_first();
-    refuse(refused_inputs(plan.inputs.as_slice(), files))?;
+    if let Some(fault) = refused_inputs(plan.inputs.as_slice(), files) {
+        return Err(LinkError::Refused(fault));
+    }
     // Words give a file for each input.
     if files.len() != plan.inputs.len() {
         return Err(LinkError::OutOfMemory);
