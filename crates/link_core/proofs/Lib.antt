@@ -6,3 +6,4 @@ pub mod Running
 pub mod Checking
 pub mod Listing
 pub mod Tails
+pub mod Joined

@@ -31,7 +31,7 @@ module _ (l : Loading) (plan : Plan) (loaded objects : List Object) (same : l.or
   abbrev found_program : Program
   found_program = program_of Plain plan l.origin.files l.origin.all objects
 
-  program_is : found_program ≡ program_in l
+  pub program_is : found_program ≡ program_in l
   program_is =
       ap (λ plan. program_of Plain plan l.origin.files l.origin.all objects) (sym same)
       ∙ ap (λ (os : List Object). program_of Plain l.origin.plan l.origin.files l.origin.all os) (shown ∙ sym are)

@@ -1,4 +1,4 @@
-//! The whole link, as a list of steps in the order of its definition (`link_of` in link_rules/specs/LinkOf.antt): load, find, exports,
+//! The link of a module, as a list of steps in the order of its definition (`link_of` in link_rules/specs/LinkOf.antt): load, find, exports,
 //! mark, unresolved, place, number, image, measure, patches, write. Each gives what the next ones need, or a fault that ends the link. Behind
 //! them stand the check of the output and the debug sections of the objects, where the plan asks for these (`linked` in specs/Linked.antt). The
 //! sections are joined before the output is written, while what was found of the program is still there.
@@ -67,49 +67,9 @@ const LEAST_WORK: usize = 6 << 20;
 /// How many bytes of a file take as long to read as what each file takes by itself.
 const FILE_WORK: usize = 4 << 10;
 
-/// Links the files as the plan asks: the bytes of the module, and behind it the joined debug sections of the objects where the plan keeps
-/// them; or the first fault that applies. There is one file for each input of the plan, or as many as objects were generated.
-///
-/// Given objects are read, groups and names are raced for, live parts are marked and the output is filled by as many workers as the plan
-/// has threads, or by one where the gate is open and little is to be linked; each passes the gate before a job. The values of windows are
-/// found by the same workers, who pass no gate for that. The answer doesn't depend on them. From the moment that the output's buffer is
-/// reserved nothing can want memory; but where the plan asks for the check of the output, from the end of the check on.
-///
-/// A shared output isn't linked yet: that is answered as want of memory.
-///
-/// What was read of the files, and the names, aren't given back, but kept until the process ends: that would be a free for each small piece,
-/// which takes up to a tenth of a link of many objects.
-pub fn link<R: Threads + Sync, G: Gate>(
-    rt: &R,
-    alloc: Global,
-    plan: &Plan,
-    files: &[Seq<u8>],
-    gate: &G,
-) -> Result<Seq<u8>, LinkError>
-    requires plan { IsPlan plan.now }
-    requires files { length files.now ≡ unwrap_or plan.now.make_case (length plan.now.inputs) }
-    // The answer is the definition's, or want of memory.
-    ensures exact { Answers result (linked plan.now files.now) }
-    // The module runs as the plan and the files tell, with nothing linked.
-    ensures runs { IfOk result (λ bytes. Runs plan.now files.now bytes) }
-    // Where all objects that are loaded are valid, so is the module, and the check refuses nothing, whether the plan asks for it or not.
-    ensures valid { AllValid plan.now files.now → KeepsValid plan.now files.now result }
-    // Where the plan asks for the check, the module is valid whatever the objects are.
-    ensures checked { IsTrue plan.now.validate → IfOk result IsValidOutput }
-    // Where the plan keeps debug sections, each place in a live function that they name is that of the same instruction in the module, and the
-    // dead word stands for each that isn't live.
-    ensures places { plan.now.keep_debug ≡ true → IfOk result (SaysPlaces plan.now files.now) }
-    // The bytes are fewer than 2^31.
-    ensures short { IsShort result }
-{
-    let mut told = Seq::new(alloc);
-    let answer = link_telling(rt, alloc, plan, files, gate, &mut told);
-    answer
-}
-
-/// The same, and what is told of functions that are called by another type than their definition has, in a list that begins empty: but for
-/// want of memory all that is to be told, whether the link is refused or not.
-pub fn link_telling<R: Threads + Sync, G: Gate>(
+/// Links the files into a module, and tells of functions that are called by another type than their definition has, in a list that begins
+/// empty: but for want of memory all that is to be told, whether the link is refused or not.
+pub(crate) fn module_telling<R: Threads + Sync, G: Gate>(
     rt: &R,
     alloc: Global,
     plan: &Plan,
@@ -380,7 +340,7 @@ fn make_ready<R: Threads + Sync>(
 }
 
 // How many workers a link is worth: as many as the plan has threads, but one where little is to be read and nobody waits at the gate.
-fn workers_of<G: Gate>(plan: &Plan, files: &[Seq<u8>], gate: &G) -> Workers
+pub(crate) fn workers_of<G: Gate>(plan: &Plan, files: &[Seq<u8>], gate: &G) -> Workers
     requires { IsPlan plan.now }
 {
     let threads = if gate.is_open() && is_small(files) {

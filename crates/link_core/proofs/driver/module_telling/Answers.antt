@@ -1,6 +1,6 @@
 use Rattle.link_core.proofs.Checking.{keeps_valid}
 use Rattle.link_core.proofs.Running.{runs_of, places_of}
-use Rattle.link_core.proofs.driver.link_telling.Goals as goal
+use Rattle.link_core.proofs.driver.module_telling.Goals as goal
 
 pub returns-clause-runs : goal.returns-clause-runs
 returns-clause-runs g c =
