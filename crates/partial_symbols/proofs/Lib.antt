@@ -9,3 +9,4 @@ mod Stands
 pub mod Numbered
 pub mod Whole
 pub mod Referring
+pub use Rattle.link_program.proofs as link_program_lemmas
