@@ -2,7 +2,8 @@ pub mod Among
 pub mod Places
 pub mod Owners
 pub mod Listed
-pub mod Kinds
+pub mod Contents
 pub mod Taken
 pub mod Bodies
 pub mod Winning
+pub mod Turns

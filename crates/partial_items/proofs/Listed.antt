@@ -27,7 +27,7 @@ found_more f xs i d lt old new put so_far =
 -- the same, of what is seen in it
 pub seen_more : {A B C : Type 0} (view : C → B) (f : A → Option B) (xs : List A) (i : ℕ) (d : A) → i < length xs → (old new : List C) (found : Option C) → new ≡ old ++ cons_option found [] → option_map view found ≡ f (get_or xs i d)
     → map view old ≡ filter_map f (take i xs) → map view new ≡ filter_map f (take (i + 1) xs)
-seen_more view f xs i d lt old new found put is so_far =
+seen_more {C = C} view f xs i d lt old new found put is so_far =
     found_more f xs i d lt (map view old) (map view new)
     (ap (map view) put ∙ (map-append view old (cons_option found []) ∙ ap (λ os. map view old ++ os) (one found ∙ ap (λ o. cons_option o []) is))) so_far
   where

@@ -9,10 +9,10 @@ ghost use Rattle.partial_tree.specs.link_program.Program.{IsProgramOf};
 ghost use Rattle.partial_tree.specs.partial_rules.Partial as partial;
 ghost use Rattle.partial_tree.specs.partial_parts.Kept.{AreKept};
 ghost use Rattle.partial_items.specs.Owned.{object_at};
-ghost use Rattle.partial_items.specs.Items.{export_name, export_with, export_for};
+ghost use Rattle.partial_items.specs.Items as told;
+ghost use Rattle.partial_items.specs.Items.{chunk_of, export_with};
 
-use crate::owned::{function_in, place_of};
-use mark_bits::Chunk;
+use crate::owned::{function_in, owner_of};
 use partial_tree::{Kept, Object, Program, Tables, part_at};
 use std::alloc::Global;
 use wasm_module::{Export, export_kinds};
@@ -77,20 +77,22 @@ fn put(exports: &mut Seq<Export>, found: Option<Export>) -> Result<(), OutOfMemo
     Ok(())
 }
 
-/// The export of the part of a number, where the object of its chunk stands at a place.
-fn export_at(
+/// The export of the part of a number, whose object stands at a place.
+fn export_for(
     alloc: Global,
     objects: &[Object],
     place: Option<usize>,
-    chunk: Chunk,
+    tables: &Tables,
+    kept: &Kept,
     imported: u32,
-    number: u32,
+    part: u32,
 ) -> Result<Option<Export>, OutOfMemory>
-    ensures { option_and_then (slice_get objects.now) place ≡ object_at objects.now chunk.input
-        → IfOk result (λ x. x ≡ option_map (export_with (imported + number)) (export_name objects.now chunk)) }
+    requires { option_and_then (slice_get objects.now) place ≡ object_at objects.now (chunk_of tables.now part).input }
+    ensures { IfOk result (λ x. x ≡ told.export_for objects.now tables.now kept.now imported part) }
 {
+    let chunk = part_at(tables, part).chunk;
     let name = name_in(objects, place, chunk.index);
-    let found = export_by(alloc, name, imported, number)?;
+    let found = export_by(alloc, name, imported, kept.place(part))?;
     Ok(found)
 }
 
@@ -104,14 +106,13 @@ fn exports_in(
     functions: &[u32],
 ) -> Result<Seq<Export>, OutOfMemory>
     requires { InputsRise 0 objects.now }
-    ensures { IfOk result (λ xs. xs ≡ filter_map (export_for objects.now tables.now kept.now imported) functions.now) }
+    ensures { IfOk result (λ xs. xs ≡ filter_map (told.export_for objects.now tables.now kept.now imported) functions.now) }
 {
     let mut exports = Seq::new(alloc);
     let mut near = 0;
     for part in functions {
-        let chunk = part_at(tables, *part).chunk;
-        let place = place_of(objects, near, chunk.input);
-        let found = export_at(alloc, objects, place, chunk, imported, kept.place(*part))?;
+        let place = owner_of(objects, near, tables, *part);
+        let found = export_for(alloc, objects, place, tables, kept, imported, *part)?;
         put(&mut exports, found)?;
         near = place.unwrap_or(near);
     }

@@ -7,11 +7,11 @@ ghost use Rattle.partial_tree.specs.link_program.link_rules.Program.{Program as 
 ghost use Rattle.partial_tree.specs.link_program.Program.{IsProgramOf};
 ghost use Rattle.partial_tree.specs.partial_rules.Partial as partial;
 ghost use Rattle.partial_bytes.specs.Told.{global_told};
-ghost use Rattle.partial_items.specs.Owned.{object_at, global_at};
-ghost use Rattle.partial_items.specs.Items.{global_source, spelled, global_for};
+ghost use Rattle.partial_items.specs.Owned.{object_at};
+ghost use Rattle.partial_items.specs.Items as told;
+ghost use Rattle.partial_items.specs.Items.{chunk_of};
 
-use crate::owned::{global_in, place_of};
-use mark_bits::Chunk;
+use crate::owned::{global_in, owner_of};
 use partial_bytes::{GlobalRow, bytes_in};
 use partial_tree::{GlobalDef, Object, Program, Tables, part_at};
 use std::alloc::Global;
@@ -19,7 +19,7 @@ use wl_base::{FileSpan, InputId, OutOfMemory, Seq};
 
 /// Where the bytes of a global's expression stand. Every input is a file of its own.
 fn source(input: InputId, global: GlobalDef) -> FileSpan
-    ensures { result ≡ global_source input global }
+    ensures { result ≡ told.global_source input global }
 {
     FileSpan {
         file: input.saturating_sub(1),
@@ -29,7 +29,7 @@ fn source(input: InputId, global: GlobalDef) -> FileSpan
 
 /// The global of an input.
 fn spelled<'a>(files: &'a [Seq<u8>], input: InputId, global: GlobalDef) -> GlobalRow<'a>
-    ensures { global_told result ≡ spelled files.now input global }
+    ensures { global_told result ≡ told.spelled files.now input global }
 {
     GlobalRow {
         kind: global.kind,
@@ -38,16 +38,18 @@ fn spelled<'a>(files: &'a [Seq<u8>], input: InputId, global: GlobalDef) -> Globa
     }
 }
 
-/// The global of a chunk, where its object stands at a place.
-fn global_at_place<'a>(
+/// The global of the part of a number, whose object stands at a place.
+fn global_for<'a>(
     files: &'a [Seq<u8>],
     objects: &[Object],
     place: Option<usize>,
-    chunk: Chunk,
+    tables: &Tables,
+    part: u32,
 ) -> Option<GlobalRow<'a>>
-    ensures { option_and_then (slice_get objects.now) place ≡ object_at objects.now chunk.input
-        → option_map global_told result ≡ option_map (spelled files.now chunk.input) (global_at objects.now chunk) }
+    requires { option_and_then (slice_get objects.now) place ≡ object_at objects.now (chunk_of tables.now part).input }
+    ensures { option_map global_told result ≡ told.global_for files.now objects.now tables.now part }
 {
+    let chunk = part_at(tables, part).chunk;
     let Some(global) = global_in(objects, place, chunk.index) else {
         return None;
     };
@@ -76,14 +78,13 @@ fn globals_in<'a>(
     globals: &[u32],
 ) -> Result<Seq<GlobalRow<'a>>, OutOfMemory>
     requires { InputsRise 0 objects.now }
-    ensures { IfOk result (λ gs. map global_told gs ≡ filter_map (global_for files.now objects.now tables.now) globals.now) }
+    ensures { IfOk result (λ gs. map global_told gs ≡ filter_map (told.global_for files.now objects.now tables.now) globals.now) }
 {
     let mut rows = Seq::new(alloc);
     let mut near = 0;
     for part in globals {
-        let chunk = part_at(tables, *part).chunk;
-        let place = place_of(objects, near, chunk.input);
-        put(&mut rows, global_at_place(files, objects, place, chunk))?;
+        let place = owner_of(objects, near, tables, *part);
+        put(&mut rows, global_for(files, objects, place, tables, *part))?;
         near = place.unwrap_or(near);
     }
     Ok(rows)

@@ -1,28 +1,32 @@
 //! What is said of the data segments of the object.
-ghost use Rattle.std.specs.Prelude.{◌≡◌, false, Some, map, option_map, option_and_then, unwrap_or, slice_get, IfOk, OnOk};
-ghost use Rattle.partial_tree.specs.link_program.object_file.Objects.{no_info};
+ghost use Rattle.std.specs.Prelude.{◌≡◌, false, Some, map, option_and_then, slice_get, IfOk, OnOk};
 ghost use Rattle.partial_tree.specs.link_program.made_symbols.declared.mode.Mode.TheVariants.{Plain};
 ghost use Rattle.partial_tree.specs.link_program.name_entries.View.{InputsRise};
 ghost use Rattle.partial_tree.specs.link_program.link_rules.Program.{Program as Rules};
 ghost use Rattle.partial_tree.specs.link_program.Program.{IsProgramOf};
 ghost use Rattle.partial_tree.specs.partial_rules.Partial as partial;
 ghost use Rattle.partial_bytes.specs.Told.{info_told};
-ghost use Rattle.partial_items.specs.Owned.{object_at, segment_at};
-ghost use Rattle.partial_items.specs.Items.{info_for};
+ghost use Rattle.partial_items.specs.Owned.{object_at};
+ghost use Rattle.partial_items.specs.Items as told;
+ghost use Rattle.partial_items.specs.Items.{chunk_of};
 
-use crate::owned::{place_of, segment_in};
-use mark_bits::Chunk;
+use crate::owned::{owner_of, segment_in};
 use partial_bytes::InfoRow;
 use partial_tree::{Object, Program, Tables, part_at};
 use std::alloc::Global;
 use wl_base::{OutOfMemory, Seq};
 
-/// What is said of the segment of a chunk, where its object stands at a place.
-fn info_in<'a>(objects: &'a [Object], place: Option<usize>, chunk: Chunk) -> InfoRow<'a>
-    ensures { option_and_then (slice_get objects.now) place ≡ object_at objects.now chunk.input
-        → info_told result ≡ unwrap_or (option_map (λ g. g.info) (segment_at objects.now chunk)) no_info }
+/// What is said of the segment of a part's number, whose object stands at a place.
+fn info_for<'a>(
+    objects: &'a [Object],
+    place: Option<usize>,
+    tables: &Tables,
+    part: u32,
+) -> InfoRow<'a>
+    requires { option_and_then (slice_get objects.now) place ≡ object_at objects.now (chunk_of tables.now part).input }
+    ensures { info_told result ≡ told.info_for objects.now tables.now part }
 {
-    match segment_in(objects, place, chunk.index) {
+    match segment_in(objects, place, part_at(tables, part).chunk.index) {
         Some(segment) => InfoRow {
             name: segment.name,
             align: segment.align,
@@ -44,14 +48,13 @@ fn infos_in<'a>(
     segments: &[u32],
 ) -> Result<Seq<InfoRow<'a>>, OutOfMemory>
     requires { InputsRise 0 objects.now }
-    ensures { IfOk result (λ is. map info_told is ≡ map (info_for objects.now tables.now) segments.now) }
+    ensures { IfOk result (λ is. map info_told is ≡ map (told.info_for objects.now tables.now) segments.now) }
 {
     let mut rows = Seq::new(alloc);
     let mut near = 0;
     for part in segments {
-        let chunk = part_at(tables, *part).chunk;
-        let place = place_of(objects, near, chunk.input);
-        rows.push(info_in(objects, place, chunk))?;
+        let place = owner_of(objects, near, tables, *part);
+        rows.push(info_for(objects, place, tables, *part))?;
         near = place.unwrap_or(near);
     }
     Ok(rows)

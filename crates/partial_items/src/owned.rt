@@ -4,8 +4,9 @@ ghost use Rattle.std.specs.Prelude.{◌≡◌, true, slice_get, option_map, opti
 ghost use Rattle.partial_tree.specs.link_program.object_columns.Seen.{function_seen, segment_seen};
 ghost use Rattle.partial_tree.specs.link_program.name_entries.View.{InputsRise};
 ghost use Rattle.partial_items.specs.Owned.{object_at};
+ghost use Rattle.partial_items.specs.Items.{chunk_of};
 
-use partial_tree::{FunctionRef, GlobalDef, Object, SegmentRef};
+use partial_tree::{FunctionRef, GlobalDef, Object, SegmentRef, Tables, part_at};
 use wl_base::InputId;
 
 /// Where the object of an input stands.
@@ -38,7 +39,7 @@ fn is_at(objects: &[Object], place: usize, input: InputId) -> bool
 }
 
 /// Where the object of an input stands, which perhaps is this place.
-pub(crate) fn place_of(objects: &[Object], near: usize, input: InputId) -> Option<usize>
+fn place_of(objects: &[Object], near: usize, input: InputId) -> Option<usize>
     requires { InputsRise 0 objects.now }
     ensures { option_and_then (slice_get objects.now) result ≡ object_at objects.now input }
 {
@@ -46,6 +47,15 @@ pub(crate) fn place_of(objects: &[Object], near: usize, input: InputId) -> Optio
         return Some(near);
     }
     search(objects, input)
+}
+
+/// Where the object of a part stands, by the part's number.
+pub(crate) fn owner_of(objects: &[Object], near: usize, tables: &Tables, part: u32) -> Option<usize>
+    requires { InputsRise 0 objects.now }
+    ensures { option_and_then (slice_get objects.now) result ≡ object_at objects.now (chunk_of tables.now part).input }
+{
+    let part = part_at(tables, part);
+    place_of(objects, near, part.chunk.input)
 }
 
 /// The object at a place.

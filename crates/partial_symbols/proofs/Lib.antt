@@ -4,7 +4,7 @@ mod Cells
 pub mod Held
 mod Placed
 mod Sighted
-mod Named
+mod Flagged
 mod Stands
 pub mod Numbered
 pub mod Whole

@@ -1,6 +1,6 @@
 use Rattle.std.proofs.Common.{ap, ◌∙◌, filter_map}
 use Rattle.partial_items.specs.Items.{export_for}
-use Rattle.partial_items.proofs.Kinds.{exports_are}
+use Rattle.partial_items.proofs.Contents.{exports_are}
 use Rattle.partial_items.proofs.exports.exports_of.Goals as goal
 
 pub returns : goal.returns

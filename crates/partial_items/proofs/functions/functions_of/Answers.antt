@@ -1,5 +1,5 @@
 use Rattle.std.proofs.Common.{◌∙◌}
-use Rattle.partial_items.proofs.Kinds.{functions_are}
+use Rattle.partial_items.proofs.Contents.{functions_are}
 use Rattle.partial_items.proofs.functions.functions_of.Goals as goal
 
 pub returns : goal.returns

@@ -1,6 +1,6 @@
 use Rattle.std.proofs.Common.{ap, ◌∙◌, filter_map}
 use Rattle.partial_items.specs.Items.{global_for}
-use Rattle.partial_items.proofs.Kinds.{globals_are}
+use Rattle.partial_items.proofs.Contents.{globals_are}
 use Rattle.partial_items.proofs.globals.globals_of.Goals as goal
 
 pub returns : goal.returns

@@ -1,5 +1,5 @@
 use Rattle.std.proofs.Common.{◌∙◌}
-use Rattle.partial_items.proofs.Kinds.{infos_are}
+use Rattle.partial_items.proofs.Contents.{infos_are}
 use Rattle.partial_items.proofs.infos.infos_of.Goals as goal
 
 pub returns : goal.returns

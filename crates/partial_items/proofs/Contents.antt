@@ -66,14 +66,14 @@ is_function objects c x s = by (slice_get s.object.functions c.index) s.there
     by (Some f) is = (defined_type s.object f, sym (same_Some (function (defined_type s.object f)) x is))
 
 -- a segment
-info_is : (objects : List Object) (c : Chunk) (x : rules.Content) → Stands objects c 1 x → unwrap_or (option_map (λ (g : SegmentDef). g.info) (segment_at objects c)) no_info ≡ partial.content_info x
-info_is objects c x s =
+info_is : (p : Program) (objects : List Object) (c : Chunk) (x : rules.Content) → Stands objects c 1 x → unwrap_or (option_map (λ (g : SegmentDef). g.info) (segment_at objects c)) no_info ≡ partial.content_info p x
+info_is p objects c x s =
     ap (λ o. unwrap_or (option_map (λ (g : SegmentDef). g.info) (option_and_then (λ (o : Object). slice_get o.segments c.index) o)) no_info) s.found
     ∙ by (slice_get s.object.segments c.index) s.there
   where
-    by : (g : Option SegmentDef) → option_map (λ (g : SegmentDef). segment g.info) g ≡ Some x → unwrap_or (option_map (λ (g : SegmentDef). g.info) g) no_info ≡ partial.content_info x
+    by : (g : Option SegmentDef) → option_map (λ (g : SegmentDef). segment g.info) g ≡ Some x → unwrap_or (option_map (λ (g : SegmentDef). g.info) g) no_info ≡ partial.content_info p x
     by None is = absurd (none-some x is)
-    by (Some g) is = ap partial.content_info (same_Some (segment g.info) x is)
+    by (Some g) is = ap (partial.content_info p) (same_Some (segment g.info) x is)
 
 -- a global
 global_is : (p : Program) (c : Chunk) (x : rules.Content) → Stands p.objects c 2 x → option_map (spelled p.files c.input) (global_at p.objects c) ≡ partial.global_in p c.input x
@@ -142,15 +142,15 @@ module _ (d : Data) (p : Program) (is : IsProgramOf Plain d p) where
         ap (λ os. filter_map (global_for p.files os t) ns) is.objects
         ∙ founds_agree p.parts (IsKept 2) (global_for p.files p.objects t) (λ (part : Part). partial.global_in p part.chunk.input part.content) one_global ns (partial.kept p 2) same (all_kept p 2)
 
-    one_info : (n : ℕ) (part : Part) → slice_get p.parts n ≡ Some part → IsKept 1 part → info_for p.objects t n ≡ partial.content_info part.content
+    one_info : (n : ℕ) (part : Part) → slice_get p.parts n ≡ Some part → IsKept 1 part → info_for p.objects t n ≡ partial.content_info p part.content
     one_info n part at kept =
-        ap (λ (c : Chunk). unwrap_or (option_map (λ (g : SegmentDef). g.info) (segment_at p.objects c)) no_info) (chunk_is n part at) ∙ info_is p.objects part.chunk part.content (stands 1 n part at kept)
+        ap (λ (c : Chunk). unwrap_or (option_map (λ (g : SegmentDef). g.info) (segment_at p.objects c)) no_info) (chunk_is n part at) ∙ info_is p p.objects part.chunk part.content (stands 1 n part at kept)
 
     pub infos_are : (ns : List ℕ) → map (slice_get p.parts) ns ≡ map Some (partial.kept p 1) → map (info_for d.objects.now t) ns ≡ (relocatable p).infos
     unfolding relocatable
     infos_are ns same =
         ap (λ os. map (info_for os t) ns) is.objects
-        ∙ maps_agree p.parts (IsKept 1) (info_for p.objects t) (λ (part : Part). partial.content_info part.content) one_info ns (partial.kept p 1) same (all_kept p 1)
+        ∙ maps_agree p.parts (IsKept 1) (info_for p.objects t) (λ (part : Part). partial.content_info p part.content) one_info ns (partial.kept p 1) same (all_kept p 1)
 
   -- ---- exports
 
