@@ -23,6 +23,7 @@ SUBJECTS = (
     "bodies",
     "validity",
     "agreement",
+    "partial",
     "limits",
 )
 

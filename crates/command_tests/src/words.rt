@@ -70,6 +70,13 @@ fn words_at_fault_have_no_plan(rt: HostRuntime) {
         ("--start-lib a.o -o b", Usage::OpenGroup { at: 0 }),
         ("-- -x -o", Usage::NoOutput),
         ("--make-case=2 a.o", Usage::CaseAndInput),
+        ("-r -o b", Usage::NoInput),
+        ("a.o -r", Usage::NoOutput),
+        ("a.o -r=b", Usage::UnknownOption { at: 1 }),
+        ("a.o -r -o b -z stack-size=8", Usage::BadNumber { at: 4 }),
+        ("--make-case=2 -r a.o", Usage::CaseAndInput),
+        ("--make-case=2 -r", Usage::PartialClash),
+        ("-r --make-case=2 -o b", Usage::PartialClash),
     ] {
         assert!(rt; usage_of(rt.alloc(), line) == Some(usage));
     }
@@ -86,6 +93,20 @@ fn words_have_a_plan(rt: HostRuntime) -> Result<(), Fail> {
     assert!(rt; begins_with(&plan.exports, "f"));
     assert!(rt; begins_with(&plan.wanted, "g"));
     assert!(rt; plan.gc && plan.stack_size == 65_536 && plan.threads == 2);
+    assert!(rt; !plan.partial);
+    Ok(())
+}
+
+#[test]
+fn a_partial_link_has_a_plan(rt: HostRuntime) -> Result<(), Fail> {
+    let plan = plan_of(
+        rt.alloc(),
+        "-r a.o b.o --validate --keep-debug --export=f -o r.o -r",
+    )?;
+    assert!(rt; has_inputs(&plan, &[(1, false, false), (2, false, false)]));
+    assert!(rt; has_ends(&plan, "r.o", "_start"));
+    assert!(rt; begins_with(&plan.exports, "f"));
+    assert!(rt; plan.partial && plan.validate && plan.keep_debug);
     Ok(())
 }
 

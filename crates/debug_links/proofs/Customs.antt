@@ -5,10 +5,12 @@ use Rattle.std.specs.List.{AllByRecursion}
 use Rattle.list_places.specs.Has.{Has}
 use Rattle.object_file.specs.declared.object.Object.{Object}
 use Rattle.object_file.specs.wasm_module.Sections.{AreCustoms}
-use Rattle.valid_links.specs.link_runs.link_program.made_symbols.declared.mode.Mode.TheVariants.{Plain}
+use Rattle.valid_links.specs.link_runs.link_program.made_symbols.declared.mode.Mode.{Mode}
+use Rattle.valid_links.specs.link_runs.link_program.link_plan.declared.plan.Plan.{Plan}
 use Rattle.valid_links.specs.link_runs.link_program.round_rules.Rounds.{Candidate, load}
 use Rattle.valid_links.specs.link_runs.link_program.name_rules.Entries.{InputSymbol}
 use Rattle.valid_links.specs.link_runs.link_program.image_emit.Bytes.{file_part}
+use Rattle.valid_links.specs.link_runs.link_program.link_rules.ModeOf.{mode_of}
 use Rattle.valid_links.specs.link_runs.link_program.link_rules.Candidates.{candidates_of}
 use Rattle.valid_links.specs.link_runs.link_program.link_rules.Program.{Program, Part, program_of, span_in}
 use Rattle.valid_links.specs.link_runs.link_program.link_rules.Marks.{exported, live}
@@ -54,20 +56,25 @@ module _ (named : ObjectsAreNamed) (files : List (List ℕ)) (all : List Candida
 no_customs : AreCustoms []
 no_customs = (0, refl)
 
-laid_customs : JoinedAreCustoms → (p : Program) (all : List Candidate) (exports : List InputSymbol) (parts : List Part) (len : ℕ) (tail : List ℕ)
-    → AreNamed (link_inputs p.files all p.objects) → laid_tail Plain p all exports parts len ≡ Ok tail → AreCustoms tail
-unfolding laid_tail
-laid_customs joined p all exports parts len tail named e = by p.plan.keep_debug e
-  where
-    by : (q : Bool) → (if q then live_tail Plain p all parts exports len else Ok []) ≡ Ok tail → AreCustoms tail
-    by true e = joined len (link_inputs p.files all p.objects) (link_places Plain p parts exports (layout Plain p parts exports)) tail named e
-    by false e = subst AreCustoms (ok_is e) no_customs
+module _ (mode : Mode) where
+  laid_customs : JoinedAreCustoms → (p : Program) (all : List Candidate) (exports : List InputSymbol) (parts : List Part) (len : ℕ) (tail : List ℕ)
+      → AreNamed (link_inputs p.files all p.objects) → laid_tail mode p all exports parts len ≡ Ok tail → AreCustoms tail
+  unfolding laid_tail
+  laid_customs joined p all exports parts len tail named e = by p.plan.keep_debug e
+    where
+      by : (q : Bool) → (if q then live_tail mode p all parts exports len else Ok []) ≡ Ok tail → AreCustoms tail
+      by true e = joined len (link_inputs p.files all p.objects) (link_places mode p parts exports (layout mode p parts exports)) tail named e
+      by false e = subst AreCustoms (ok_is e) no_customs
+
+  customs_by : ObjectsAreNamed → JoinedAreCustoms → (plan : Plan) (files : List (List ℕ)) (len : ℕ) (tail : List ℕ) → debug_tail_by mode the_readers plan files len ≡ Ok tail → AreCustoms tail
+  unfolding debug_tail_by program_tail program_of link_inputs
+  customs_by named joined plan files len tail e =
+      let a = bind_ok (candidates_of the_readers plan files) _ tail e in
+      let b = bind_ok (load mode (asked_names plan) a.0) _ tail a.2 in
+      let p = program_of mode plan files a.0 b.0 in
+      let are : AreNamed (link_inputs files a.0 b.0) = inputs_named named files a.0 b.0 (loaded_read files plan a.0 b.0 a.1 mode (asked_names plan) b.1) in
+      laid_customs joined p a.0 (exported mode p) (live p (exported mode p)) len tail are b.2
 
 pub tail_customs : ObjectsAreNamed → JoinedAreCustoms → TailIsCustoms
-unfolding debug_tail debug_tail_by program_tail program_of link_inputs
-tail_customs named joined plan files len tail e =
-    let a = bind_ok (candidates_of the_readers plan files) _ tail e in
-    let b = bind_ok (load Plain (asked_names plan) a.0) _ tail a.2 in
-    let p = program_of Plain plan files a.0 b.0 in
-    let are : AreNamed (link_inputs files a.0 b.0) = inputs_named named files a.0 b.0 (loaded_read files plan a.0 b.0 a.1 Plain (asked_names plan) b.1) in
-    laid_customs joined p a.0 (exported Plain p) (live p (exported Plain p)) len tail are b.2
+unfolding debug_tail
+tail_customs named joined plan files len tail e = customs_by (mode_of plan) named joined plan files len tail e

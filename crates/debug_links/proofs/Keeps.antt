@@ -8,9 +8,10 @@ use Rattle.object_file.specs.wasm_module.declared.structure.Module.{Module}
 use Rattle.object_file.specs.wasm_module.Modules.{IsModule}
 use Rattle.object_file.specs.wasm_module.Sections.{AreCustoms}
 use Rattle.module_tails.specs.Tails.{CustomsSayNothing}
-use Rattle.valid_links.specs.link_runs.link_program.made_symbols.declared.mode.Mode.TheVariants.{Plain}
+use Rattle.valid_links.specs.link_runs.link_program.made_symbols.declared.mode.Mode.{Mode}
 use Rattle.valid_links.specs.link_runs.link_program.link_plan.declared.plan.Plan.{Plan}
 use Rattle.valid_links.specs.link_runs.link_program.round_rules.Rounds.{Candidate, load}
+use Rattle.valid_links.specs.link_runs.link_program.link_rules.ModeOf.{mode_of}
 use Rattle.valid_links.specs.link_runs.link_program.link_rules.Candidates.{candidates_of}
 use Rattle.valid_links.specs.link_runs.link_program.link_rules.Program.{program_of}
 use Rattle.valid_links.specs.link_runs.link_program.link_rules.LinkOf.{asked_names, the_readers, link_program, link_by, link_of}
@@ -66,27 +67,35 @@ runs_law tails run plan files bytes whole r e =
 
 -- ---- without the word
 
--- what a link that gives bytes found and loaded
-pub loads_of : (plan : Plan) (files : List (List ℕ)) (bytes : List ℕ) → link_of plan files ≡ Ok bytes
-    → (all : List Candidate) × (objects : List Object) × (candidates_of the_readers plan files ≡ Ok all) × (load Plain (asked_names plan) all ≡ Ok objects)
-unfolding link_of link_by
-loads_of plan files bytes e =
-    let a = bind_ok (candidates_of the_readers plan files) (λ all. load Plain (asked_names plan) all >>= λ objects. link_program Plain (program_of Plain plan files all objects)) bytes e in
-    let b = bind_ok (load Plain (asked_names plan) a.0) (λ objects. link_program Plain (program_of Plain plan files a.0 objects)) bytes a.2 in
-    (a.0, b.0, a.1, b.1)
+module _ (mode : Mode) (plan : Plan) (files : List (List ℕ)) where
+  -- what a link that gives bytes found and loaded
+  pub loads_of : (bytes : List ℕ) → link_by mode the_readers plan files ≡ Ok bytes
+      → (all : List Candidate) × (objects : List Object) × (candidates_of the_readers plan files ≡ Ok all) × (load mode (asked_names plan) all ≡ Ok objects)
+  unfolding link_by
+  loads_of bytes e =
+      let a = bind_ok (candidates_of the_readers plan files) (λ all. load mode (asked_names plan) all >>= λ objects. link_program mode (program_of mode plan files all objects)) bytes e in
+      let b = bind_ok (load mode (asked_names plan) a.0) (λ objects. link_program mode (program_of mode plan files a.0 objects)) bytes a.2 in
+      (a.0, b.0, a.1, b.1)
 
--- of what was found and loaded
-pub tail_by : (plan : Plan) (files : List (List ℕ)) (all : List Candidate) (objects : List Object) (len : ℕ) → candidates_of the_readers plan files ≡ Ok all → load Plain (asked_names plan) all ≡ Ok objects
-    → debug_tail plan files len ≡ program_tail Plain (program_of Plain plan files all objects) all len
-unfolding debug_tail debug_tail_by
-tail_by plan files all objects len found loaded = rw (found, loaded) refl
+  -- of what was found and loaded
+  pub tail_by : (all : List Candidate) (objects : List Object) (len : ℕ) → candidates_of the_readers plan files ≡ Ok all → load mode (asked_names plan) all ≡ Ok objects
+      → debug_tail_by mode the_readers plan files len ≡ program_tail mode (program_of mode plan files all objects) all len
+  unfolding debug_tail_by
+  tail_by all objects len found loaded = rw (found, loaded) refl
 
-no_tail : (plan : Plan) (files : List (List ℕ)) (all : List Candidate) (objects : List Object) (len : ℕ) → plan.keep_debug ≡ false → program_tail Plain (program_of Plain plan files all objects) all len ≡ Ok []
-unfolding program_tail laid_tail program_of
-no_tail plan files all objects len off = rw off refl
+  no_tail : (all : List Candidate) (objects : List Object) (len : ℕ) → plan.keep_debug ≡ false → program_tail mode (program_of mode plan files all objects) all len ≡ Ok []
+  unfolding program_tail laid_tail program_of
+  no_tail all objects len off = rw off refl
+
+  no_tail_by : (bytes : List ℕ) (len : ℕ) → plan.keep_debug ≡ false → link_by mode the_readers plan files ≡ Ok bytes → debug_tail_by mode the_readers plan files len ≡ Ok []
+  no_tail_by bytes len off e =
+      let l = loads_of bytes e in
+      tail_by l.0 l.1 len l.2 l.3 ∙ no_tail l.0 l.1 len off
+
+none_behind : (plan : Plan) (files : List (List ℕ)) (bytes : List ℕ) → plan.keep_debug ≡ false → link_of plan files ≡ Ok bytes → debug_tail plan files (length bytes) ≡ Ok []
+unfolding link_of debug_tail
+none_behind plan files bytes off e = no_tail_by (mode_of plan) plan files bytes (length bytes) off e
 
 pub word_law : NoWord
 word_law plan files bytes off e =
-    let l = loads_of plan files bytes e in
-    let none = tail_by plan files l.0 l.1 (length bytes) l.2 l.3 ∙ no_tail plan files l.0 l.1 (length bytes) off in
-    ap (λ (r : Result (List ℕ) Fault). r >>= λ tail. (let y : Result (List ℕ) Fault = Ok (bytes ++ tail) in y)) none ∙ ap Ok (append-nil bytes)
+    ap (λ (r : Result (List ℕ) Fault). r >>= λ tail. (let y : Result (List ℕ) Fault = Ok (bytes ++ tail) in y)) (none_behind plan files bytes off e) ∙ ap Ok (append-nil bytes)

@@ -21,7 +21,7 @@ use Rattle.valid_links.specs.link_runs.link_program.name_rules.Cases.{clash_by}
 use Rattle.valid_links.specs.link_runs.link_program.link_rules.Candidates.{candidates_of}
 use Rattle.valid_links.specs.link_runs.link_program.link_rules.Program.{Program, Part, program_of}
 use Rattle.valid_links.specs.link_runs.link_program.link_rules.Marks.{exported, live}
-use Rattle.valid_links.specs.link_runs.link_program.link_rules.LinkOf.{asked_names, the_readers, link_of}
+use Rattle.valid_links.specs.link_runs.link_program.link_rules.LinkOf.{asked_names, the_readers, link_by, plain_link}
 use Rattle.valid_links.specs.link_runs.link_program.Loaded.{home_of}
 use Rattle.valid_links.specs.link_runs.link_inputs.Loaded.{LoadedAreSound}
 use Rattle.valid_links.specs.link_runs.link_facts.Facts.{IsFrom, Facts, FactsHold, bytes_of}
@@ -33,7 +33,7 @@ use Rattle.debug_customs.specs.debug_rules.Faults.{Debug, debugs}
 use Rattle.debug_customs.specs.debug_rules.Joined.{Places, place_at, tail_of, joined}
 use Rattle.debug_tails.specs.link_debug.Places.{body_place, link_inputs, link_places}
 use Rattle.debug_tails.specs.link_debug.Offsets.{AreCoded, own_part, IsSameFrom, OffsetsName, DroppedHaveNone, LiveHavePlaces}
-use Rattle.debug_tails.specs.Tails.{live_tail, laid_tail, program_tail}
+use Rattle.debug_tails.specs.Tails.{live_tail, laid_tail, program_tail, plain_tail}
 use Rattle.debug_out.proofs.Stands.{all_stand}
 use Rattle.debug_links.specs.Offsets.{Tells, OffsetsStay}
 use Rattle.debug_links.proofs.Candidates.{bind_ok, unless_ok, IsRead, loaded_read}
@@ -90,7 +90,7 @@ module _ (spell_law : (input : ℕ) (bytes : List ℕ) (object : Object) → IsO
   unfolding program_of
   facts_of clear = facts plan files all objects (map home_of all) (record { loaded = (loads Plain plan files (asked_names plan) all objects long found loaded).1; each = from; constants = begins_constant }) clear
 
-  pub coded : link_of plan files ≡ Ok bytes → AreCoded p x
+  pub coded : link_by Plain the_readers plan files ≡ Ok bytes → AreCoded p x
   coded e =
       let f = facts_of (is_linked p bytes (is_link plan files bytes all objects found loaded e)).0 in
       record { sound = f.sound; coded = λ part h. f.coded part (live_part p x part h) }
@@ -164,14 +164,15 @@ unfolding program_of
 joined_of plan files all objects len tail asked e = laid (program_of Plain plan files all objects) all (exported Plain (program_of Plain plan files all objects)) len tail asked e
 
 pub offsets_law : ((input : ℕ) (bytes : List ℕ) (object : Object) → IsObject input bytes object → IsSpellable object) → LoadedAreSound → FactsHold → OffsetsName → DroppedHaveNone → LiveHavePlaces → OffsetsStay
-offsets_law spell loads facts name dropped placed plan files bytes whole long asked e w =
-    let l = loads_of plan files bytes e in
+offsets_law spell loads facts name dropped placed plan files bytes whole long plain asked given w =
+    let e = sym (plain_link plan files plain) ∙ given in
+    let l = loads_of Plain plan files bytes e in
     let all = l.0 in
     let objects = l.1 in
     let p = program_of Plain plan files all objects in
     let x = exported Plain p in
     let t = tail_behind plan files bytes whole w in
-    let told = sym (tail_by plan files all objects (length bytes) l.2 l.3) ∙ t.1 in
+    let told = sym (plain_tail plan files (length bytes) plain ∙ tail_by Plain plan files all objects (length bytes) l.2 l.3) ∙ t.1 in
     let j = joined_is (length bytes) (link_inputs files all objects) (places spell loads facts plan files bytes all objects long l.2 l.3) t.0 (joined_of plan files all objects (length bytes) t.0 asked told) in
     let are = coded spell loads facts plan files bytes all objects long l.2 l.3 e in
     let is : bytes ++ tail_of j.0 (places spell loads facts plan files bytes all objects long l.2 l.3) ≡ whole = ap (λ z. bytes ++ z) j.2 ∙ t.2 in

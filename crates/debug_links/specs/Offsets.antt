@@ -9,6 +9,7 @@ use Rattle.valid_links.specs.link_runs.link_program.made_symbols.declared.mode.M
 use Rattle.valid_links.specs.link_runs.link_program.link_plan.declared.plan.Plan.{Plan}
 use Rattle.valid_links.specs.link_runs.link_program.round_rules.Rounds.{Candidate, load}
 use Rattle.valid_links.specs.link_runs.link_program.name_rules.Entries.{InputSymbol, symbols_of}
+use Rattle.valid_links.specs.link_runs.link_program.link_rules.ModeOf.{IsPlain}
 use Rattle.valid_links.specs.link_runs.link_program.link_rules.Candidates.{candidates_of}
 use Rattle.valid_links.specs.link_runs.link_program.link_rules.Program.{Program, Part, program_of}
 use Rattle.valid_links.specs.link_runs.link_program.link_rules.Marks.{exported, live}
@@ -67,6 +68,7 @@ pub record OffsetsKept (plan : Plan) (files : List (List ℕ)) (bytes whole : Li
       → (o : Object) × (e : InputSymbol) × (slice_get objects d.object ≡ Some o) × (slice_get (symbols_of objects o) r.index ≡ Some e)
       × (let p = program_of Plain plan files all objects in Tells p (exported Plain p) bytes whole sections d r (own_part p (exported Plain p) e))
 
+-- So it is of a plain output.
 abbrev pub OffsetsStay : Type 0
-OffsetsStay = (plan : Plan) (files : List (List ℕ)) (bytes whole : List ℕ) → length files ≡ unwrap_or plan.make_case (length plan.inputs)
+OffsetsStay = (plan : Plan) (files : List (List ℕ)) (bytes whole : List ℕ) → length files ≡ unwrap_or plan.make_case (length plan.inputs) → IsPlain plan
     → plan.keep_debug ≡ true → link_of plan files ≡ Ok bytes → with_debug plan files bytes ≡ Ok whole → OffsetsKept plan files bytes whole

@@ -49,9 +49,9 @@ pub fn no_word()
     ensures { NoWord }
 {}
 
-/// Each window for a place in a function (FUNCTION_OFFSET_I32) in the debug sections of the loaded objects:
-/// where the function that the symbol's own object defines is live, the four bytes of the window in the
-/// output name the same instruction of it; where it isn't, they hold the dead word.
+/// Each window for a place in a function (FUNCTION_OFFSET_I32) in the debug sections of the loaded objects,
+/// where the plan isn't shared: where the function that the symbol's own object defines is live, the four
+/// bytes of the window in the output name the same instruction of it; where it isn't, they hold the dead word.
 pub fn offsets_stay()
     ensures { OffsetsStay }
 {

@@ -1,12 +1,14 @@
 -- The debug sections behind the output of a link (Linking.md, "Relocation Sections"; Core 5.5.3).
-use Rattle.std.specs.Prelude.{ℕ, List, [], ◌++◌, length, if◌then◌else◌, Result, Ok}
+use Rattle.std.specs.Prelude.{◌≡◌, ℕ, List, [], ◌++◌, length, if◌then◌else◌, Result, Ok}
+use Rattle.std.proofs.Common.{ap}
 use Rattle.wl_base.specs.Choice.{◌>>=◌}
 use Rattle.wl_base.specs.declared.fault.Fault.{Fault}
 use Rattle.made_symbols.specs.declared.mode.Mode.{Mode}
+use Rattle.made_symbols.specs.declared.mode.Mode.TheVariants.{Plain}
 use Rattle.round_rules.specs.Rounds.{Candidate, load}
 use Rattle.name_rules.specs.Entries.{InputSymbol}
 use Rattle.link_plan.specs.declared.plan.Plan.{Plan}
-use Rattle.link_rules.specs.ModeOf.{mode_of}
+use Rattle.link_rules.specs.ModeOf.{mode_of, IsPlain, plain_mode}
 use Rattle.link_rules.specs.Candidates.{Readers, candidates_of}
 use Rattle.link_rules.specs.Program.{Program, Part, program_of}
 use Rattle.link_rules.specs.Marks.{exported, live}
@@ -46,6 +48,11 @@ debug_tail_by mode readers plan files len = do
 -- What stands behind an output of so many bytes.
 unfoldable pub debug_tail : Plan → List (List ℕ) → ℕ → Result (List ℕ) Fault
 debug_tail plan files len = debug_tail_by (mode_of plan) the_readers plan files len
+
+-- What stands behind a plain output.
+pub plain_tail : (plan : Plan) (files : List (List ℕ)) (len : ℕ) → IsPlain plan → debug_tail plan files len ≡ debug_tail_by Plain the_readers plan files len
+unfolding debug_tail
+plain_tail plan files len plain = ap (λ mode. debug_tail_by mode the_readers plan files len) (plain_mode plan plain)
 
 -- An output with its debug sections.
 abbrev pub with_debug : Plan → List (List ℕ) → List ℕ → Result (List ℕ) Fault

@@ -10,4 +10,5 @@ mod outcome;
 mod saying;
 
 pub use driving::drive;
+pub use link_command::link_command;
 pub use outcome::Outcome;

@@ -33,6 +33,7 @@ Usage:
                              the memory and what stands where in it
   --whole-archive, --no-whole-archive, --start-lib, --end-lib
                              how what follows is loaded
+  -r, --relocatable          write one object in place of a module
   -s, --strip-all, -S, --strip-debug
                              leave out the debug sections, which else are kept
   --threads=N                so many workers, by default 4

@@ -5,7 +5,7 @@ use Rattle.std.specs.Option.{option_or}
 use Rattle.std.specs.Str.{bytes_eq}
 use Rattle.wl_base.specs.Choice.{given}
 use Rattle.driver_table.specs.declared.meaning.Meaning.{Meaning}
-use Rattle.driver_table.specs.declared.meaning.Meaning.TheVariants.{Input, Library, Entry, NoEntry, ImportMemory, ImportMemoryAs, ExportMemory, ExportMemoryAs, AllowUndefined, ImportUndefined, Unresolved, StackFirst, NoStackFirst, GlobalBase, StackSize, InitialMemory, MaxMemory, NoGrowableMemory, Threads, FatalWarnings, NoFatalWarnings, Strip}
+use Rattle.driver_table.specs.declared.meaning.Meaning.TheVariants.{Input, Library, Entry, NoEntry, ImportMemory, ImportMemoryAs, ExportMemory, ExportMemoryAs, AllowUndefined, ImportUndefined, Unresolved, StackFirst, NoStackFirst, GlobalBase, StackSize, InitialMemory, MaxMemory, NoGrowableMemory, Threads, FatalWarnings, NoFatalWarnings, Relocatable, Strip}
 use Rattle.driver_table.specs.Meanings.{same}
 use Rattle.driver_table.specs.Items.{Said}
 use Rattle.driver_table.specs.Texts.{line}
@@ -82,6 +82,10 @@ threads items = min (number Threads items) 64
 
 abbrev pub has_input : List Said → Bool
 has_input items = has Input items || has Library items
+
+-- one object is written in place of a module
+abbrev pub is_partial : List Said → Bool
+is_partial items = has Relocatable items
 
 -- debug sections are kept, as LLVM's wasm-ld keeps them, unless a word strips them
 abbrev pub keeps_debug : List Said → Bool

@@ -1,19 +1,32 @@
 -- What all words together lack, the first alone: the line that refuses them.
-use Rattle.std.specs.Prelude.{ℕ, ◌-◌, ◌%◌, ◌^◌, Bool, not, ◌&&◌, ◌||◌, ◌==◌, List, [], ◌∷◌, length, nat_lt, unwrap_or, is_some, Option, Some, None, codes}
+use Rattle.std.specs.Prelude.{ℕ, ◌-◌, ◌%◌, ◌^◌, Bool, false, not, ◌&&◌, ◌||◌, ◌==◌, List, [], ◌∷◌, length, nat_lt, if◌then◌else◌, unwrap_or, is_some, Option, Some, None, codes}
 use Rattle.std.specs.Option.{option_or}
 use Rattle.std.specs.Str.{bytes_eq}
 use Rattle.wl_base.specs.Choice.{first_some, given}
-use Rattle.driver_table.specs.declared.meaning.Meaning.TheVariants.{Output, GlobalBase, InitialMemory, MaxMemory, StackSize, NoGrowableMemory}
+use Rattle.driver_table.specs.declared.meaning.Meaning.TheVariants.{Output, GlobalBase, InitialMemory, MaxMemory, StackSize, NoGrowableMemory, Entry, NoEntry, ExportTable, GcSections, NoGcSections, Undefined}
 use Rattle.driver_table.specs.Items.{Said}
 use Rattle.driver_table.specs.Texts.{line}
 use Rattle.driver_table.specs.Numbers.{amount}
-use Rattle.driver_fields.specs.Fields.{has, text, number, imported, exported, stack_first, stack_size, has_input}
+use Rattle.driver_fields.specs.Fields.{has, is_on, text, number, imported, exported, stack_first, stack_size, has_input, is_partial}
 
 abbrev pub output_fault : Option (List ℕ) → Option (List ℕ)
 output_fault None = Some (line (codes "no output file specified") [] [] [])
 output_fault (Some name) =
     option_or (given (length name == 0) (line (codes "no output file specified") [] [] []))
     (given (bytes_eq name (codes "-")) (line (codes "-o - is not supported") [] [] []))
+
+-- What an object in place of a module can't have, as wasm-ld has it: an entry, or what is given to a module alone. No entry, and all parts, are
+-- what it has anyway.
+unfoldable pub beside_partial : List Said → Option (List ℕ)
+beside_partial items = first_some (
+    given (has ExportTable items) (line (codes "--relocatable is incompatible with --export-table") [] [] [])
+    ∷ given (is_on Entry NoEntry false items) (line (codes "entry point specified for relocatable output file") [] [] [])
+    ∷ given (is_on GcSections NoGcSections false items) (line (codes "-r and --gc-sections may not be used together") [] [] [])
+    ∷ given (has Undefined items) (line (codes "-r and --undefined may not be used together") [] [] [])
+    ∷ [])
+
+unfoldable pub partial_fault : List Said → Option (List ℕ)
+partial_fault items = if is_partial items then beside_partial items else None
 
 -- the memory is env.memory where it is imported, and memory where it is exported
 abbrev pub import_fault : Option (List ℕ) → Option (List ℕ)
@@ -55,6 +68,7 @@ within_stack items = stack_first items && not (number GlobalBase items == 0) && 
 unfoldable pub lacking : List Said → Option (List ℕ)
 lacking items = first_some (
     output_fault (text Output items)
+    ∷ partial_fault items
     ∷ memory_fault items
     ∷ ranges_fault items
     ∷ given (within_stack items) (line (codes "--global-base cannot be less than stack size when --stack-first is used") [] [] [])

@@ -1,4 +1,5 @@
--- The linker's own words, but for the inputs: the output, the entry, names, switches, numbers and what becomes of debug sections, in this order.
+-- The linker's own words, but for the inputs: the output, the entry, names, switches, numbers, and what is written: an object or a module,
+-- and whether with debug sections, in this order.
 use Rattle.std.specs.Prelude.{ℕ, Bool, true, false, not, ◌&&◌, ◌==◌, List, [], ◌∷◌, ◌++◌, if◌then◌else◌, is_some, Option, Some, None, codes, decimal, option_to_list}
 use Rattle.std.specs.List.{flat_map, filter_map}
 use Rattle.std.specs.Str.{bytes_eq}
@@ -6,7 +7,7 @@ use Rattle.driver_table.specs.declared.meaning.Meaning.TheVariants.{Output, Expo
 use Rattle.driver_table.specs.Meanings.{same}
 use Rattle.driver_table.specs.Items.{Said}
 use Rattle.driver_table.specs.Texts.{line}
-use Rattle.driver_fields.specs.Fields.{has, is_on, text, number, entry, imported, allows_undefined, lenient, stack_first, stack_size, max_memory, threads, keeps_debug}
+use Rattle.driver_fields.specs.Fields.{has, is_on, text, number, entry, imported, allows_undefined, lenient, stack_first, stack_size, max_memory, threads, is_partial, keeps_debug}
 
 -- the words that are there only where the test holds
 abbrev pub when : Bool → List (List ℕ) → List (List ℕ)
@@ -74,12 +75,16 @@ abbrev pub output_words : Option (List ℕ) → List (List ℕ)
 output_words None = []
 output_words (Some name) = codes "-o" ∷ name ∷ []
 
+-- the word of a partial link. Of the words before it the output alone then has an effect.
+abbrev pub partial_words : List Said → List (List ℕ)
+partial_words items = when (is_partial items) (codes "-r" ∷ [])
+
 -- the word that keeps debug sections
 abbrev pub debug_words : List Said → List (List ℕ)
 debug_words items = when (keeps_debug items) (codes "--keep-debug" ∷ [])
 
 unfoldable pub own_words : List Said → List (List ℕ)
-own_words items = ((((output_words (text Output items) ++ option_to_list (entry items)) ++ name_words items) ++ switch_words items) ++ number_words items) ++ debug_words items
+own_words items = (((((output_words (text Output items) ++ option_to_list (entry items)) ++ name_words items) ++ switch_words items) ++ number_words items) ++ partial_words items) ++ debug_words items
 
 -- what is told of items that ask for something that isn't made
 abbrev pub warning : Said → Option (List ℕ)

@@ -2,11 +2,11 @@
 ghost use Rattle.std.specs.Prelude.{◌≡◌, ◌++◌, ◌∷◌, [], OnOk, IfOk, option_to_list};
 ghost use Rattle.std.specs.Option.{option_map};
 ghost use Rattle.std.specs.List.{flat_map};
-ghost use Rattle.driver_fields.specs.Own.{when, wanted, exported_if, undefined_words, export_of, export_words, export_if_words, name_words, name_switches as name_switches_of, memory_switches as memory_switches_of, switch_words, numbered, stack_words as stack_words_of, memory_numbers as memory_numbers_of, number_words, debug_words, output_words, own_words as own_words_of, warning as warning_of, warnings as warnings_of};
+ghost use Rattle.driver_fields.specs.Own.{when, wanted, exported_if, undefined_words, export_of, export_words, export_if_words, name_words, name_switches as name_switches_of, memory_switches as memory_switches_of, switch_words, numbered, stack_words as stack_words_of, memory_numbers as memory_numbers_of, number_words, partial_words, debug_words, output_words, own_words as own_words_of, warning as warning_of, warnings as warnings_of};
 
 use crate::fields::{
-    allows_undefined, entry, has, imports_memory, is_on, keeps_debug, lenient, max_memory, number,
-    stack_first, stack_size, text, threads,
+    allows_undefined, entry, has, imports_memory, is_on, is_partial, keeps_debug, lenient,
+    max_memory, number, stack_first, stack_size, text, threads,
 };
 use driver_table::{Item, Line, Meaning};
 use std::alloc::Global;
@@ -28,6 +28,7 @@ pub fn own_words(alloc: Global, items: &[Item<'_>]) -> Result<Seq<Text>, OutOfMe
     add_names(alloc, items, &mut words)?;
     add_switches(alloc, items, &mut words)?;
     add_numbers(alloc, items, &mut words)?;
+    add_partial(alloc, items, &mut words)?;
     add_debug(alloc, items, &mut words)?;
     Ok(words)
 }
@@ -236,6 +237,13 @@ fn add_numbers(alloc: Global, items: &[Item<'_>], words: &mut Seq<Text>) -> Resu
     add_number(alloc, "--threads=", threads(items), words)?;
     add_stack(alloc, stack_size(items), words)?;
     Ok(())
+}
+
+// The word of a partial link.
+fn add_partial(alloc: Global, items: &[Item<'_>], words: &mut Seq<Text>) -> Result<(), OutOfMemory>
+    ensures { OnOk result (words.new ≡ words.old ++ partial_words items.now) }
+{
+    add_when(alloc, is_partial(items), "-r", words)
 }
 
 // The word that keeps debug sections.

@@ -1,9 +1,11 @@
 //! What all words together lack. Faults are looked for in one fixed order, and the first is told.
 ghost use Rattle.std.specs.Prelude.{◌≡◌, ◌<◌};
 ghost use Rattle.std.specs.Option.{option_map};
-ghost use Rattle.driver_fields.specs.Lacking.{output_fault as output_fault_of, import_fault as import_fault_of, export_fault as export_fault_of, memory_fault as memory_fault_of, range_fault as range_fault_of, ranges_fault as ranges_fault_of, within_stack as within_stack_of, lacking as lacking_of};
+ghost use Rattle.driver_fields.specs.Lacking.{output_fault as output_fault_of, beside_partial as beside_partial_of, partial_fault as partial_fault_of, import_fault as import_fault_of, export_fault as export_fault_of, memory_fault as memory_fault_of, range_fault as range_fault_of, ranges_fault as ranges_fault_of, within_stack as within_stack_of, lacking as lacking_of};
 
-use crate::fields::{exported, has, has_input, imported, number, stack_first, stack_size, text};
+use crate::fields::{
+    exported, has, has_input, imported, is_on, is_partial, number, stack_first, stack_size, text,
+};
 use driver_table::{Item, Line, Meaning, amount};
 
 /// The line that refuses what all words together lack, the first alone.
@@ -12,6 +14,9 @@ pub fn lacking<'a>(items: &[Item<'a>]) -> Option<Line<'a>>
     ensures { result ≡ lacking_of items.now }
 {
     if let Some(line) = output_fault(text(items, Meaning::Output)) {
+        return Some(line);
+    }
+    if let Some(line) = partial_fault(items) {
         return Some(line);
     }
     if let Some(line) = memory_fault(items) {
@@ -45,6 +50,46 @@ fn output_fault(name: Option<&str>) -> Option<Line<'_>>
     }
     if name == "-" {
         return Some(Line::new("-o - is not supported", "", "", ""));
+    }
+    None
+}
+
+// What an object in place of a module can't have.
+#[tactic(auto, unfolding(crate::specs::Lacking::beside_partial))]
+fn beside_partial<'a>(items: &[Item<'a>]) -> Option<Line<'a>>
+    ensures { result ≡ beside_partial_of items.now }
+{
+    if has(items, Meaning::ExportTable) {
+        return Some(Line::new(
+            "--relocatable is incompatible with --export-table",
+            "",
+            "",
+            "",
+        ));
+    }
+    if is_on(items, Meaning::Entry, Meaning::NoEntry, false) {
+        return Some(Line::new(
+            "entry point specified for relocatable output file",
+            "",
+            "",
+            "",
+        ));
+    }
+    if is_on(items, Meaning::GcSections, Meaning::NoGcSections, false) {
+        return Some(Line::new("-r and --gc-sections may not be used together", "", "", ""));
+    }
+    if has(items, Meaning::Undefined) {
+        return Some(Line::new("-r and --undefined may not be used together", "", "", ""));
+    }
+    None
+}
+
+#[tactic(auto, unfolding(crate::specs::Lacking::partial_fault))]
+fn partial_fault<'a>(items: &[Item<'a>]) -> Option<Line<'a>>
+    ensures { result ≡ partial_fault_of items.now }
+{
+    if is_partial(items) {
+        return beside_partial(items);
     }
     None
 }

@@ -19,10 +19,10 @@ use Rattle.driver_table.specs.Meanings.{same}
 use Rattle.driver_table.specs.Items.{Said}
 use Rattle.driver_table.specs.Texts.{line}
 use Rattle.driver_table.specs.Numbers.{amount}
-use Rattle.driver_fields.specs.Fields.{has, is_on, saying, latest, text, number, entry_said, entry, imported, allows_undefined, lenient, stack_first, stack_size, max_memory, threads, has_input, keeps_debug}
+use Rattle.driver_fields.specs.Fields.{has, is_on, saying, latest, text, number, entry_said, entry, imported, allows_undefined, lenient, stack_first, stack_size, max_memory, threads, has_input, is_partial, keeps_debug}
 use Rattle.driver_fields.specs.Own.{wanted, exported_if, undefined_words, export_of, export_words, export_if_words, name_words, name_switches, memory_switches, switch_words, numbered, stack_words, memory_numbers, number_words, output_words, own_words}
-use Rattle.driver_fields.specs.Lacking.{output_fault, memory_fault, range_fault, ranges_fault, within_stack, lacking}
-use Rattle.driver_laws.proofs.Pieces.{is_quiet, AreOptions, none, both, when_so, each, flag, next_text, next_text_has, long_text, long_number, next_size, HaveKind, and_more, Keep, and_debug}
+use Rattle.driver_fields.specs.Lacking.{output_fault, partial_fault, memory_fault, range_fault, ranges_fault, within_stack, lacking}
+use Rattle.driver_laws.proofs.Pieces.{is_quiet, AreOptions, none, both, when_so, each, flag, next_text, next_text_has, long_text, long_number, next_size, HaveKind, and_more, Ask, and_ask}
 use Rattle.driver_laws.proofs.Numbers.{number_in_range}
 
 -- ---- faults that don't apply
@@ -284,22 +284,23 @@ Stands items = (output_fault (text Output items) ≡ None) × (ranges_fault item
 stands : (items : List Said) → lacking items ≡ None → Stands items
 unfolding lacking
 stands items e =
-    five (output_fault (text Output items)) (memory_fault items) (ranges_fault items)
+    six (output_fault (text Output items)) (partial_fault items) (memory_fault items) (ranges_fault items)
     (given (within_stack items) (line (codes "--global-base cannot be less than stack size when --stack-first is used") [] [] [])) (given (not (has_input items)) (line (codes "no input files") [] [] [])) e
   where
-    five : (a b c d f : Option (List ℕ)) → first_some (a ∷ b ∷ c ∷ d ∷ f ∷ []) ≡ None → (a ≡ None) × (c ≡ None)
-    five None None None d f e = (refl, refl)
-    five (Some line) b c d f e = absurd cc
-    five None (Some line) c d f e = absurd cc
-    five None None (Some line) d f e = absurd cc
+    six : (a p b c d f : Option (List ℕ)) → first_some (a ∷ p ∷ b ∷ c ∷ d ∷ f ∷ []) ≡ None → (a ≡ None) × (c ≡ None)
+    six None None None None d f e = (refl, refl)
+    six (Some line) p b c d f e = absurd cc
+    six None (Some line) b c d f e = absurd cc
+    six None None (Some line) c d f e = absurd cc
+    six None None None (Some line) d f e = absurd cc
 
 -- The words before the inputs.
-pub own_have : (items : List Said) → lacking items ≡ None → Keep (keeps_debug items) (own_words items)
+pub own_have : (items : List Said) → lacking items ≡ None → Ask (is_partial items) (keeps_debug items) (own_words items)
 unfolding own_words
 own_have items e =
     let s = stands items e in
     let f = fit items s.1 in
-    and_debug (keeps_debug items) ((((output_words (text Output items) ++ option_to_list (entry items)) ++ name_words items) ++ switch_words items) ++ number_words items)
+    and_ask (is_partial items) (keeps_debug items) ((((output_words (text Output items) ++ option_to_list (entry items)) ++ name_words items) ++ switch_words items) ++ number_words items)
     (
     and_more kinds.Output (((output_words (text Output items) ++ option_to_list (entry items)) ++ name_words items) ++ switch_words items) (number_words items)
     (

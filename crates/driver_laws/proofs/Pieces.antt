@@ -59,9 +59,9 @@ all_both P (p ∷ ps) b x y = (x.0, all_both P ps b x.1 y)
 abbrev pub is_plain : Kind → Bool
 is_plain kind = not (same kind kinds.Input || (same kind kinds.StartLib || (same kind kinds.EndLib || (same kind kinds.WholeArchive || (same kind kinds.NoWholeArchive || same kind kinds.MakeCase)))))
 
--- of these all but the one that keeps debug sections
+-- of these all but those that say what is written: an object, and whether with debug sections
 abbrev pub is_quiet : Kind → Bool
-is_quiet kind = is_plain kind && not (same kind kinds.KeepDebug)
+is_quiet kind = is_plain kind && not (same kind kinds.Partial || same kind kinds.KeepDebug)
 
 pub record IsOption (p : Piece) : Type 0 where
   pub spelled : IsSpelled p
@@ -110,7 +110,7 @@ option : (kind : Kind) (name value : List ℕ) (t : Takes) (own : List (List ℕ
     → same kind kinds.OnlyInputs ≡ false → is_quiet kind ≡ true → AreOptions own
 option kind name value t own row spelled more quiet =
     let piece : Piece = record { kind = kind; value = value; own = own } in
-    let one = is_option kind name value t own row spelled more (and_first (is_plain kind) (not (same kind kinds.KeepDebug)) quiet) in
+    let one = is_option kind name value t own row spelled more (and_first (is_plain kind) (not (same kind kinds.Partial || same kind kinds.KeepDebug)) quiet) in
     record { pieces = piece ∷ []; words_are = sym (append-nil own); all = (one, tt); quiet = (quiet, tt) }
 
 -- an option without a value
@@ -165,50 +165,84 @@ pub and_more : (kind : Kind) (a b : List (List ℕ)) → HaveKind kind a → Are
 unfolding both
 and_more kind a b x y = record { options = both a b x.options y; has = any_left kind x.options.pieces y.pieces x.has }
 
--- ---- the word that keeps debug sections
+-- ---- the words that say what is written
 
 not_second : (a b : Bool) → (a && not b) ≡ true → b ≡ false
 not_second true true h = absurd cc
 not_second true false h = refl
 not_second false b h = absurd cc
 
-quiet_kind : (kind : Kind) → is_quiet kind ≡ true → same kind kinds.KeepDebug ≡ false
-quiet_kind kind h = not_second (is_plain kind) (same kind kinds.KeepDebug) h
+neither : (a b : Bool) → (a || b) ≡ false → (a ≡ false) × (b ≡ false)
+neither true b h = absurd cc
+neither false b h = (refl, h)
 
-behind_quiet : (ps more : List Piece) (keeps : Bool) → Every IsQuiet ps → has_kind kinds.KeepDebug more ≡ keeps → has_kind kinds.KeepDebug (ps ++ more) ≡ keeps
-behind_quiet [] more keeps all h = h
-behind_quiet (p ∷ ps) more keeps all h = (λ i. quiet_kind p.kind all.0 i || has_kind kinds.KeepDebug (ps ++ more)) ∙ behind_quiet ps more keeps all.1 h
+quiet_kind : (kind : Kind) → is_quiet kind ≡ true → (same kind kinds.Partial ≡ false) × (same kind kinds.KeepDebug ≡ false)
+quiet_kind kind h = neither (same kind kinds.Partial) (same kind kinds.KeepDebug) (not_second (is_plain kind) (same kind kinds.Partial || same kind kinds.KeepDebug) h)
+
+-- behind pieces of which none has the kind
+behind_quiet : (kind : Kind) → ((other : Kind) → is_quiet other ≡ true → same other kind ≡ false) → (ps more : List Piece) (has : Bool) → Every IsQuiet ps → has_kind kind more ≡ has → has_kind kind (ps ++ more) ≡ has
+behind_quiet kind others [] more has all h = h
+behind_quiet kind others (p ∷ ps) more has all h = (λ i. others p.kind all.0 i || has_kind kind (ps ++ more)) ∙ behind_quiet kind others ps more has all.1 h
+
+partial_pieces : Bool → List Piece
+partial_pieces true = record { kind = kinds.Partial; value = []; own = codes "-r" ∷ [] } ∷ []
+partial_pieces false = []
 
 debug_pieces : Bool → List Piece
 debug_pieces true = record { kind = kinds.KeepDebug; value = []; own = codes "--keep-debug" ∷ [] } ∷ []
 debug_pieces false = []
 
--- options with an output, which keep debug sections or don't
-pub record Keep (keeps : Bool) (words : List (List ℕ)) : Type 0 where
+-- options with an output, which ask for an object or don't, and keep debug sections or don't
+pub record Ask (partial keeps : Bool) (words : List (List ℕ)) : Type 0 where
   pub pieces : List Piece
   pub words_are : words ≡ words_of pieces
   pub all : Every IsOption pieces
   pub output : has_kind kinds.Output pieces ≡ true
+  pub partial_is : has_kind kinds.Partial pieces ≡ partial
   pub debug : has_kind kinds.KeepDebug pieces ≡ keeps
 
-pub and_debug : (keeps : Bool) (words : List (List ℕ)) → HaveKind kinds.Output words → Keep keeps (words ++ cond keeps (codes "--keep-debug" ∷ []) [])
-unfolding debug_pieces
-and_debug keeps words x = record {
-  pieces = x.options.pieces ++ debug_pieces keeps;
-  words_are = (λ i. x.options.words_are i ++ are_words keeps i) ∙ sym (words_both x.options.pieces (debug_pieces keeps));
-  all = all_both IsOption x.options.pieces (debug_pieces keeps) x.options.all (are_options keeps);
-  output = any_left kinds.Output x.options.pieces (debug_pieces keeps) x.has;
-  debug = behind_quiet x.options.pieces (debug_pieces keeps) keeps x.options.quiet (have_word keeps);
-}
+pub and_ask : (partial keeps : Bool) (words : List (List ℕ)) → HaveKind kinds.Output words → Ask partial keeps ((words ++ cond partial (codes "-r" ∷ []) []) ++ cond keeps (codes "--keep-debug" ∷ []) [])
+unfolding partial_pieces debug_pieces
+and_ask partial keeps words x =
+    let last = partial_pieces partial ++ debug_pieces keeps in
+    record {
+      pieces = x.options.pieces ++ last;
+      words_are =
+          append_assoc words (cond partial (codes "-r" ∷ []) []) (cond keeps (codes "--keep-debug" ∷ []) [])
+          ∙ (λ i. x.options.words_are i ++ are_words partial keeps i)
+          ∙ sym (words_both x.options.pieces last);
+      all = all_both IsOption x.options.pieces last x.options.all (are_options partial keeps);
+      output = any_left kinds.Output x.options.pieces last x.has;
+      partial_is = behind_quiet kinds.Partial (λ other h. (quiet_kind other h).0) x.options.pieces last partial x.options.quiet (have_partial partial keeps);
+      debug = behind_quiet kinds.KeepDebug (λ other h. (quiet_kind other h).1) x.options.pieces last keeps x.options.quiet (have_debug partial keeps);
+    }
   where
-    are_words : (keeps : Bool) → cond keeps (codes "--keep-debug" ∷ []) [] ≡ words_of (debug_pieces keeps)
-    are_words true = refl
-    are_words false = refl
+    are_words : (partial keeps : Bool) → cond partial (codes "-r" ∷ []) [] ++ cond keeps (codes "--keep-debug" ∷ []) [] ≡ words_of (partial_pieces partial ++ debug_pieces keeps)
+    are_words true true = refl
+    are_words true false = refl
+    are_words false true = refl
+    are_words false false = refl
 
-    are_options : (keeps : Bool) → Every IsOption (debug_pieces keeps)
-    are_options true = (is_option kinds.KeepDebug (codes "--keep-debug") [] takes.Nothing (codes "--keep-debug" ∷ []) refl (refl, refl) refl refl, tt)
-    are_options false = tt
+    partial_option : Every IsOption (partial_pieces true)
+    partial_option = (is_option kinds.Partial (codes "-r") [] takes.Nothing (codes "-r" ∷ []) refl (refl, refl) refl refl, tt)
 
-    have_word : (keeps : Bool) → has_kind kinds.KeepDebug (debug_pieces keeps) ≡ keeps
-    have_word true = refl
-    have_word false = refl
+    debug_option : Every IsOption (debug_pieces true)
+    debug_option = (is_option kinds.KeepDebug (codes "--keep-debug") [] takes.Nothing (codes "--keep-debug" ∷ []) refl (refl, refl) refl refl, tt)
+
+    are_options : (partial keeps : Bool) → Every IsOption (partial_pieces partial ++ debug_pieces keeps)
+    are_options true true = (partial_option.0, debug_option)
+    are_options true false = partial_option
+    are_options false true = debug_option
+    are_options false false = tt
+
+    have_partial : (partial keeps : Bool) → has_kind kinds.Partial (partial_pieces partial ++ debug_pieces keeps) ≡ partial
+    have_partial true true = refl
+    have_partial true false = refl
+    have_partial false true = refl
+    have_partial false false = refl
+
+    have_debug : (partial keeps : Bool) → has_kind kinds.KeepDebug (partial_pieces partial ++ debug_pieces keeps) ≡ keeps
+    have_debug true true = refl
+    have_debug true false = refl
+    have_debug false true = refl
+    have_debug false false = refl

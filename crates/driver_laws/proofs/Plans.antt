@@ -1,10 +1,11 @@
--- The linker's own words have a plan, whose inputs are the files that are named, and which keeps debug sections or doesn't.
+-- The linker's own words have a plan, whose inputs are the files that are named, and which is partial or isn't, and keeps debug sections
+-- or doesn't.
 use Rattle.std.proofs.Common.{◌≡◌, ℕ, ◌+◌, Bool, true, false, not, ◌&&◌, ◌||◌, cond, List, [], ◌∷◌, ◌++◌, length, drop, map, unwrap_or, Option, Some, None, is_some, Result, Ok, Err, IsOk, refl, sym, ap, subst, ◌∙◌, append_assoc, length-append}
 use Rattle.std.specs.Prelude.{codes}
 use Rattle.std.specs.Option.{option_or, option_map}
 use Rattle.wl_base.specs.Choice.{first_some, given}
 use Rattle.wl_base.specs.declared.usage.Usage.{Usage}
-use Rattle.wl_base.specs.declared.usage.Usage.TheVariants.{OpenGroup, CaseAndInput, NoInput, NoOutput}
+use Rattle.wl_base.specs.declared.usage.Usage.TheVariants.{OpenGroup, CaseAndInput, NoInput, NoOutput, PartialClash}
 use Rattle.link_plan.specs.declared.plan.Plan.{Plan}
 use Rattle.link_plan.specs.declared.plan.InputWord.{InputWord}
 use Rattle.link_words.specs.declared.kind.Kind.{Kind}
@@ -23,14 +24,14 @@ use Rattle.driver_table.specs.Texts.{line}
 use Rattle.driver_table.specs.Cut.{behind, cut_of}
 use Rattle.driver_fields.specs.Values.{values_fault}
 use Rattle.driver_fields.specs.Lacking.{lacking}
-use Rattle.driver_fields.specs.Fields.{fatal, keeps_debug}
+use Rattle.driver_fields.specs.Fields.{fatal, is_partial, keeps_debug}
 use Rattle.driver_fields.specs.Own.{own_words, warnings}
 use Rattle.driver_words.specs.Expand.{expanded_to}
 use Rattle.driver_words.specs.Inputs.{folders_of, inputs_of}
 use Rattle.driver_words.specs.declared.answer.What.{What}
 use Rattle.driver_words.specs.declared.answer.Answer.TheVariants.{Links, Refuses}
 use Rattle.driver_words.specs.Translated.{World, then_answer, unless_refused, unless_said, links, asked, has_path, with_path, linked, answered, not_deeper, cut_and_answered, translated_words, is_flavor, under_flavor, first_and_rest, flavored_by, behind_flavor, translated_by}
-use Rattle.driver_laws.specs.Laws.{File, file, named_files, planned_files, OwnWordsHavePlans, PlansNameTheFiles, PlansKeepDebug}
+use Rattle.driver_laws.specs.Laws.{File, file, named_files, planned_files, OwnWordsHavePlans, PlansNameTheFiles, PlansKeepDebug, PlansArePartial}
 use Rattle.driver_laws.proofs.Pieces.{Every, Piece, IsSpelled, IsOption, is_plain, has_kind, words_of, words_both, placed, cuts, any_left}
 use Rattle.driver_laws.proofs.Options.{own_have}
 use Rattle.driver_laws.proofs.Inputs.{Mark, input, opens, closes, wholes, parts, piece_of, IsPlain, mark_spelled, nested, files_in, inputs_are}
@@ -161,12 +162,13 @@ or_left a b h = ap (λ t. t || b) h
 
 -- ---- no fault of all words together
 
-all_none : (g : Option Usage) (o k : Option ℕ) (i : Bool) (t : Option (List ℕ)) → g ≡ None → o ≡ None → k ≡ None → i ≡ true → is_some t ≡ true
-    → first_some (g ∷ None ∷ option_map OpenGroup o ∷ given (is_some k && i) CaseAndInput ∷ given (not (is_some k) && not i) NoInput ∷ given (not (is_some k) && not (is_some t)) NoOutput ∷ []) ≡ None
-all_none g o k i t is_g is_o is_k is_i is_t =
+all_none : (g : Option Usage) (o k : Option ℕ) (i : Bool) (t : Option (List ℕ)) (p : Bool) → g ≡ None → o ≡ None → k ≡ None → i ≡ true → is_some t ≡ true
+    → first_some (g ∷ None ∷ option_map OpenGroup o ∷ given (is_some k && i) CaseAndInput ∷ given (not (is_some k) && not i) NoInput ∷ given (not (is_some k) && not (is_some t)) NoOutput
+    ∷ given (is_some k && p) PartialClash ∷ []) ≡ None
+all_none g o k i t p is_g is_o is_k is_i is_t =
     (λ j. first_some (
     is_g j ∷ None ∷ option_map OpenGroup (is_o j) ∷ given (is_some (is_k j) && is_i j) CaseAndInput ∷ given (not (is_some (is_k j)) && not (is_i j)) NoInput
-    ∷ given (not (is_some (is_k j)) && not (is_t j)) NoOutput ∷ []))
+    ∷ given (not (is_some (is_k j)) && not (is_t j)) NoOutput ∷ given (is_some (is_k j) && p) PartialClash ∷ []))
 
 record Whole (ps : List Piece) (ms : List Mark) : Type 0 where
   all : Every IsOption ps
@@ -177,7 +179,7 @@ record Whole (ps : List Piece) (ms : List Mark) : Type 0 where
 no_fault : (ps : List Piece) (ms : List Mark) → Whole ps ms → first_fault (placed 0 (ps ++ marked ms), None) ≡ None
 unfolding first_fault
 no_fault ps ms w =
-    all_none _ _ _ _ _
+    all_none _ _ _ _ _ _
     (faults_skip ps (marked ms) w.all (λ at. groups_stand ms at None w.nests) 0)
     (opens_skip ps (marked ms) w.all (λ at. groups_close ms at None w.nests) 0)
     (case_skips ps (marked ms) w.all (λ at. no_case ms at) 0)
@@ -265,19 +267,39 @@ linked_by held items own told f (Ok words) is e = by (has_path (drop (length (ow
       some = ap has_path (sym (drop_front (own_words items) words)) ∙ some;
     }
 
--- ---- options alone keep debug sections
+-- ---- options alone say what is written
 
-marks_quiet : (ms : List Mark) (at : ℕ) → has kinds.KeepDebug (placed at (marked ms)) ≡ false
-marks_quiet [] at = refl
-marks_quiet (input p ∷ ms) at = marks_quiet ms (at + 1)
-marks_quiet (opens ∷ ms) at = marks_quiet ms (at + 1)
-marks_quiet (closes ∷ ms) at = marks_quiet ms (at + 1)
-marks_quiet (wholes ∷ ms) at = marks_quiet ms (at + 1)
-marks_quiet (parts ∷ ms) at = marks_quiet ms (at + 1)
+is_mark : Kind → Bool
+is_mark kind = same kinds.Input kind || (same kinds.StartLib kind || (same kinds.EndLib kind || (same kinds.WholeArchive kind || same kinds.NoWholeArchive kind)))
 
-options_debug : (ps more : List Piece) (at : ℕ) → ((at : ℕ) → has kinds.KeepDebug (placed at more) ≡ false) → has kinds.KeepDebug (placed at (ps ++ more)) ≡ has_kind kinds.KeepDebug ps
-options_debug [] more at h = h at
-options_debug (p ∷ ps) more at h = ap (λ (t : Bool). same p.kind kinds.KeepDebug || t) (options_debug ps more (at + length p.own) h)
+no_first : (a b : Bool) → (a || b) ≡ false → (a ≡ false) × (b ≡ false)
+no_first true b h = absurd cc
+no_first false b h = (refl, h)
+
+mark_kind : (kind : Kind) → is_mark kind ≡ false → (m : Mark) → same (piece_of m).kind kind ≡ false
+unfolding is_mark
+mark_kind kind h m =
+    let a = no_first (same kinds.Input kind) _ h in
+    let b = no_first (same kinds.StartLib kind) _ a.1 in
+    let c = no_first (same kinds.EndLib kind) _ b.1 in
+    let d = no_first (same kinds.WholeArchive kind) _ c.1 in
+    by m a.0 b.0 c.0 d.0 d.1
+  where
+    by : (m : Mark) → same kinds.Input kind ≡ false → same kinds.StartLib kind ≡ false → same kinds.EndLib kind ≡ false → same kinds.WholeArchive kind ≡ false → same kinds.NoWholeArchive kind ≡ false
+        → same (piece_of m).kind kind ≡ false
+    by (input p) a b c d e = a
+    by opens a b c d e = b
+    by closes a b c d e = c
+    by wholes a b c d e = d
+    by parts a b c d e = e
+
+marks_quiet : (kind : Kind) → is_mark kind ≡ false → (ms : List Mark) (at : ℕ) → has kind (placed at (marked ms)) ≡ false
+marks_quiet kind none [] at = refl
+marks_quiet kind none (m ∷ ms) at = (λ i. mark_kind kind none m i || has kind (placed (at + length (piece_of m).own) (marked ms))) ∙ marks_quiet kind none ms (at + length (piece_of m).own)
+
+options_say : (kind : Kind) (ps more : List Piece) (at : ℕ) → ((at : ℕ) → has kind (placed at more) ≡ false) → has kind (placed at (ps ++ more)) ≡ has_kind kind ps
+options_say kind [] more at h = h at
+options_say kind (p ∷ ps) more at h = ap (λ (t : Bool). same p.kind kind || t) (options_say kind ps more (at + length p.own) h)
 
 -- ---- the plan
 
@@ -285,6 +307,7 @@ record Planned (held : World) (items : List Said) (own : List (List ℕ)) : Type
   plan : Plan
   is : plan_of own ≡ Ok plan
   names : planned_files own plan ≡ named_files held items
+  partial : plan.partial ≡ is_partial items
   debug : plan.keep_debug ≡ keeps_debug items
 
 all_spelled : (ps : List Piece) (ms : List Mark) → Every IsOption ps → Every IsPlain ms → Every IsSpelled (ps ++ marked ms)
@@ -293,7 +316,7 @@ all_spelled [] (m ∷ ms) a b = (mark_spelled m b.0, all_spelled [] ms tt b.1)
 all_spelled (p ∷ ps) ms a b = (a.0.spelled, all_spelled ps ms a.1 b)
 
 planned : PlansAreCuts → (held : World) (items : List Said) (own : List (List ℕ)) → lacking items ≡ None → Linked held items own → Planned held items own
-unfolding plan_from
+unfolding plan_from is_mark
 planned laws held items own lacks l =
     let o = own_have items lacks in
     let i = inputs_are held (folders_of items) items false false l.words l.inputs_are in
@@ -309,7 +332,8 @@ planned laws held items own lacks l =
           ap (λ (ws : List (List ℕ)). map (look ws) (inputs (placed 0 all))) own_is
           ∙ options_look ps (marked i.marks) (files_in false false i.marks) o.all (λ front. marks_look i.marks front false false) []
           ∙ i.lists;
-      debug = options_debug ps (marked i.marks) 0 (marks_quiet i.marks) ∙ o.debug;
+      partial = options_say kinds.Partial ps (marked i.marks) 0 (marks_quiet kinds.Partial refl i.marks) ∙ o.partial_is;
+      debug = options_say kinds.KeepDebug ps (marked i.marks) 0 (marks_quiet kinds.KeepDebug refl i.marks) ∙ o.debug;
     }
 
 of_answer : PlansAreCuts → (held : World) (items : List Said) (own told : List (List ℕ)) (f : Bool) → answered held items ≡ Links own told f → Planned held items own
@@ -333,6 +357,11 @@ pub keep_debug : PlansAreCuts → PlansKeepDebug
 keep_debug laws held items own told f plan e is =
     let p = of_answer laws held items own told f e in
     ap (λ (q : Plan). q.keep_debug) (same_plan own plan p.plan is p.is) ∙ p.debug
+
+pub are_partial : PlansAreCuts → PlansArePartial
+are_partial laws held items own told f plan e is =
+    let p = of_answer laws held items own told f e in
+    ap (λ (q : Plan). q.partial) (same_plan own plan p.plan is p.is) ∙ p.partial
 
 -- ---- from the words
 

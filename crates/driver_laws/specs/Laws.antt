@@ -5,7 +5,7 @@ use Rattle.link_words.specs.Words.{plan_of, word}
 use Rattle.driver_table.specs.declared.meaning.Meaning.{Meaning}
 use Rattle.driver_table.specs.declared.meaning.Meaning.TheVariants.{Input, Library}
 use Rattle.driver_table.specs.Items.{Said}
-use Rattle.driver_fields.specs.Fields.{keeps_debug}
+use Rattle.driver_fields.specs.Fields.{is_partial, keeps_debug}
 use Rattle.driver_texts.specs.Paths.{plain}
 use Rattle.driver_words.specs.Start.{started}
 use Rattle.driver_words.specs.Inputs.{is_thin, members_in, library_path, folders_of, inside_after, whole_after}
@@ -56,6 +56,11 @@ OwnWordsHavePlans = (held : World) (words own warnings : List (List ℕ)) (fatal
 abbrev pub PlansKeepDebug : Type 0
 PlansKeepDebug = (held : World) (items : List Said) (own warnings : List (List ℕ)) (fatal : Bool) (plan : Plan) → answered held items ≡ Links own warnings fatal → plan_of own ≡ Ok plan
     → plan.keep_debug ≡ keeps_debug items
+
+-- It asks for one object in place of a module exactly where a word does.
+abbrev pub PlansArePartial : Type 0
+PlansArePartial = (held : World) (items : List Said) (own warnings : List (List ℕ)) (fatal : Bool) (plan : Plan) → answered held items ≡ Links own warnings fatal → plan_of own ≡ Ok plan
+    → plan.partial ≡ is_partial items
 
 -- Its inputs are the files that are named and found.
 abbrev pub PlansNameTheFiles : Type 0

@@ -32,3 +32,13 @@ one_letter = refl
 other_letter : own_or_line (cut_of (codes "a.o" ∷ codes "-S" ∷ codes "-obb" ∷ [])) ≡ codes "-o" ∷ codes "bb" ∷ codes "--stack-first" ∷ []
 unfolding own_words name_words switch_words name_switches memory_switches number_words memory_numbers export_of exported_if alone_row equals_row letter_of option_in
 other_letter = refl
+
+-- Both words ask for an object, behind all words but the one that keeps debug sections.
+partial : own_or_line (cut_of (codes "-r" ∷ codes "a.o" ∷ codes "--no-entry" ∷ codes "-o" ∷ codes "r.o" ∷ []))
+    ≡ codes "-o" ∷ codes "r.o" ∷ codes "--no-entry" ∷ codes "--stack-first" ∷ codes "-r" ∷ codes "--keep-debug" ∷ []
+unfolding own_words name_words switch_words name_switches memory_switches number_words memory_numbers export_of exported_if alone_row equals_row letter_of option_in
+partial = refl
+
+relocatable : own_or_line (cut_of (codes "a.o" ∷ codes "--relocatable" ∷ codes "-S" ∷ codes "-o" ∷ codes "r.o" ∷ codes "-relocatable" ∷ [])) ≡ codes "-o" ∷ codes "r.o" ∷ codes "--stack-first" ∷ codes "-r" ∷ []
+unfolding own_words name_words switch_words name_switches memory_switches number_words memory_numbers export_of exported_if alone_row equals_row letter_of option_in
+relocatable = refl

@@ -114,7 +114,7 @@ refusal_line program entry inputs files (BadDebug input section) =
 refusal_line program entry inputs files (DebugTooLong needed) =
     plain_line program (codes "output too large with debug sections, ") (decimal needed) (codes " bytes needed\n")
 refusal_line program entry inputs files (NotPartial file) =
-    about_line program [] (called_file files file) (codes ": only object files can be linked with -r") [] (codes "\n")
+    about_line program [] (called_file files file) (codes ": only object files can be linked with -r, and none from a library") [] (codes "\n")
 refusal_line program entry inputs files (PartialTooLong needed) = plain_line program (codes "output too large, ") (decimal needed) (codes " bytes needed\n")
 refusal_line program entry inputs files Uncalled =
     plain_line program (codes "constructors would not be called: link a start file that calls __wasm_call_ctors") [] (codes "\n")

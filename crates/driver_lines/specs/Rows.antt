@@ -109,7 +109,8 @@ pub a_bad_index : line (Library 1 (BadIndex 2)) ≡ codes "wasm-ld: error: ./lib
 unfolding about_line digits
 a_bad_index = refl
 
-pub a_library_in_a_partial_link : line (NotPartial 1) ≡ codes "wasm-ld: error: ./libx.a: only object files can be linked with -r\n"
+-- a library, and an object between the words `--start-lib` and `--end-lib`, as the members of a thin library are
+pub a_library_in_a_partial_link : line (NotPartial 1) ≡ codes "wasm-ld: error: ./libx.a: only object files can be linked with -r, and none from a library\n"
 unfolding about_line
 a_library_in_a_partial_link = refl
 
@@ -141,7 +142,7 @@ pub an_unknown_input : line (TooLong 7 1073741825) ≡ codes "wasm-ld: error: in
 unfolding about_line digits
 an_unknown_input = refl
 
-pub an_unknown_file : line (NotPartial 9) ≡ codes "wasm-ld: error: input file 9: only object files can be linked with -r\n"
+pub an_unknown_file : line (NotPartial 9) ≡ codes "wasm-ld: error: input file 9: only object files can be linked with -r, and none from a library\n"
 unfolding about_line digits
 an_unknown_file = refl
 

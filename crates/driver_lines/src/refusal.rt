@@ -123,7 +123,7 @@ pub fn say_refusal<'a, E: Sink>(
             program,
             "",
             called_file(naming.files, *file),
-            ": only object files can be linked with -r",
+            ": only object files can be linked with -r, and none from a library",
             Text(""),
             "\n",
             say,

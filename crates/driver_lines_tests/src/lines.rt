@@ -226,7 +226,7 @@ fn file_lines_stand(alloc: Global) -> bool {
             ),
             (
                 Fault::NotPartial { file: 1 },
-                "wasm-ld: error: ./libx.a: only object files can be linked with -r\n",
+                "wasm-ld: error: ./libx.a: only object files can be linked with -r, and none from a library\n",
             ),
         ],
     )

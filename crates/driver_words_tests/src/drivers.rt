@@ -64,7 +64,7 @@ const MESON_FILES: &[File] = &[
 
 #[test]
 fn words_of_clang(rt: HostRuntime) -> Result<(), Fail> {
-    let cases: [(&[File], &'static str, Want); 15] = [
+    let cases: [(&[File], &'static str, Want); 16] = [
         (
             SYSROOT,
             "-m wasm32 -LSR SR/crt1-command.o m-1.o -lc RT/libclang_rt.builtins-wasm32.a -o m",
@@ -142,7 +142,14 @@ fn words_of_clang(rt: HostRuntime) -> Result<(), Fail> {
         (
             SYSROOT,
             "-m wasm32 -LSR SR/crt1-command.o -r m-1.o -lc RT/libclang_rt.builtins-wasm32.a -o m",
-            Want::Line("--relocatable is not supported"),
+            Want::Own(
+                "-o m --stack-first -r --keep-debug SR/crt1.o m-1.o SR/libc.a RT/libclang_rt.builtins-wasm32.a",
+            ),
+        ),
+        (
+            SYSROOT,
+            "-m wasm32 -LSR -r m-1.o m-2.o -o m.o",
+            Want::Own("-o m.o --stack-first -r --keep-debug m-1.o m-2.o"),
         ),
         (
             SYSROOT,

@@ -1,4 +1,4 @@
-//! Marks and words that are told of, and words that end the translation.
+//! Marks and words that are told of, words that end the translation, and words of partial links.
 
 use crate::cases::{File, NONE, Want, all_stand_for};
 use driver_words::What;
@@ -152,6 +152,76 @@ fn words_that_end_the_translation(rt: HostRuntime) -> Result<(), Fail> {
             NONE,
             "m.o -O2 -O 0 --lto-O3 --lto-CGO2 --lto-partitions=4 --thinlto-jobs=2 --thinlto-cache-dir=c --thinlto-cache-policy p -mllvm -x --mllvm=-y --save-temps --disable-verify --color-diagnostics --color-diagnostics=always --no-demangle --error-limit=0 --features=a,b --extra-features=c --no-check-features --compress-relocations --keep-section=k --soname=s --rpath=r -Bsymbolic --no-pie --verbose -S -s -o o",
             Want::Own("-o o --stack-first m.o"),
+        ),
+    ];
+    assert!(rt; all_stand_for(rt.alloc(), &cases));
+    Ok(())
+}
+
+#[test]
+fn words_of_partial_links(rt: HostRuntime) -> Result<(), Fail> {
+    let cases: [(&[File], &'static str, Want); 14] = [
+        (
+            NONE,
+            "m.o --relocatable -S -o o",
+            Want::Own("-o o --stack-first -r m.o"),
+        ),
+        (
+            NONE,
+            "-relocatable m.o -o o --no-entry --no-gc-sections --threads=2",
+            Want::Own(
+                "-o o --no-entry --no-gc-sections --stack-first --threads=2 -r --keep-debug m.o",
+            ),
+        ),
+        (
+            NONE,
+            "m.o -r --gc-sections --entry=f -o o --no-gc-sections --no-entry",
+            Want::Own("-o o --no-entry --no-gc-sections --stack-first -r --keep-debug m.o"),
+        ),
+        (
+            NONE,
+            "m.o -r --start-lib a.o --end-lib --export=f -o o",
+            Want::Own(
+                "-o o --export=f --stack-first -r --keep-debug m.o --start-lib a.o --end-lib",
+            ),
+        ),
+        (NONE, "m.o --r -o o", Want::Line("unknown argument: --r")),
+        (NONE, "m.o -r", Want::Line("no output file specified")),
+        (NONE, "-r -o o", Want::Line("no input files")),
+        (
+            NONE,
+            "m.o -r --entry=f -o o",
+            Want::Line("entry point specified for relocatable output file"),
+        ),
+        (
+            NONE,
+            "m.o -e f -r -o o",
+            Want::Line("entry point specified for relocatable output file"),
+        ),
+        (
+            NONE,
+            "m.o -r --gc-sections -o o",
+            Want::Line("-r and --gc-sections may not be used together"),
+        ),
+        (
+            NONE,
+            "-u f m.o -r -o o",
+            Want::Line("-r and --undefined may not be used together"),
+        ),
+        (
+            NONE,
+            "m.o -r --export-table -o o",
+            Want::Line("--relocatable is incompatible with --export-table"),
+        ),
+        (
+            NONE,
+            "m.o -r --initial-memory=1 -o o",
+            Want::Line("--initial-memory must be a multiple of 65536"),
+        ),
+        (
+            NONE,
+            "m.o -r -shared -o o",
+            Want::Line("--shared is not supported"),
         ),
     ];
     assert!(rt; all_stand_for(rt.alloc(), &cases));

@@ -20,7 +20,7 @@ pub fn keys_stand()
     link_facts::programs_are_sound();
 }
 
-/// Where `link_of` gives bytes, both hold.
+/// Where the plan isn't shared and `link_of` gives bytes, both hold.
 pub fn links_number()
     ensures { LinksNumber }
 {

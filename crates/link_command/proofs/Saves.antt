@@ -2,7 +2,7 @@
 use Rattle.std.proofs.Common.{◌≡◌, ◌⊎◌, inl, inr, ℕ, List, Option, Some, None, IsTrue, IsSomeAnd, IfSome, Ok, refl, subst, sym, ◌∙◌, arith}
 use Rattle.wl_outside.specs.Shelf.{Shown, Same, SameBut, Grows, Torn, SaveFailed}
 use Rattle.link_plan.specs.declared.plan.Plan.{Plan}
-use Rattle.link_core.specs.Linked.{linked}
+use Rattle.link_core.specs.Whole.{whole_link, MakesModule}
 use Rattle.link_core.specs.link_runs.Links.{Runs}
 use Rattle.link_command.specs.declared.status.Status.{Status}
 use Rattle.link_command.specs.declared.status.Status.TheVariants.{Linked, WriteFault}
@@ -51,7 +51,7 @@ failed_on (Some output) before mid after grows failed = omega (arith, failed, gr
 -- the answer of a save
 pub save_shows : (status : Status) (before mid after : Shown) (words : List (List ℕ)) (plan : Plan) (files : List (List ℕ)) (bytes : List ℕ)
     → (status ≡ Linked) ⊎ (status ≡ WriteFault) → Same before mid → Grows before mid
-    → (IsTold plan.make_case before → files_of plan.make_case before words plan ≡ Some files) → linked plan files ≡ Ok bytes
+    → (IsTold plan.make_case before → files_of plan.make_case before words plan ≡ Some files) → whole_link plan files ≡ Ok bytes
     → (status ≡ Linked → Saved mid after plan.output bytes) → (status ≡ WriteFault → Cut mid after plan.output bytes)
     → (status ≡ WriteFault → IsSomeAnd plan.output (λ o. SaveFailed mid after o)) → Shows status before after words plan
 save_shows status before mid after words plan files bytes (inl done) same grows held link saved cut failed =
@@ -68,7 +68,7 @@ save_shows status before mid after words plan files bytes (inr torn) same grows 
 
 -- what was linked and saved runs
 pub save_runs : (status : Status) (before mid after : Shown) (words : List (List ℕ)) (plan : Plan) (files : List (List ℕ)) (bytes : List ℕ)
-    → Same before mid → Grows before mid → (IsTold plan.make_case before → files_of plan.make_case before words plan ≡ Some files) → Runs plan files bytes
+    → Same before mid → Grows before mid → (IsTold plan.make_case before → files_of plan.make_case before words plan ≡ Some files) → (MakesModule plan → Runs plan files bytes)
     → (status ≡ Linked → Saved mid after plan.output bytes) → status ≡ Linked → IsTold plan.make_case before → SavedRuns before after words plan
 save_runs status before mid after words plan files bytes same grows held runs saved done told = record {
   files = files;

@@ -5,7 +5,7 @@ use Rattle.wl_base.specs.declared.usage.Usage.{Usage as UsageFault}
 use Rattle.wl_outside.specs.Shelf.{Shown, Same, SameBut, Holds, Torn, LoadFailed, SaveFailed}
 use Rattle.link_plan.specs.declared.plan.Plan.{Plan}
 use Rattle.link_words.specs.Words.{plan_of, word}
-use Rattle.link_core.specs.Linked.{linked}
+use Rattle.link_core.specs.Whole.{whole_link, MakesModule}
 use Rattle.link_core.specs.link_runs.Links.{Runs}
 use Rattle.case_objects.specs.Objects.{objects}
 use Rattle.link_command.specs.declared.status.Status.{Status}
@@ -57,7 +57,7 @@ IsTold None before = IsTrue before.tells
 pub record LinkIs (before : Shown) (words : List (List ℕ)) (plan : Plan) (said : Result (List ℕ) Fault) : Type 0 where
   pub files : List (List ℕ)
   pub held : files_of plan.make_case before words plan ≡ Some files
-  pub link : linked plan files ≡ said
+  pub link : whole_link plan files ≡ said
 
 -- the output, where the plan names one, holds the bytes, and all else is as before
 abbrev pub Saved : Shown → Shown → Option (List ℕ) → List ℕ → Type 0
@@ -83,13 +83,13 @@ Shows WriteFault before after words plan =
     × IsSomeAnd plan.output (λ output. SaveFailed before after output)
 Shows NoMemory before after words plan = Same before after
 
--- The output, where the plan names one, holds a module that runs as the plan and what is linked tell, with nothing linked.
+-- The output, where the plan names one, holds what is linked: a module runs as the plan and the files tell, with nothing linked.
 pub record SavedRuns (before after : Shown) (words : List (List ℕ)) (plan : Plan) : Type 0 where
   pub files : List (List ℕ)
   pub held : files_of plan.make_case before words plan ≡ Some files
   pub bytes : List ℕ
   pub saved : Saved before after plan.output bytes
-  pub runs : Runs plan files bytes
+  pub runs : MakesModule plan → Runs plan files bytes
 
 -- no load of an input word failed, and no save of the output
 abbrev pub LoadsWork : Shown → Shown → List (List ℕ) → Plan → Type 0

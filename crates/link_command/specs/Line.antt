@@ -4,7 +4,7 @@ use Rattle.std.specs.List.{sum}
 use Rattle.wl_base.specs.declared.fault.Fault.{Fault}
 use Rattle.wl_base.specs.declared.usage.Usage.{Usage as UsageFault}
 use Rattle.link_plan.specs.declared.plan.Plan.{Plan}
-use Rattle.link_core.specs.Linked.{linked}
+use Rattle.link_core.specs.Whole.{whole_link}
 use Rattle.case_objects.specs.Objects.{objects}
 use Rattle.case_objects.specs.Functions.{functions_in}
 use Rattle.link_lines.specs.Faults.{fault_line}
@@ -20,7 +20,7 @@ summed_line n (Err fault) = []
 
 -- nothing, but of a generated case
 abbrev pub linked_line : Option ℕ → Plan → List ℕ
-linked_line (Some n) plan = summed_line n (linked plan (objects n))
+linked_line (Some n) plan = summed_line n (whole_link plan (objects n))
 linked_line None plan = []
 
 abbrev pub planned_line : Result Plan UsageFault → List ℕ

@@ -4,7 +4,7 @@ use Rattle.wl_base.specs.declared.usage.Usage.{Usage as UsageFault}
 use Rattle.wl_outside.specs.Shelf.{Shown}
 use Rattle.link_plan.specs.declared.plan.Plan.{Plan}
 use Rattle.link_core.specs.mismatch_rules.declared.mismatch.Mismatch.{Mismatch}
-use Rattle.link_core.specs.called_variants.Called.{calls_told_of}
+use Rattle.link_core.specs.Whole.{told_calls}
 use Rattle.link_command.specs.declared.status.Status.{Status}
 use Rattle.link_command.specs.declared.status.Status.TheVariants.{Linked, Refused, Usage, ReadFault, WriteFault, NoMemory}
 use Rattle.link_command.specs.Command.{planned, IsTold, files_of}
@@ -13,7 +13,7 @@ use Rattle.link_command.specs.Command.{planned, IsTold, files_of}
 pub record AreMismatches (before : Shown) (words : List (List ℕ)) (plan : Plan) (told : List Mismatch) : Type 0 where
   pub files : List (List ℕ)
   pub held : files_of plan.make_case before words plan ≡ Some files
-  pub are : told ≡ calls_told_of plan files
+  pub are : told ≡ told_calls plan files
 
 -- what is told beside each answer to words that have a plan: nothing where nothing is linked
 abbrev pub TellsBy : Status → Shown → List (List ℕ) → Plan → List Mismatch → Type 0

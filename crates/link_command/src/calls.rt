@@ -2,7 +2,7 @@
 ghost use Rattle.std.specs.Prelude.{◌≡◌, ◌<◌, ◌^◌, IfSome, length, unwrap_or};
 ghost use Rattle.wl_outside.specs.Shelf.{Same, Grows};
 ghost use Rattle.link_plan.specs.Plan.{IsPlan};
-ghost use Rattle.link_core.specs.called_variants.Called.{calls_told_of};
+ghost use Rattle.link_core.specs.Whole.{told_calls};
 ghost use Rattle.link_command.specs.Telling.{WouldTell};
 
 use crate::command::read_plan;
@@ -24,7 +24,7 @@ fn told_of<R: Threads + Sync, G: Gate>(
 ) -> Option<Seq<Mismatch>>
     requires plan { IsPlan plan.now }
     requires files { length files.now ≡ unwrap_or plan.now.make_case (length plan.now.inputs) }
-    ensures { IfSome result (λ told. told ≡ calls_told_of plan.now files.now) }
+    ensures { IfSome result (λ told. told ≡ told_calls plan.now files.now) }
 {
     let mut told = Seq::new(alloc);
     match link_telling(rt, alloc, plan, files, gate, &mut told) {

@@ -24,7 +24,7 @@ use Rattle.link_output.specs.link_program.link_rules.Marks.{exported, is_exporte
 use Rattle.link_output.specs.link_program.link_rules.Keys.{numbers}
 use Rattle.link_output.specs.link_program.link_rules.Values.{rules_of, shapes}
 use Rattle.link_output.specs.link_program.link_rules.Output.{layout, image, source_windows}
-use Rattle.link_output.specs.link_program.link_rules.LinkOf.{asked_names, the_readers, exporting, marked, laid_out, written, length_fault, link_program, link_of}
+use Rattle.link_output.specs.link_program.link_rules.LinkOf.{asked_names, the_readers, exporting, marked, laid_out, written, length_fault, link_program, link_by}
 use Rattle.debug_links.specs.valid_links.link_runs.link_inputs.Inputs.{loaded_of}
 use Rattle.program_build.specs.Found.{Finds, found_of}
 use Rattle.link_image.specs.link_layout.Placed.{AnswersPlaced, IsPlaced}
@@ -32,7 +32,7 @@ use Rattle.link_image.specs.link_numbers.Numbered.{TellsOverflow, IsNumbering}
 use Rattle.link_output.specs.link_program.image_emit.Measures.{LieIn}
 use Rattle.link_output.specs.link_program.image_emit.Pieces.{code_place, source_places, sources}
 use Rattle.link_output.specs.link_program.Live.{Stage, AreLive, AllMeant}
-use Rattle.link_output.specs.link_program.Program.{IsProgram}
+use Rattle.link_output.specs.link_program.Program.{IsProgramOf}
 use Rattle.link_output.specs.link_program.Stand.{PartsStand}
 use Rattle.link_image.specs.link_layout.Layout.{IsLayout}
 use Rattle.link_image.specs.link_layout.declared.values.Layout.{Layout as LayoutData}
@@ -54,17 +54,17 @@ fails_by said e x is fails = subst (λ x. Fails x said) (sym is) fails
 
 -- ---- loading
 
-pub load_failed : (plan : Plan) (files : List (List ℕ)) (e x : LinkError) → x ≡ e → Fails e (loaded_of Plain plan files) → Answers (Err x) (link_of plan files)
+pub load_failed : (plan : Plan) (files : List (List ℕ)) (e x : LinkError) → x ≡ e → Fails e (loaded_of Plain plan files) → Answers (Err x) (link_by Plain the_readers plan files)
 unfolding loaded_of
-load_failed plan files e x is fails = fails_by (link_of plan files) e x is (by e fails)
+load_failed plan files e x is fails = fails_by (link_by Plain the_readers plan files) e x is (by e fails)
   where
-    by : (e : LinkError) → Fails e (loaded_of Plain plan files) → Answers (Err e) (link_of plan files)
+    by : (e : LinkError) → Fails e (loaded_of Plain plan files) → Answers (Err e) (link_by Plain the_readers plan files)
     by (Refused f) fails = steps.not_loaded plan files f fails
     by OutOfMemory fails = tt
 
 pub goes_on_loaded : (plan : Plan) (files : List (List ℕ)) (all : List Candidate) (objects : List Object) (r : Result (List ℕ) LinkError)
     → candidates_of the_readers plan files ≡ Ok all → load Plain (asked_names plan) all ≡ Ok objects
-    → Answers r (link_program Plain (program_of Plain plan files all objects)) → Answers r (link_of plan files)
+    → Answers r (link_program Plain (program_of Plain plan files all objects)) → Answers r (link_by Plain the_readers plan files)
 goes_on_loaded plan files all objects r found given a = subst (Answers r) (sym (steps.loaded plan files all objects found given)) a
 
 -- ---- names
@@ -167,7 +167,7 @@ module _ (p : Program) (es : List InputSymbol) (parts : List Part) where
   unfolding layout
   goes_on_placed r fits none a = subst (Answers r) (sym (steps.placed p es parts fits none)) a
 
-pub layout_is : (p : Program) (parts : List Part) (es : List InputSymbol) (d : LayoutData) (ns : List ℕ) → IsProgram d.program p → PartsStand p → AreLive p ns parts → AllMeant parts
+pub layout_is : (p : Program) (parts : List Part) (es : List InputSymbol) (d : LayoutData) (ns : List ℕ) → IsProgramOf Plain d.program p → PartsStand p → AreLive p ns parts → AllMeant parts
     → IsNumbering d.program.names.now.names d.program.resolution.now.imports d.program.tables.now.types p parts d.numbering.now (numbers Plain p parts es) → IsPlaced p parts d.placed.now → IsLayout p parts es d
 layout_is p parts es d ns program stand live meant numbering placed =
     record { program = program; stand = stand; live = (ns, live); meant = meant; numbering = numbering; placed = placed }

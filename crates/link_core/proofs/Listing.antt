@@ -28,7 +28,7 @@ use Rattle.link_output.specs.link_program.Program.{variant_names, variant_type}
 use Rattle.debug_links.specs.valid_links.link_runs.link_inputs.Inputs.{loaded_of}
 use Rattle.mismatch_rules.specs.declared.mismatch.Mismatch.{Mismatch}
 use Rattle.mismatch_rules.specs.Mismatches.{mismatches, mismatches_among, mismatch_by, same_call, standing}
-use Rattle.called_variants.specs.Called.{is_called, calls_told, calls_if, told_of, calls_told_by, calls_told_of}
+use Rattle.called_variants.specs.Called.{is_called, calls_told, calls_if, told_of, calls_told_by}
 use Rattle.called_variants.specs.Marked.{NameThese}
 use Rattle.program_build.proofs.loose_calls_lemmas.Listing.{told_not}
 use Rattle.program_build.specs.declared.found.Found.{Found}
@@ -50,8 +50,8 @@ tells_by e x told due is tells = subst (λ x. TellsBeside x told due) (sym is) t
 
 -- ---- loading
 
-not_loaded : (plan : Plan) (files : List (List ℕ)) (f : Fault) → (candidates_of the_readers plan files >>= λ all. load Plain (asked_names plan) all) ≡ Err f → calls_told_of plan files ≡ []
-unfolding calls_told_of calls_told_by
+not_loaded : (plan : Plan) (files : List (List ℕ)) (f : Fault) → (candidates_of the_readers plan files >>= λ all. load Plain (asked_names plan) all) ≡ Err f → calls_told_by Plain the_readers plan files ≡ []
+unfolding calls_told_by
 not_loaded plan files f e = by (candidates_of the_readers plan files) e
   where
     inner : (all : List Candidate) (r : Result (List Object) Fault) → r ≡ Err f → told_of (r >>= λ objects. standing (program_of Plain plan files all objects)) ≡ []
@@ -63,18 +63,18 @@ not_loaded plan files f e = by (candidates_of the_readers plan files) e
     by (Err g) e = refl
 
 pub load_told : (plan : Plan) (files : List (List ℕ)) (e x : LinkError) (told : List Mismatch) → x ≡ e → Fails e (loaded_of Plain plan files) → told ≡ []
-    → TellsBeside x told (calls_told_of plan files)
+    → TellsBeside x told (calls_told_by Plain the_readers plan files)
 unfolding loaded_of
-load_told plan files e x told is fails none = tells_by e x told (calls_told_of plan files) is (by e fails)
+load_told plan files e x told is fails none = tells_by e x told (calls_told_by Plain the_readers plan files) is (by e fails)
   where
-    by : (e : LinkError) → Fails e (loaded_of Plain plan files) → TellsBeside e told (calls_told_of plan files)
+    by : (e : LinkError) → Fails e (loaded_of Plain plan files) → TellsBeside e told (calls_told_by Plain the_readers plan files)
     by (Refused f) fails = none ∙ sym (not_loaded plan files f fails)
     by OutOfMemory fails = tt
 
 pub loaded_told : (plan : Plan) (files : List (List ℕ)) (all : List Candidate) (objects : List Object)
     → candidates_of the_readers plan files ≡ Ok all → load Plain (asked_names plan) all ≡ Ok objects
-    → told_of (standing (program_of Plain plan files all objects)) ≡ calls_told_of plan files
-unfolding calls_told_of calls_told_by
+    → told_of (standing (program_of Plain plan files all objects)) ≡ calls_told_by Plain the_readers plan files
+unfolding calls_told_by
 loaded_told plan files all objects found given = sym (
     ap (λ (r : Result (List Candidate) Fault). told_of (r >>= λ all. load Plain (asked_names plan) all >>= λ objects. standing (program_of Plain plan files all objects))) found
     ∙ ap (λ (r : Result (List Object) Fault). told_of (r >>= λ objects. standing (program_of Plain plan files all objects))) given)
@@ -192,6 +192,6 @@ finds_by plan objects p e x is finds = subst (λ x. Finds Plain (Err x) plan obj
 
 module _ (plan : Plan) (files : List (List ℕ)) (all : List Candidate) (objects : List Object) (found : candidates_of the_readers plan files ≡ Ok all) (given : load Plain (asked_names plan) all ≡ Ok objects) where
   pub tells_on : (e x : LinkError) (told : List Mismatch) → x ≡ e → TellsBeside e told (told_of (standing (program_of Plain plan files all objects)))
-      → TellsBeside x told (calls_told_of plan files)
+      → TellsBeside x told (calls_told_by Plain the_readers plan files)
   tells_on e x told is tells =
       subst (TellsBeside x told) (loaded_told plan files all objects found given) (tells_by e x told (told_of (standing (program_of Plain plan files all objects))) is tells)

@@ -15,7 +15,7 @@ use Rattle.link_output.specs.link_program.declared.home.Home.{Home}
 use Rattle.link_output.specs.link_program.declared.error.LinkError.{LinkError}
 use Rattle.link_output.specs.link_program.declared.program.Program.{Program as Data}
 use Rattle.link_output.specs.link_program.Loaded.{IsLoaded}
-use Rattle.link_output.specs.link_program.Program.{IsProgram}
+use Rattle.link_output.specs.link_program.Program.{IsProgramOf}
 use Rattle.mismatch_rules.specs.Mismatches.{standing}
 use Rattle.called_variants.specs.Called.{told_of}
 use Rattle.program_build.specs.Found.{Finds, IsFound, found_of}
@@ -31,7 +31,7 @@ module _ (l : Loading) (plan : Plan) (loaded objects : List Object) (same : l.or
   abbrev found_program : Program
   found_program = program_of Plain plan l.origin.files l.origin.all objects
 
-  program_is : found_program ≡ program_in l
+  pub program_is : found_program ≡ program_in l
   program_is =
       ap (λ plan. program_of Plain plan l.origin.files l.origin.all objects) (sym same)
       ∙ ap (λ (os : List Object). program_of Plain l.origin.plan l.origin.files l.origin.all os) (shown ∙ sym are)
@@ -52,7 +52,7 @@ module _ (l : Loading) (plan : Plan) (loaded objects : List Object) (same : l.or
       subst (λ (os : List Object). IsLoaded l.origin.files l.origin.all os others) (sym are) (subst (IsLoaded l.origin.files l.origin.all loaded) (sym is) given)
 
   pub linking_is : (files : List (List ℕ)) (homes : List Home) (d : Data) (view : Entries) → IsPlan plan → l.origin.files ≡ files
-      → IsLoaded l.origin.files l.origin.all loaded homes → LoadedPartsStand → IsProgram d found_program → Fits Plain view
+      → IsLoaded l.origin.files l.origin.all loaded homes → LoadedPartsStand → IsProgramOf Plain d found_program → Fits Plain view
       → view.objects.now ≡ d.objects.now → view.names.now ≡ d.names.now → IsLinking (program_in l) d view files
   unfolding program_of
   linking_is files homes d view planned held given stand is fits seen named =
@@ -69,7 +69,7 @@ module _ (l : Loading) (plan : Plan) (loaded objects : List Object) (same : l.or
   -- What was found of the loaded objects is linked: what is known of each value that was made of it, with the values as variables.
   pub found_is_linked : (files : List (List ℕ)) (homes : List Home) (f : Found) (d : Data) (view : Entries) → IsPlan plan → l.origin.files ≡ files
       → IsLoaded l.origin.files l.origin.all loaded homes → LoadedPartsStand → IsFound Plain plan objects f found_program
-      → ((p : Program) → IsFound Plain plan objects f p → IsProgram d p)
+      → ((p : Program) → IsFound Plain plan objects f p → IsProgramOf Plain d p)
       → ((mode : Mode) → AreNumbers mode objects f.names → InputsRise 0 objects → IsTable objects f.names f.entries → Fits mode view)
       → view.objects.now ≡ objects → d.objects.now ≡ objects → view.names.now ≡ f.names → d.names.now ≡ f.names → IsLinking (program_in l) d view files
   unfolding program_of

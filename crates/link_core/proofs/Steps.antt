@@ -24,7 +24,7 @@ use Rattle.link_output.specs.link_program.link_rules.Program.{Program, Part, pro
 use Rattle.link_output.specs.link_program.link_rules.Marks.{exported, repeated_export, live, pic_fault, unresolved, uncalled}
 use Rattle.link_output.specs.link_program.link_rules.Values.{Layout, rules_of, shapes}
 use Rattle.link_output.specs.link_program.link_rules.Output.{layout, image, source_windows}
-use Rattle.link_output.specs.link_program.link_rules.LinkOf.{asked_names, the_readers, too_many_names, exporting, marked, laid_out, written, memory_fault, table_fault, output_fault, reference_fault, length_fault, passed_fault, output_bytes, link_program, link_by, link_of}
+use Rattle.link_output.specs.link_program.link_rules.LinkOf.{asked_names, the_readers, too_many_names, exporting, marked, laid_out, written, memory_fault, table_fault, output_fault, reference_fault, length_fault, passed_fault, output_bytes, link_program, link_by}
 
 step : {A B : Type 0} (o : Option Fault) (a : A) (next : A → Result B Fault) → o ≡ None → (unless o a >>= next) ≡ next a
 step o a next e = ap (λ (o : Option Fault). unless o a >>= next) e
@@ -35,8 +35,8 @@ stop o a next f e = ap (λ (o : Option Fault). unless o a >>= next) e
 -- ---- loading
 
 pub not_loaded : (plan : Plan) (files : List (List ℕ)) (f : Fault)
-    → (candidates_of the_readers plan files >>= λ all. load Plain (asked_names plan) all) ≡ Err f → link_of plan files ≡ Err f
-unfolding link_of link_by
+    → (candidates_of the_readers plan files >>= λ all. load Plain (asked_names plan) all) ≡ Err f → link_by Plain the_readers plan files ≡ Err f
+unfolding link_by
 not_loaded plan files f e = by (candidates_of the_readers plan files) e
   where
     inner : (all : List Candidate) (r : Result (List Object) Fault) → r ≡ Err f → (r >>= λ objects. link_program Plain (program_of Plain plan files all objects)) ≡ Err f
@@ -53,8 +53,8 @@ not_loaded plan files f e = by (candidates_of the_readers plan files) e
 
 pub loaded : (plan : Plan) (files : List (List ℕ)) (all : List Candidate) (objects : List Object)
     → candidates_of the_readers plan files ≡ Ok all → load Plain (asked_names plan) all ≡ Ok objects
-    → link_of plan files ≡ link_program Plain (program_of Plain plan files all objects)
-unfolding link_of link_by
+    → link_by Plain the_readers plan files ≡ link_program Plain (program_of Plain plan files all objects)
+unfolding link_by
 loaded plan files all objects found given =
     ap (λ (r : Result (List Candidate) Fault). r >>= λ all. load Plain (asked_names plan) all >>= λ objects. link_program Plain (program_of Plain plan files all objects)) found
     ∙ ap (λ (r : Result (List Object) Fault). r >>= λ objects. link_program Plain (program_of Plain plan files all objects)) given
@@ -75,7 +75,7 @@ module _ (p : Program) (b c : Program → Option Fault) (next : Program → Resu
   second (Some f) e = ap (λ (r : Result Program Fault). r >>= next) e
   second None e = third (c p) e
 
-  named_by : (oa : Option Fault) → (unless oa p >>= λ p. unless (b p) p >>= λ p. unless (c p) p) ≡ r
+  pub named_by : (oa : Option Fault) → (unless oa p >>= λ p. unless (b p) p >>= λ p. unless (c p) p) ≡ r
       → (unless oa p >>= λ p. unless (b p) p >>= λ p. unless (c p) p >>= next) ≡ (r >>= next)
   named_by (Some f) e = ap (λ (r : Result Program Fault). r >>= next) e
   named_by None e = second (b p) e

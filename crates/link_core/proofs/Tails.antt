@@ -8,10 +8,12 @@ use Rattle.link_output.specs.link_program.wl_base.declared.fault.Fault.TheVarian
 use Rattle.link_output.specs.link_program.wl_base.declared.fault.InvalidAt.{InvalidAt}
 use Rattle.link_output.specs.link_program.object_file.declared.object.Object.{Object}
 use Rattle.link_output.specs.link_program.linking_section.declared.symbol.Symbol.{Symbol}
+use Rattle.link_output.specs.link_program.made_symbols.declared.mode.Mode.{Mode}
 use Rattle.link_output.specs.link_program.made_symbols.declared.mode.Mode.TheVariants.{Plain}
 use Rattle.link_output.specs.link_program.round_rules.Rounds.{Candidate, load}
 use Rattle.link_output.specs.link_program.name_rules.Entries.{InputSymbol}
 use Rattle.link_output.specs.link_program.link_plan.declared.plan.Plan.{Plan}
+use Rattle.link_output.specs.link_program.link_rules.ModeOf.{mode_of}
 use Rattle.link_output.specs.link_program.link_rules.Candidates.{candidates_of}
 use Rattle.link_output.specs.link_program.link_rules.Program.{Program, Part, program_of}
 use Rattle.link_output.specs.link_program.link_rules.LinkOf.{asked_names, the_readers, link_program, link_by, link_of}
@@ -93,41 +95,45 @@ joined_stands len inputs p = record {
 nothing : Result (List ℕ) Fault
 nothing = Ok []
 
-laid_stands : (p : Program) (all : List Candidate) (es : List InputSymbol) (parts : List Part) (len : ℕ) → Stands len (laid_tail Plain p all es parts len)
+laid_stands : (mode : Mode) (p : Program) (all : List Candidate) (es : List InputSymbol) (parts : List Part) (len : ℕ) → Stands len (laid_tail mode p all es parts len)
 unfolding laid_tail nothing
-laid_stands p all es parts len = by p.plan.keep_debug
+laid_stands mode p all es parts len = by p.plan.keep_debug
   where
-    by : (b : Bool) → Stands len (if b then live_tail Plain p all parts es len else nothing)
+    by : (b : Bool) → Stands len (if b then live_tail mode p all parts es len else nothing)
     by true = joined_stands len _ _
     by false = record { never = tt; within = λ short. omega (arith, short) }
 
-program_stands : (p : Program) (all : List Candidate) (len : ℕ) → Stands len (program_tail Plain p all len)
+program_stands : (mode : Mode) (p : Program) (all : List Candidate) (len : ℕ) → Stands len (program_tail mode p all len)
 unfolding program_tail
-program_stands p all len = laid_stands p all _ _ len
+program_stands mode p all len = laid_stands mode p all _ _ len
 
-module _ (plan : Plan) (files : List (List ℕ)) (len : ℕ) where
+module _ (mode : Mode) (plan : Plan) (files : List (List ℕ)) (len : ℕ) where
   -- of the loaded objects of a link that is given
-  tail_stands : (bytes : List ℕ) → link_of plan files ≡ Ok bytes → Stands len (debug_tail plan files len)
-  unfolding debug_tail debug_tail_by link_of link_by
-  tail_stands bytes e = by (candidates_of the_readers plan files) e
+  tail_stands_by : (bytes : List ℕ) → link_by mode the_readers plan files ≡ Ok bytes → Stands len (debug_tail_by mode the_readers plan files len)
+  unfolding debug_tail_by link_by
+  tail_stands_by bytes e = by (candidates_of the_readers plan files) e
     where
-      objects_stand : (all : List Candidate) (r : Result (List Object) Fault) → (r >>= λ objects. link_program Plain (program_of Plain plan files all objects)) ≡ Ok bytes
-          → Stands len (r >>= λ objects. program_tail Plain (program_of Plain plan files all objects) all len)
-      objects_stand all (Ok objects) e = program_stands (program_of Plain plan files all objects) all len
+      objects_stand : (all : List Candidate) (r : Result (List Object) Fault) → (r >>= λ objects. link_program mode (program_of mode plan files all objects)) ≡ Ok bytes
+          → Stands len (r >>= λ objects. program_tail mode (program_of mode plan files all objects) all len)
+      objects_stand all (Ok objects) e = program_stands mode (program_of mode plan files all objects) all len
       objects_stand all (Err f) e = absurd cc
 
-      by : (r : Result (List Candidate) Fault) → (r >>= λ all. load Plain (asked_names plan) all >>= λ objects. link_program Plain (program_of Plain plan files all objects)) ≡ Ok bytes
-          → Stands len (r >>= λ all. load Plain (asked_names plan) all >>= λ objects. program_tail Plain (program_of Plain plan files all objects) all len)
-      by (Ok all) e = objects_stand all (load Plain (asked_names plan) all) e
+      by : (r : Result (List Candidate) Fault) → (r >>= λ all. load mode (asked_names plan) all >>= λ objects. link_program mode (program_of mode plan files all objects)) ≡ Ok bytes
+          → Stands len (r >>= λ all. load mode (asked_names plan) all >>= λ objects. program_tail mode (program_of mode plan files all objects) all len)
+      by (Ok all) e = objects_stand all (load mode (asked_names plan) all) e
       by (Err f) e = absurd cc
 
   -- what is said of the loaded objects
-  pub loaded_tail : (all : List Candidate) (objects : List Object) → candidates_of the_readers plan files ≡ Ok all → load Plain (asked_names plan) all ≡ Ok objects
-      → debug_tail plan files len ≡ program_tail Plain (program_of Plain plan files all objects) all len
-  unfolding debug_tail debug_tail_by
+  pub loaded_tail : (all : List Candidate) (objects : List Object) → candidates_of the_readers plan files ≡ Ok all → load mode (asked_names plan) all ≡ Ok objects
+      → debug_tail_by mode the_readers plan files len ≡ program_tail mode (program_of mode plan files all objects) all len
+  unfolding debug_tail_by
   loaded_tail all objects found given =
-      ap (λ (r : Result (List Candidate) Fault). r >>= λ all. load Plain (asked_names plan) all >>= λ objects. program_tail Plain (program_of Plain plan files all objects) all len) found
-      ∙ ap (λ (r : Result (List Object) Fault). r >>= λ objects. program_tail Plain (program_of Plain plan files all objects) all len) given
+      ap (λ (r : Result (List Candidate) Fault). r >>= λ all. load mode (asked_names plan) all >>= λ objects. program_tail mode (program_of mode plan files all objects) all len) found
+      ∙ ap (λ (r : Result (List Object) Fault). r >>= λ objects. program_tail mode (program_of mode plan files all objects) all len) given
+
+tail_stands : (plan : Plan) (files : List (List ℕ)) (len : ℕ) (bytes : List ℕ) → link_of plan files ≡ Ok bytes → Stands len (debug_tail plan files len)
+unfolding debug_tail link_of
+tail_stands plan files len bytes link = tail_stands_by (mode_of plan) plan files len bytes link
 
 -- ---- behind a module
 

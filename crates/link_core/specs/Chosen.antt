@@ -1,6 +1,6 @@
 -- When what is exported and what is live are those of a program.
 use Rattle.std.specs.Prelude.{◌≡◌, ℕ, List, map, All, Contains, Result, Ok, Err}
-use Rattle.link_output.specs.link_program.link_rules.ModeOf.{mode_of}
+use Rattle.link_output.specs.link_program.made_symbols.declared.mode.Mode.TheVariants.{Plain}
 use Rattle.link_output.specs.link_program.link_rules.Program as rules
 use Rattle.link_output.specs.link_program.link_rules.Marks.{exported, live}
 use Rattle.link_output.specs.link_program.link_rules.LinkOf.{exporting, laid_out}
@@ -21,9 +21,9 @@ pub record IsChosen (s : Stage) (d : Program) (winners : List Winner) (numbers :
 
 -- Its exported winners and its live parts.
 abbrev pub stage_of : rules.Program → Stage
-stage_of p = record { program = p; exports = exported (mode_of p.plan) p; parts = live p (exported (mode_of p.plan) p) }
+stage_of p = record { program = p; exports = exported Plain p; parts = live p (exported Plain p) }
 
 -- What choosing answers: what is exported and live, and then the link is what laying it out gives; or the fault that ends it before.
 abbrev pub Chooses : Result Chosen LinkError → Program → rules.Program → Type 0
-Chooses (Ok c) d p = (exporting (mode_of p.plan) p (exported (mode_of p.plan) p) ≡ laid_out (mode_of p.plan) p (exported (mode_of p.plan) p) (live p (exported (mode_of p.plan) p))) × IsChosen (stage_of p) d c.exports c.live.numbers
-Chooses (Err e) d p = Fails e (exporting (mode_of p.plan) p (exported (mode_of p.plan) p))
+Chooses (Ok c) d p = (exporting Plain p (exported Plain p) ≡ laid_out Plain p (exported Plain p) (live p (exported Plain p))) × IsChosen (stage_of p) d c.exports c.live.numbers
+Chooses (Err e) d p = Fails e (exporting Plain p (exported Plain p))

@@ -1,5 +1,6 @@
 pub mod Answers
 pub mod Linked
+pub mod Whole
 pub mod Checked
 pub mod Loading
 pub mod Linking

@@ -1,12 +1,13 @@
-//! The whole link, as a list of steps in the order of its definition (`link_of` in link_rules/specs/LinkOf.antt): load, find, exports,
+//! The link of a module, as a list of steps in the order of its definition (`link_of` in link_rules/specs/LinkOf.antt): load, find, exports,
 //! mark, unresolved, place, number, image, measure, patches, write. Each gives what the next ones need, or a fault that ends the link. Behind
 //! them stand the check of the output and the debug sections of the objects, where the plan asks for these (`linked` in specs/Linked.antt). The
 //! sections are joined before the output is written, while what was found of the program is still there.
 ghost use Rattle.std.specs.Prelude.{◌≡◌, ◌<◌, ◌^◌, true, [], length, unwrap_or, IfOk, IsTrue};
+ghost use Rattle.link_output.specs.link_program.made_symbols.declared.mode.Mode.TheVariants as modes;
 ghost use Rattle.link_output.specs.link_program.link_plan.Plan.{IsPlan};
 ghost use Rattle.link_output.specs.link_program.link_rules.ModeOf.{mode_of};
 ghost use Rattle.link_output.specs.link_program.link_rules.Program as rules;
-ghost use Rattle.link_output.specs.link_program.link_rules.LinkOf.{link_of, link_program, laid_out, written};
+ghost use Rattle.link_output.specs.link_program.link_rules.LinkOf.{the_readers, link_of, link_by, link_program, laid_out, written};
 ghost use Rattle.link_output.specs.link_program.Answers.{Passes};
 ghost use Rattle.link_image.specs.link_layout.Layout.{IsLayout};
 ghost use Rattle.link_output.specs.link_program.Loaded.{IsLoaded};
@@ -14,8 +15,8 @@ ghost use Rattle.link_output.specs.link_program.Program.{IsProgram};
 ghost use Rattle.link_output.specs.link_program.name_entries.Fits.{Fits};
 ghost use Rattle.link_output.specs.link_program.Stand.{PartsStand};
 ghost use Rattle.debug_places.specs.Tails.{LoadedStage};
-ghost use Rattle.debug_links.specs.debug_tails.Tails.{debug_tail as told_tail, program_tail, with_debug};
-ghost use Rattle.link_core.specs.Answers.{Answers, IsShort};
+ghost use Rattle.debug_links.specs.debug_tails.Tails.{debug_tail as told_tail, debug_tail_by, program_tail};
+ghost use Rattle.link_core.specs.Answers.{Answers, AnswersPlain, IsShort};
 ghost use Rattle.link_core.specs.Checked.{KeepsValid};
 ghost use Rattle.link_core.specs.Chosen.{IsChosen, Chooses};
 ghost use Rattle.link_core.specs.Linked.{linked};
@@ -27,7 +28,7 @@ ghost use Rattle.link_core.specs.Prepared.{outputs, IsReady};
 ghost use Rattle.link_core.specs.Tails.{modules, stage_tail, TellsTail};
 ghost use Rattle.link_core.specs.Telling.{Tells};
 ghost use Rattle.mismatch_rules.specs.Mismatches.{standing};
-ghost use Rattle.called_variants.specs.Called.{calls_told_of, told_of};
+ghost use Rattle.called_variants.specs.Called.{calls_told_of, calls_told_by, told_of};
 ghost use Rattle.debug_links.specs.valid_links.link_runs.Links.{Runs};
 ghost use Rattle.debug_links.specs.valid_links.output_check.Check.{invalid_fault, IsValidOutput};
 ghost use Rattle.debug_links.specs.valid_links.Links.{AllValid};
@@ -47,7 +48,9 @@ use link_output::laws::{
 };
 use link_output::{Entries, Home, LinkError, Program, Winner, measured, write};
 use link_plan::Plan;
-use lost_ctors::{all_are_meant, exports, live_parts, repeated_export, uncalled, unresolved};
+use lost_ctors::{
+    Mode, all_are_meant, exports, live_parts, mode_of, repeated_export, uncalled, unresolved,
+};
 use mismatch_rules::Mismatch;
 use program_build::Found;
 use program_build::laws::parts_stand;
@@ -64,47 +67,9 @@ const LEAST_WORK: usize = 6 << 20;
 /// How many bytes of a file take as long to read as what each file takes by itself.
 const FILE_WORK: usize = 4 << 10;
 
-/// Links the files as the plan asks: the bytes of the module, and behind it the joined debug sections of the objects where the plan keeps
-/// them; or the first fault that applies. There is one file for each input of the plan, or as many as objects were generated.
-///
-/// Given objects are read, groups and names are raced for, live parts are marked and the output is filled by as many workers as the plan
-/// has threads, or by one where the gate is open and little is to be linked; each passes the gate before a job. The values of windows are
-/// found by the same workers, who pass no gate for that. The answer doesn't depend on them. From the moment that the output's buffer is
-/// reserved nothing can want memory; but where the plan asks for the check of the output, from the end of the check on.
-///
-/// What was read of the files, and the names, aren't given back, but kept until the process ends: that would be a free for each small piece,
-/// which takes up to a tenth of a link of many objects.
-pub fn link<R: Threads + Sync, G: Gate>(
-    rt: &R,
-    alloc: Global,
-    plan: &Plan,
-    files: &[Seq<u8>],
-    gate: &G,
-) -> Result<Seq<u8>, LinkError>
-    requires plan { IsPlan plan.now }
-    requires files { length files.now ≡ unwrap_or plan.now.make_case (length plan.now.inputs) }
-    // The answer is the definition's, or want of memory.
-    ensures exact { Answers result (linked plan.now files.now) }
-    // The module runs as the plan and the files tell, with nothing linked.
-    ensures runs { IfOk result (λ bytes. Runs plan.now files.now bytes) }
-    // Where all objects that are loaded are valid, so is the module, and the check refuses nothing, whether the plan asks for it or not.
-    ensures valid { AllValid plan.now files.now → KeepsValid plan.now files.now result }
-    // Where the plan asks for the check, the module is valid whatever the objects are.
-    ensures checked { IsTrue plan.now.validate → IfOk result IsValidOutput }
-    // Where the plan keeps debug sections, each place in a live function that they name is that of the same instruction in the module, and the
-    // dead word stands for each that isn't live.
-    ensures places { plan.now.keep_debug ≡ true → IfOk result (SaysPlaces plan.now files.now) }
-    // The bytes are fewer than 2^31.
-    ensures short { IsShort result }
-{
-    let mut told = Seq::new(alloc);
-    let answer = link_telling(rt, alloc, plan, files, gate, &mut told);
-    answer
-}
-
-/// The same, and what is told of functions that are called by another type than their definition has, in a list that begins empty: but for
-/// want of memory all that is to be told, whether the link is refused or not.
-pub fn link_telling<R: Threads + Sync, G: Gate>(
+/// Links the files into a module, and tells of functions that are called by another type than their definition has, in a list that begins
+/// empty: but for want of memory all that is to be told, whether the link is refused or not.
+pub(crate) fn module_telling<R: Threads + Sync, G: Gate>(
     rt: &R,
     alloc: Global,
     plan: &Plan,
@@ -144,6 +109,7 @@ fn link_checked<R: Threads + Sync, G: Gate>(
     requires plan { IsPlan plan.now }
     requires files { length files.now ≡ unwrap_or plan.now.make_case (length plan.now.inputs) }
     ensures exact { Answers result (linked plan.now files.now) }
+    ensures plain { AnswersPlain plan.now result }
     ensures checked { IsTrue plan.now.validate → IfOk result IsValidOutput }
     ensures short { IsShort result }
     ensures told { told.old ≡ [] → Tells result told.new (calls_told_of plan.now files.now) }
@@ -179,7 +145,7 @@ fn check<R: Threads + Sync>(
     }
 }
 
-// The link without the check, and its debug sections.
+// The link without the check, and its debug sections. The steps of a shared link aren't all there yet: it is answered as want of memory.
 fn link_files<R: Threads + Sync, G: Gate>(
     rt: &R,
     alloc: Global,
@@ -191,9 +157,33 @@ fn link_files<R: Threads + Sync, G: Gate>(
     requires plan { IsPlan plan.now }
     requires files { length files.now ≡ unwrap_or plan.now.make_case (length plan.now.inputs) }
     ensures exact { Answers (modules result) (link_of plan.now files.now) }
+    ensures plain { AnswersPlain plan.now (modules result) }
     ensures tail { IfOk result (λ w. TellsTail w.tail (told_tail plan.now files.now (length w.bytes))) }
     ensures short { IfOk result (λ w. length w.bytes < 2 ^ 31) }
     ensures told { told.old ≡ [] → Tells result told.new (calls_told_of plan.now files.now) }
+{
+    match mode_of(plan) {
+        Mode::Plain => link_plain(rt, alloc, plan, files, gate, told),
+        Mode::Shared => Err(LinkError::OutOfMemory),
+    }
+}
+
+// The same of a plan that asks for a plain output.
+fn link_plain<R: Threads + Sync, G: Gate>(
+    rt: &R,
+    alloc: Global,
+    plan: &Plan,
+    files: &[Seq<u8>],
+    gate: &G,
+    told: &mut Seq<Mismatch>,
+) -> Result<Whole, LinkError>
+    requires plan { IsPlan plan.now }
+    requires files { length files.now ≡ unwrap_or plan.now.make_case (length plan.now.inputs) }
+    requires plain { mode_of plan.now ≡ modes.Plain }
+    ensures exact { Answers (modules result) (link_by modes.Plain the_readers plan.now files.now) }
+    ensures tail { IfOk result (λ w. TellsTail w.tail (debug_tail_by modes.Plain the_readers plan.now files.now (length w.bytes))) }
+    ensures short { IfOk result (λ w. length w.bytes < 2 ^ 31) }
+    ensures told { told.old ≡ [] → Tells result told.new (calls_told_by modes.Plain the_readers plan.now files.now) }
 {
     let workers = workers_of(plan, files, gate);
     let inputs = load_inputs(rt, alloc, plan, files, workers, gate)?;
@@ -233,9 +223,10 @@ fn prepare<R: Threads + Sync, G: Gate>(
     requires files { l.origin.files ≡ files.now }
     requires objects { l.objects ≡ inputs.now.loaded }
     requires loaded { IsLoaded l.origin.files l.origin.all inputs.now.loaded inputs.now.homes }
-    ensures exact { Answers (outputs files.now result) (link_program (mode_of l.origin.plan) (program_in l)) }
+    requires plain { mode_of plan.now ≡ modes.Plain }
+    ensures exact { Answers (outputs files.now result) (link_program modes.Plain (program_in l)) }
     ensures ready { IfOk result (IsReady files.now) }
-    ensures tail { IfOk result (λ p. TellsTail p.tail (program_tail (mode_of l.origin.plan) (program_in l) l.origin.all p.measured.len)) }
+    ensures tail { IfOk result (λ p. TellsTail p.tail (program_tail modes.Plain (program_in l) l.origin.all p.measured.len)) }
     ensures told { told.old ≡ [] → Tells result told.new (told_of (standing (program_in l))) }
 {
     let objects = inputs.objects();
@@ -269,6 +260,7 @@ fn choose<R: Threads + Sync, G: Gate>(
     requires fits { Fits (mode_of p.plan) entries }
     requires objects { entries.objects.now ≡ program.objects.now }
     requires stand { PartsStand p }
+    requires plain { mode_of p.plan ≡ modes.Plain }
     ensures { Chooses result program.entry p }
 {
     let exports = exports(alloc, program)?;
@@ -296,7 +288,7 @@ fn lay_out<R: Threads + Sync>(
     requires is { IsLinking s.stage.program program entries files.now }
     requires chosen { IsChosen s.stage program exports.now live.now }
     requires loaded { IsLoaded s.stage.program.files s.all s.stage.program.objects homes.now }
-    ensures exact { Answers (outputs files.now result) (laid_out (mode_of s.stage.program.plan) s.stage.program s.stage.exports s.stage.parts) }
+    ensures exact { Answers (outputs files.now result) (laid_out modes.Plain s.stage.program s.stage.exports s.stage.parts) }
     ensures ready { IfOk result (IsReady files.now) }
     ensures tail { IfOk result (λ p. TellsTail p.tail (stage_tail s p.measured.len)) }
 {
@@ -327,7 +319,7 @@ fn make_ready<R: Threads + Sync>(
     requires chosen { IsChosen s.stage layout.program exports.now live.now }
     requires files { files.now ≡ s.stage.program.files }
     requires loaded { IsLoaded s.stage.program.files s.all s.stage.program.objects homes.now }
-    ensures exact { Answers (outputs files.now result) (written (mode_of s.stage.program.plan) s.stage.program (the_image s.stage) (the_windows s.stage)) }
+    ensures exact { Answers (outputs files.now result) (written modes.Plain s.stage.program (the_image s.stage) (the_windows s.stage)) }
     ensures ready { IfOk result (IsReady files.now) }
     ensures tail { IfOk result (λ p. TellsTail p.tail (stage_tail s p.measured.len)) }
 {
@@ -348,7 +340,7 @@ fn make_ready<R: Threads + Sync>(
 }
 
 // How many workers a link is worth: as many as the plan has threads, but one where little is to be read and nobody waits at the gate.
-fn workers_of<G: Gate>(plan: &Plan, files: &[Seq<u8>], gate: &G) -> Workers
+pub(crate) fn workers_of<G: Gate>(plan: &Plan, files: &[Seq<u8>], gate: &G) -> Workers
     requires { IsPlan plan.now }
 {
     let threads = if gate.is_open() && is_small(files) {

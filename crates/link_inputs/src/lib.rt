@@ -18,4 +18,5 @@ mod words;
 pub use call::load_inputs;
 pub use inputs::Inputs;
 pub use laws::loaded_objects_are_sound;
+pub use limits::total_len;
 pub use link_program::{Home, LinkError};

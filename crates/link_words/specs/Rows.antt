@@ -1,6 +1,6 @@
 -- Worked rows: words, and what they ask for.
 use Rattle.std.specs.Prelude.{◌≡◌, [], ◌∷◌, codes, Ok, Err, Some, None, refl, true, false}
-use Rattle.wl_base.specs.declared.usage.Usage.TheVariants.{BadThreads, UnknownOption, NoOutput, NoInput, OpenGroup, MissingValue, BadNumber, CaseAndInput}
+use Rattle.wl_base.specs.declared.usage.Usage.TheVariants.{BadThreads, UnknownOption, NoOutput, NoInput, OpenGroup, MissingValue, BadNumber, CaseAndInput, PartialClash}
 use Rattle.link_words.specs.Faults.{first_fault}
 use Rattle.link_words.specs.Words.{plan_of, plan_from}
 
@@ -77,6 +77,63 @@ uneven_size = refl
 value_to_short : plan_of (codes "a.o" ∷ codes "-o=b" ∷ []) ≡ Err (UnknownOption 1)
 unfolding plan_of first_fault
 value_to_short = refl
+
+-- a generated case is no partial link; what it stands beside is judged before
+partial_case : plan_of (codes "-r" ∷ codes "--make-case=2" ∷ []) ≡ Err PartialClash
+unfolding plan_of first_fault
+partial_case = refl
+
+partial_case_and_input : plan_of (codes "--make-case=2" ∷ codes "-r" ∷ codes "a.o" ∷ []) ≡ Err CaseAndInput
+unfolding plan_of first_fault
+partial_case_and_input = refl
+
+-- `-r` takes no value, and asks for an input and an output as any link does
+partial_without_output : plan_of (codes "a.o" ∷ codes "-r" ∷ []) ≡ Err NoOutput
+unfolding plan_of first_fault
+partial_without_output = refl
+
+partial_without_input : plan_of (codes "-r" ∷ codes "-o" ∷ codes "r.o" ∷ []) ≡ Err NoInput
+unfolding plan_of first_fault
+partial_without_input = refl
+
+value_to_partial : plan_of (codes "a.o" ∷ codes "-r=b" ∷ []) ≡ Err (UnknownOption 1)
+unfolding plan_of first_fault
+value_to_partial = refl
+
+-- numbers are judged beside `-r` too
+partial_and_uneven_size : plan_of (codes "a.o" ∷ codes "-r" ∷ codes "-o" ∷ codes "r.o" ∷ codes "-z" ∷ codes "stack-size=8" ∷ []) ≡ Err (BadNumber 4)
+unfolding plan_of first_fault
+partial_and_uneven_size = refl
+
+-- a plan of a partial link, beside words that say more
+partial : plan_of (codes "-r" ∷ codes "a.o" ∷ codes "b.o" ∷ codes "--validate" ∷ codes "--keep-debug" ∷ codes "--export=f" ∷ codes "-o" ∷ codes "r.o" ∷ codes "-r" ∷ [])
+    ≡ Ok (record {
+      inputs = record { place = 1; lazy = false; whole = false } ∷ record { place = 2; lazy = false; whole = false } ∷ [];
+      output = Some (codes "r.o");
+      entry = Some (codes "_start");
+      exports = codes "f" ∷ [];
+      exports_if = [];
+      wanted = [];
+      export_dynamic = false;
+      allow_undefined = false;
+      import_memory = false;
+      gc = true;
+      stack_first = false;
+      global_base = None;
+      stack_size = 65536;
+      initial_memory = 0;
+      max_memory = None;
+      threads = 4;
+      make_case = None;
+      shared = false;
+      partial = true;
+      validate = true;
+      keep_debug = true;
+      like_lld = false;
+      loose_calls = false;
+    })
+unfolding plan_of plan_from first_fault
+partial = refl
 
 -- a plan of a generated case: it has no entry, its first function is exported, and its output is checked
 case : plan_of (codes "--export=g" ∷ codes "-z" ∷ codes "stack-size=0x20" ∷ codes "--no-gc-sections" ∷ codes "--validate" ∷ codes "--make-case=2" ∷ codes "--export-table" ∷ [])

@@ -5,7 +5,7 @@ use Rattle.wl_base.specs.declared.usage.Usage.{Usage}
 use Rattle.link_plan.specs.declared.plan.Plan.{Plan}
 use Rattle.link_words.specs.declared.error.WordError.{WordError}
 use Rattle.link_words.specs.declared.error.WordError.TheVariants as errors
-use Rattle.link_words.specs.declared.kind.Kind.TheVariants.{Output, ExportIfDefined, ExportDynamic, AllowUndefined, Wanted, GlobalBase, StackFirst, StackSize, InitialMemory, MaxMemory, ImportMemory, GcSections, NoGcSections, Threads, Validate, KeepDebug}
+use Rattle.link_words.specs.declared.kind.Kind.TheVariants.{Output, ExportIfDefined, ExportDynamic, AllowUndefined, Wanted, GlobalBase, StackFirst, StackSize, InitialMemory, MaxMemory, ImportMemory, GcSections, NoGcSections, Threads, Validate, KeepDebug, Partial}
 use Rattle.link_words.specs.declared.range.Range.TheVariants.{Address, Stack, Memory, Workers}
 use Rattle.link_words.specs.Items.{Said}
 use Rattle.link_words.specs.Cut.{cut_of}
@@ -33,7 +33,7 @@ plan_from items = record {
   threads = unwrap_or (numeral Threads Workers items) 4;
   make_case = case items;
   shared = false;
-  partial = false;
+  partial = has Partial items;
   validate = has Validate items;
   keep_debug = has KeepDebug items;
   like_lld = false;

@@ -59,6 +59,8 @@ pub enum Kind {
     Validate,
     /// `--keep-debug`.
     KeepDebug,
+    /// `-r`.
+    Partial,
     /// `-m wasm32` and the options to strip, which have no effect.
     Accepted,
 }

@@ -76,6 +76,7 @@ pub fn option_of(word: &str) -> Option<Rule>
         "--make-case" => found(Kind::MakeCase, Takes::Long(Form::Number(Range::Cases))),
         "--validate" => found(Kind::Validate, Takes::Nothing),
         "--keep-debug" => found(Kind::KeepDebug, Takes::Nothing),
+        "-r" => found(Kind::Partial, Takes::Nothing),
         "-m" => found(Kind::Accepted, Takes::Next(Form::Machine)),
         "-s" => found(Kind::Accepted, Takes::Nothing),
         "-S" => found(Kind::Accepted, Takes::Nothing),

@@ -1,5 +1,5 @@
 //! The plan of the words.
-ghost use Rattle.std.specs.Prelude.{◌≡◌, ◌<◌, ◌^◌, ℕ, length, All, IfOk, IsSome, IsNone};
+ghost use Rattle.std.specs.Prelude.{◌≡◌, ◌<◌, ◌^◌, ℕ, length, All, IfOk, IsSome, IsNone, IsTrue};
 ghost use Rattle.std.specs.Option.{option_map};
 ghost use Rattle.link_plan.specs.Plan.{IsPlan};
 ghost use Rattle.link_words.specs.Fields.{entry as entry_of, usual_entry, all_exports};
@@ -30,10 +30,11 @@ pub fn read_words(alloc: Global, words: &[Text]) -> Result<Plan, WordError>
     ensures numbers { IfOk result IsPlan }
     ensures places { IfOk result (λ plan. All (λ input. input.place < length words.now) plan.inputs) }
 
-    // A generated case has no input, and each other link has an input and an output.
+    // A generated case has no input and isn't partial, and each other link has an input and an output.
     ensures case { IfOk result (λ plan. IsSome plan.make_case → length plan.inputs ≡ 0) }
     ensures input { IfOk result (λ plan. IsNone plan.make_case → 0 < length plan.inputs) }
     ensures output { IfOk result (λ plan. IsNone plan.make_case → IsSome plan.output) }
+    ensures partial { IfOk result (λ plan. IsTrue plan.partial → IsNone plan.make_case) }
 {
     let (items, stop) = cut_words(alloc, words)?;
     let items = items.as_slice();
@@ -71,7 +72,7 @@ fn plan(alloc: Global, items: &[Item<'_>]) -> Result<Plan, OutOfMemory>
         threads: threads(items),
         make_case: case(items),
         shared: false,
-        partial: false,
+        partial: has(items, Kind::Partial),
         validate: has(items, Kind::Validate),
         keep_debug: has(items, Kind::KeepDebug),
         like_lld: false,

@@ -87,7 +87,5 @@ parts_known ps h = All-from_recursion PartFits ps (by ps h)
         let q = and_parts (part_fits p) (list_all part_fits ps) h in
         (All-from_recursion (LiesIn (length p.bytes.now)) (map empty_of p.relocs.now) (all_of (length p.bytes.now) p.relocs.now q.0), by ps q.1)
 
-pub tree_known : (t : Tree) → (list_all part_fits t.bodies.now && list_all part_fits t.segments.now) ≡ true → TreeFits t
-tree_known t h =
-    let p = and_parts (list_all part_fits t.bodies.now) (list_all part_fits t.segments.now) h in
-    record { bodies = parts_known t.bodies.now p.0; segments = parts_known t.segments.now p.1 }
+pub tree_known : (t : Tree) → list_all part_fits t.bodies.now ≡ true → list_all part_fits t.segments.now ≡ true → TreeFits t
+tree_known t bodies segments = record { bodies = parts_known t.bodies.now bodies; segments = parts_known t.segments.now segments }

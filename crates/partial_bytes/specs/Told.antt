@@ -10,7 +10,7 @@ use Rattle.reloc_apply.specs.Apart.{LiesIn}
 use Rattle.link_rules.specs.Program.{Program, Part as ProgramPart}
 use Rattle.link_rules.specs.Values.{form_of, part_bytes}
 use Rattle.partial_rules.specs.Relocatable.{Relocatable, SpelledGlobal, Windowed}
-use Rattle.partial_rules.specs.Partial.{windowed, named_reloc}
+use Rattle.partial_rules.specs.Partial.{empty_window, windowed, named_reloc}
 use Rattle.partial_bytes.specs.declared.tree.Part.{Part}
 use Rattle.partial_bytes.specs.declared.tree.GlobalRow.{GlobalRow}
 use Rattle.partial_bytes.specs.declared.tree.InfoRow.{InfoRow}
@@ -68,6 +68,20 @@ pub record TreeFits (t : Tree) : Type 0 where
   pub bodies : All PartFits t.bodies.now
   pub segments : All PartFits t.segments.now
 
--- Where the relocations are those that the definition makes of what a part names, the bytes with empty windows are the definition's.
-abbrev pub PartsAreWindowed : Type 0
-PartsAreWindowed = (p : Program) (part : ProgramPart) → part_with (map (named_reloc p) part.named) (part_bytes p part) ≡ windowed p part
+-- ---- the parts of a program
+
+-- The rows of parts: their relocations are those that the definition makes of what the parts name, and their bytes are the parts'.
+pub record AreRows (p : Program) (parts : List ProgramPart) (rows : List Part) : Type 0 where
+  pub relocs : map (λ row. row.relocs.now) rows ≡ map (λ part. map (named_reloc p) part.named) parts
+  pub bytes : map (λ row. row.bytes.now) rows ≡ map (part_bytes p) parts
+
+-- They stand for the parts with empty windows.
+abbrev pub RowsAreWindowed : Type 0
+RowsAreWindowed = (p : Program) (parts : List ProgramPart) (rows : List Part) → AreRows p parts rows → map part_told rows ≡ map (windowed p) parts
+
+-- Where the windows of the parts lie in them, those of the rows do.
+abbrev pub WindowsLie : Program → ProgramPart → Type 0
+WindowsLie p part = All (LiesIn (length (part_bytes p part))) (map empty_window part.named)
+
+abbrev pub RowsFit : Type 0
+RowsFit = (p : Program) (parts : List ProgramPart) (rows : List Part) → AreRows p parts rows → All (WindowsLie p) parts → All PartFits rows

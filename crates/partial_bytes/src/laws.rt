@@ -1,9 +1,11 @@
 //! What holds of told data, as calls that do nothing: their contracts are the laws.
-ghost use Rattle.partial_bytes.specs.Told.{PartsAreWindowed};
+ghost use Rattle.partial_bytes.specs.Told.{RowsAreWindowed, RowsFit};
 
-/// Where a part's relocations are those that the definition makes of what the part names, its bytes
-/// with empty windows are those of the definition.
-#[tactic(auto, using(crate::proofs::Windowed::parts_windowed))]
-pub fn parts_are_windowed()
-    ensures { PartsAreWindowed }
+/// Parts whose relocations are those that the definition makes of what parts of a program name, and
+/// whose bytes are theirs, stand for those with empty windows. Where these windows lie in the parts,
+/// they meet what is asked of a tree.
+#[tactic(auto, using(crate::proofs::Windowed::rows_windowed, crate::proofs::Windowed::rows_fit))]
+pub fn rows_are_windowed()
+    ensures told { RowsAreWindowed }
+    ensures fit { RowsFit }
 {}

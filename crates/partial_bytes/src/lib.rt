@@ -25,7 +25,7 @@ mod tree;
 mod within;
 mod writing;
 
-pub use laws::parts_are_windowed;
+pub use laws::rows_are_windowed;
 pub use measuring::{Measured, SectionSize, measure};
 pub use spans::bytes_in;
 pub use tree::{GlobalRow, GroupRow, InfoRow, Part, SymbolRow, Tree};

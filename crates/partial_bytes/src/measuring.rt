@@ -31,6 +31,7 @@ pub struct SectionSize {
 /// The length of the object, and what else is known by then.
 #[derive(Clone, Copy)]
 pub struct Measured {
+    /// How many bytes the object has.
     pub len: u64,
     /// The code section.
     pub bodies: SectionSize,

@@ -38,8 +38,11 @@ pub struct SymbolRow<'a> {
     pub kind: SymbolKind,
     pub flags: u32,
     pub name: Option<&'a [u8]>,
+    /// The index of what it names, and of a datum's segment.
     pub index: u32,
+    /// Where a datum begins in its segment.
     pub offset: u32,
+    /// How many bytes a datum has.
     pub size: u32,
 }
 
@@ -50,9 +53,10 @@ pub struct GroupRow<'a> {
     pub members: &'a [Member],
 }
 
-/// The object. `tree_told` says which it is.
+/// The object: its lists in the order of their sections. `tree_told` says which object it is.
 #[derive(Clone, Copy)]
 pub struct Tree<'a> {
+    /// The function types, which all else names by their places.
     pub types: &'a [FuncType],
     pub imports: &'a [Import],
     /// The place of each function's type.
@@ -64,6 +68,7 @@ pub struct Tree<'a> {
     /// One for each segment.
     pub infos: &'a [InfoRow<'a>],
     pub symbols: &'a [SymbolRow<'a>],
+    /// The init functions, by the symbols here.
     pub inits: &'a [InitFunc],
     pub groups: &'a [GroupRow<'a>],
 }

@@ -6,22 +6,22 @@ use Rattle.std.specs.List.{AllByRecursion, cons_option}
 use Rattle.std.proofs.lemmas.List.{take_more, length-append}
 use Rattle.std.proofs.lemmas.List.Elements.{filter_map-append, filter-append}
 use Rattle.std.proofs.lemmas.Option.{same_Some}
-use Rattle.link_program.specs.wl_base.Choice.{first_some}
-use Rattle.link_program.specs.wl_base.Names.{number_of}
-use Rattle.link_program.specs.linking_section.Flags.{is_explicit}
-use Rattle.link_program.specs.linking_section.declared.symbol.SymbolKind.{SymbolKind}
-use Rattle.link_program.specs.object_file.declared.object.Object.{Object}
-use Rattle.link_program.specs.name_rules.Entries.{InputSymbol, is_entry, is_kind, name_of}
-use Rattle.link_program.specs.name_rules.Meanings.{least_import}
-use Rattle.link_program.specs.name_entries.View.{entry_number}
-use Rattle.link_program.specs.link_rules.Program.{Program}
-use Rattle.link_program.specs.link_rules.Marks.{all_symbols}
-use Rattle.link_program.specs.declared.program.Program.{Program as Data}
-use Rattle.link_program.specs.made_symbols.declared.mode.Mode.TheVariants.{Plain}
-use Rattle.link_program.specs.Program.{IsProgramOf}
-use Rattle.link_program.proofs.name_entries_lemmas.Numbers.{name_at}
-use Rattle.partial_rules.specs.Partial as partial
-use Rattle.partial_rules.specs.Partial.{is_none}
+use Rattle.partial_symbols.specs.link_program.wl_base.Choice.{first_some}
+use Rattle.partial_symbols.specs.link_program.wl_base.Names.{number_of}
+use Rattle.partial_symbols.specs.link_program.linking_section.Flags.{is_explicit}
+use Rattle.partial_symbols.specs.link_program.linking_section.declared.symbol.SymbolKind.{SymbolKind}
+use Rattle.partial_symbols.specs.link_program.object_file.declared.object.Object.{Object}
+use Rattle.partial_symbols.specs.link_program.name_rules.Entries.{InputSymbol, is_entry, is_kind, name_of}
+use Rattle.partial_symbols.specs.link_program.name_rules.Meanings.{least_import}
+use Rattle.partial_symbols.specs.link_program.name_entries.View.{entry_number}
+use Rattle.partial_symbols.specs.link_program.link_rules.Program.{Program}
+use Rattle.partial_symbols.specs.link_program.link_rules.Marks.{all_symbols}
+use Rattle.partial_symbols.specs.link_program.declared.program.Program.{Program as Data}
+use Rattle.partial_symbols.specs.link_program.made_symbols.declared.mode.Mode.TheVariants.{Plain}
+use Rattle.partial_symbols.specs.link_program.Program.{IsProgramOf}
+use Rattle.partial_symbols.proofs.link_program_lemmas.name_entries_lemmas.Numbers.{name_at}
+use Rattle.partial_symbols.specs.partial_rules.Partial as partial
+use Rattle.partial_symbols.specs.partial_rules.Partial.{is_none}
 use Rattle.partial_symbols.specs.declared.facts.At.{At}
 use Rattle.partial_symbols.specs.declared.columns.Column.{Column}
 use Rattle.partial_symbols.specs.Standing.{Sight, column_at}

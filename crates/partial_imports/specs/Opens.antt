@@ -1,15 +1,15 @@
 -- The symbols of names that no object defines, with the imports that they take.
 use Rattle.std.specs.Prelude.{ℕ, ◌+◌, ◌==◌, Bool, List, [], ◌∷◌, filter, length, if◌then◌else◌, slice_index_or, Option, Some, None, option_map, option_and_then}
 use Rattle.std.specs.Option.{option_or}
-use Rattle.link_program.specs.wl_base.Choice.{first_some}
-use Rattle.link_program.specs.linking_section.Flags.{is_explicit, kind_code}
-use Rattle.link_program.specs.linking_section.declared.symbol.SymbolKind.{SymbolKind}
-use Rattle.link_program.specs.object_file.declared.object.Object.{Object}
-use Rattle.link_program.specs.name_rules.Entries.{InputSymbol, ImportKey, name_of}
-use Rattle.link_program.specs.name_rules.Meanings.{least_import}
-use Rattle.link_program.specs.name_entries.View.{entry_number}
-use Rattle.link_program.specs.link_rules.Program.{Program}
-use Rattle.partial_rules.specs.Partial.{name_references}
+use Rattle.partial_symbols.specs.link_program.wl_base.Choice.{first_some}
+use Rattle.partial_symbols.specs.link_program.linking_section.Flags.{is_explicit, kind_code}
+use Rattle.partial_symbols.specs.link_program.linking_section.declared.symbol.SymbolKind.{SymbolKind}
+use Rattle.partial_symbols.specs.link_program.object_file.declared.object.Object.{Object}
+use Rattle.partial_symbols.specs.link_program.name_rules.Entries.{InputSymbol, ImportKey, name_of}
+use Rattle.partial_symbols.specs.link_program.name_rules.Meanings.{least_import}
+use Rattle.partial_symbols.specs.link_program.name_entries.View.{entry_number}
+use Rattle.partial_symbols.specs.link_program.link_rules.Program.{Program}
+use Rattle.partial_symbols.specs.partial_rules.Partial.{name_references}
 use Rattle.partial_symbols.specs.declared.facts.At.{At}
 use Rattle.partial_symbols.specs.declared.facts.Spot.{Spot}
 use Rattle.partial_symbols.specs.Standing.{Sight, column_at}

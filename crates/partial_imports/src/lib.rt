@@ -4,3 +4,6 @@
 mod opens;
 
 pub use opens::{Open, count_of, opens_of};
+pub use partial_symbols::{
+    At, Content, Entries, FuncTypeRef, Named, Program, Tables, TypeRef, part_at, row_at,
+};

@@ -2,18 +2,17 @@
 ghost use Rattle.std.specs.Prelude.{◌≡◌, ◌++◌, [], Some, map, filter, filter_map, length, IfOk, OnOk};
 ghost use Rattle.std.specs.List.{cons_option};
 ghost use Rattle.std.specs.Option.{option_or};
-ghost use Rattle.link_program.specs.name_entries.Fits.{FitsObjects};
-ghost use Rattle.link_program.specs.link_rules.Program.{Program as Rules};
-ghost use Rattle.link_program.specs.declared.program.Program.{Program as Data};
-ghost use Rattle.link_program.specs.made_symbols.declared.mode.Mode.TheVariants.{Plain};
-ghost use Rattle.link_program.specs.Program.{IsProgramOf};
-ghost use Rattle.partial_rules.specs.Partial as partial;
+ghost use Rattle.partial_symbols.specs.link_program.name_entries.Fits.{FitsObjects};
+ghost use Rattle.partial_symbols.specs.link_program.link_rules.Program.{Program as Rules};
+ghost use Rattle.partial_symbols.specs.link_program.declared.program.Program.{Program as Data};
+ghost use Rattle.partial_symbols.specs.link_program.made_symbols.declared.mode.Mode.TheVariants.{Plain};
+ghost use Rattle.partial_symbols.specs.link_program.Program.{IsProgramOf};
+ghost use Rattle.partial_symbols.specs.partial_rules.Partial as partial;
 ghost use Rattle.partial_symbols.specs.Known.{symbol_there, IsSight};
 ghost use Rattle.partial_imports.specs.Opens.{open_at, open_seen, told_open, is_of, one_more, count_in};
 
-use link_program::Entries;
 use linking_section::SymbolKind;
-use partial_symbols::{At, Sight};
+use partial_symbols::{At, Entries, Sight};
 use std::alloc::Global;
 use wl_base::{OutOfMemory, Seq};
 

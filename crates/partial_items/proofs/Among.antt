@@ -6,8 +6,8 @@ use Rattle.std.proofs.lemmas.Bool.Decides.{nat_tests}
 use Rattle.std.proofs.lemmas.List.{length-append}
 use Rattle.std.proofs.lemmas.Option.{same_Some, none-some}
 use Rattle.type_merge.specs.Types.{type_number, with_type}
-use Rattle.link_program.specs.wasm_types.declared.function.FuncType.{FuncType}
-use Rattle.link_program.specs.wasm_types.Same.{same_type}
+use Rattle.partial_tree.specs.link_program.wasm_types.declared.function.FuncType.{FuncType}
+use Rattle.partial_tree.specs.link_program.wasm_types.Same.{same_type}
 use Rattle.partial_items.specs.Types.{number_in}
 
 -- ---- first places

@@ -5,23 +5,23 @@ use Rattle.std.specs.List.{AllByRecursion}
 use Rattle.std.proofs.lemmas.List.{length-drop, length-take-le}
 use Rattle.std.proofs.lemmas.List.Elements.{All-cons, All-nil, All-head, All-tail}
 use Rattle.std.proofs.lemmas.Option.{slice_get-map, get_or_from_slice_get}
-use Rattle.link_program.specs.wl_base.declared.span.FileSpan.{FileSpan}
-use Rattle.link_program.specs.reloc_section.declared.entry.Reloc.{Reloc}
-use Rattle.link_program.specs.image_emit.Bytes.{file_part}
-use Rattle.link_program.specs.made_symbols.declared.mode.Mode.TheVariants.{Plain}
-use Rattle.link_program.specs.reloc_apply.Apart.{LiesIn}
-use Rattle.link_program.specs.link_rules.Program.{Program, Part, Named, a_symbol, a_type}
-use Rattle.link_program.specs.link_rules.Values.{part_bytes}
-use Rattle.link_program.specs.declared.program.Program.{Program as Data}
-use Rattle.link_program.specs.declared.program.Tables.{Tables}
-use Rattle.link_program.specs.Look.{part_at, row_at}
-use Rattle.link_program.specs.Program.{IsProgramOf}
-use Rattle.link_program.specs.Seen.{SeenPart}
-use Rattle.link_program.specs.Stand.{named_place, named_size, NamedStand, SourceLies, PartStands, PartsStand}
-use Rattle.partial_rules.specs.Relocatable.{Windowed}
-use Rattle.partial_rules.specs.Partial as partial
-use Rattle.partial_symbols.specs.Standing.{Stood}
-use Rattle.partial_symbols.specs.Known.{AreStanding}
+use Rattle.partial_tree.specs.link_program.wl_base.declared.span.FileSpan.{FileSpan}
+use Rattle.partial_tree.specs.link_program.reloc_section.declared.entry.Reloc.{Reloc}
+use Rattle.partial_tree.specs.link_program.image_emit.Bytes.{file_part}
+use Rattle.partial_tree.specs.link_program.made_symbols.declared.mode.Mode.TheVariants.{Plain}
+use Rattle.partial_tree.specs.link_program.reloc_apply.Apart.{LiesIn}
+use Rattle.partial_tree.specs.link_program.link_rules.Program.{Program, Part, Named, a_symbol, a_type}
+use Rattle.partial_tree.specs.link_program.link_rules.Values.{part_bytes}
+use Rattle.partial_tree.specs.link_program.declared.program.Program.{Program as Data}
+use Rattle.partial_tree.specs.link_program.declared.program.Tables.{Tables}
+use Rattle.partial_tree.specs.link_program.Look.{part_at, row_at}
+use Rattle.partial_tree.specs.link_program.Program.{IsProgramOf}
+use Rattle.partial_tree.specs.link_program.Seen.{SeenPart}
+use Rattle.partial_tree.specs.link_program.Stand.{named_place, named_size, NamedStand, SourceLies, PartStands, PartsStand}
+use Rattle.partial_tree.specs.partial_rules.Relocatable.{Windowed}
+use Rattle.partial_tree.specs.partial_rules.Partial as partial
+use Rattle.partial_tree.specs.partial_symbols.Standing.{Stood}
+use Rattle.partial_tree.specs.partial_symbols.Known.{AreStanding}
 use Rattle.partial_tree.specs.Relocs.{reloc_told}
 use Rattle.partial_tree.proofs.Relocated.{part_relocs}
 use Rattle.partial_bytes.specs.declared.tree.Part.{Part as Lent}

@@ -4,35 +4,35 @@ use Rattle.std.specs.Prelude.{if◌then◌else◌}
 use Rattle.std.proofs.lemmas.Bool.{eqb-true}
 use Rattle.std.proofs.lemmas.List.Elements.{All-head, All-tail}
 use Rattle.std.proofs.lemmas.Option.{slice_get-map, same_Some, none-some}
-use Rattle.link_program.specs.wasm_types.declared.function.FuncType.{FuncType}
-use Rattle.link_program.specs.wasm_module.declared.parts.Export.{Export}
-use Rattle.link_program.specs.linking_section.declared.symbol.SymbolKind.TheVariants.{Function as FunctionKind}
-use Rattle.link_program.specs.object_columns.declared.functions.FunctionDef.{FunctionDef}
-use Rattle.link_program.specs.object_columns.declared.segments.SegmentDef.{SegmentDef}
-use Rattle.link_program.specs.object_parts.declared.parts.GlobalDef.{GlobalDef}
-use Rattle.link_program.specs.object_file.declared.object.Object.{Object}
-use Rattle.link_program.specs.object_file.Objects.{no_info}
-use Rattle.link_program.specs.object_file.Spaces.{no_type, defined_type}
-use Rattle.link_program.specs.mark_bits.declared.chunk.Chunk.{Chunk}
-use Rattle.link_program.specs.made_symbols.declared.mode.Mode.TheVariants.{Plain}
-use Rattle.link_program.specs.name_rules.Entries.{InputSymbol}
-use Rattle.link_program.specs.name_rules.Meanings.{Resolved, resolve, resolved_in, uses_of}
-use Rattle.link_program.specs.link_rules.Program as rules
-use Rattle.link_program.specs.link_rules.Program.{Program, Part, same_chunk, function, segment, global, linker_made}
-use Rattle.link_program.specs.link_rules.Keys.{content_type}
-use Rattle.link_program.specs.link_rules.Marks.{resolved_at}
-use Rattle.link_program.specs.declared.program.Program.{Program as Data}
-use Rattle.link_program.specs.declared.program.Tables.{Tables}
-use Rattle.link_program.specs.declared.part.Content.{Content}
-use Rattle.link_program.specs.declared.part.Content.TheVariants as contents
-use Rattle.link_program.specs.declared.part.Part.{Part as Told}
-use Rattle.link_program.specs.Look.{no_part, part_at}
-use Rattle.link_program.specs.Seen.{SeenPart, a_function, seen_content, told_content, HasType}
-use Rattle.link_program.specs.Program.{IsProgramOf}
-use Rattle.link_program.proofs.Chunks.{stands_at}
-use Rattle.partial_rules.specs.Partial as partial
-use Rattle.partial_rules.specs.Partial.{relocatable}
-use Rattle.partial_parts.specs.Kept.{Kept, place_at, AreKept}
+use Rattle.partial_tree.specs.link_program.wasm_types.declared.function.FuncType.{FuncType}
+use Rattle.partial_tree.specs.link_program.wasm_module.declared.parts.Export.{Export}
+use Rattle.partial_tree.specs.link_program.linking_section.declared.symbol.SymbolKind.TheVariants.{Function as FunctionKind}
+use Rattle.partial_tree.specs.link_program.object_columns.declared.functions.FunctionDef.{FunctionDef}
+use Rattle.partial_tree.specs.link_program.object_columns.declared.segments.SegmentDef.{SegmentDef}
+use Rattle.partial_tree.specs.link_program.object_parts.declared.parts.GlobalDef.{GlobalDef}
+use Rattle.partial_tree.specs.link_program.object_file.declared.object.Object.{Object}
+use Rattle.partial_tree.specs.link_program.object_file.Objects.{no_info}
+use Rattle.partial_tree.specs.link_program.object_file.Spaces.{no_type, defined_type}
+use Rattle.partial_tree.specs.link_program.mark_bits.declared.chunk.Chunk.{Chunk}
+use Rattle.partial_tree.specs.link_program.made_symbols.declared.mode.Mode.TheVariants.{Plain}
+use Rattle.partial_tree.specs.link_program.name_rules.Entries.{InputSymbol}
+use Rattle.partial_tree.specs.link_program.name_rules.Meanings.{Resolved, resolve, resolved_in, uses_of}
+use Rattle.partial_tree.specs.link_program.link_rules.Program as rules
+use Rattle.partial_tree.specs.link_program.link_rules.Program.{Program, Part, same_chunk, function, segment, global, linker_made}
+use Rattle.partial_tree.specs.link_program.link_rules.Keys.{content_type}
+use Rattle.partial_tree.specs.link_program.link_rules.Marks.{resolved_at}
+use Rattle.partial_tree.specs.link_program.declared.program.Program.{Program as Data}
+use Rattle.partial_tree.specs.link_program.declared.program.Tables.{Tables}
+use Rattle.partial_tree.specs.link_program.declared.part.Content.{Content}
+use Rattle.partial_tree.specs.link_program.declared.part.Content.TheVariants as contents
+use Rattle.partial_tree.specs.link_program.declared.part.Part.{Part as Told}
+use Rattle.partial_tree.specs.link_program.Look.{no_part, part_at}
+use Rattle.partial_tree.specs.link_program.Seen.{SeenPart, a_function, seen_content, told_content, HasType}
+use Rattle.partial_tree.specs.link_program.Program.{IsProgramOf}
+use Rattle.partial_tree.proofs.link_program_lemmas.Chunks.{stands_at}
+use Rattle.partial_tree.specs.partial_rules.Partial as partial
+use Rattle.partial_tree.specs.partial_rules.Partial.{relocatable}
+use Rattle.partial_tree.specs.partial_parts.Kept.{Kept, place_at, AreKept}
 use Rattle.partial_items.specs.Owned.{object_at, segment_at, global_at, content_in, content_of}
 use Rattle.partial_items.specs.Types.{content_number, function_type_number}
 use Rattle.partial_items.specs.Items.{chunk_of, spelled, global_for, export_name, export_with, export_for, info_for}

@@ -5,15 +5,15 @@ use Rattle.std.proofs.lemmas.Bool.{and_parts}
 use Rattle.std.proofs.lemmas.List.{take_more, map-append}
 use Rattle.std.proofs.lemmas.List.Elements.{filter_map-append, All-head, All-tail}
 use Rattle.std.proofs.lemmas.Option.{slice_get-map, same_Some, none-some, get_or_from_slice_get}
-use Rattle.link_program.specs.link_rules.Program.{Program, Part}
-use Rattle.link_program.specs.link_rules.Marks.{is_object_part}
-use Rattle.link_program.specs.made_symbols.declared.mode.Mode.TheVariants.{Plain}
-use Rattle.link_program.specs.declared.program.Program.{Program as Data}
-use Rattle.link_program.specs.declared.part.Part.{Part as Told}
-use Rattle.link_program.specs.Look.{no_part, part_at}
-use Rattle.link_program.specs.Program.{IsProgramOf}
-use Rattle.link_program.specs.Seen.{SeenPart, seen_part, told_part}
-use Rattle.partial_rules.specs.Partial as partial
+use Rattle.partial_tree.specs.link_program.link_rules.Program.{Program, Part}
+use Rattle.partial_tree.specs.link_program.link_rules.Marks.{is_object_part}
+use Rattle.partial_tree.specs.link_program.made_symbols.declared.mode.Mode.TheVariants.{Plain}
+use Rattle.partial_tree.specs.link_program.declared.program.Program.{Program as Data}
+use Rattle.partial_tree.specs.link_program.declared.part.Part.{Part as Told}
+use Rattle.partial_tree.specs.link_program.Look.{no_part, part_at}
+use Rattle.partial_tree.specs.link_program.Program.{IsProgramOf}
+use Rattle.partial_tree.specs.link_program.Seen.{SeenPart, seen_part, told_part}
+use Rattle.partial_tree.specs.partial_rules.Partial as partial
 
 -- ---- loops
 

@@ -5,22 +5,22 @@ use Rattle.std.specs.List.{AllByRecursion}
 use Rattle.std.proofs.lemmas.Bool.{eqb-true}
 use Rattle.std.proofs.lemmas.List.Elements.{All-append, All-cons, All-nil, All-head, All-tail, All-filter}
 use Rattle.std.proofs.lemmas.Option.{slice_get-map, same_Some, none-some, get_or_from_slice_get, slice_get_within}
-use Rattle.link_program.specs.linking_section.declared.symbol.SymbolKind.{SymbolKind}
-use Rattle.link_program.specs.linking_section.declared.symbol.SymbolKind.TheVariants.{Function, Datum, GlobalVar, Section, Table}
-use Rattle.link_program.specs.object_columns.declared.functions.FunctionDef.{FunctionDef}
-use Rattle.link_program.specs.object_columns.declared.segments.SegmentDef.{SegmentDef}
-use Rattle.link_program.specs.object_parts.declared.parts.GlobalDef.{GlobalDef}
-use Rattle.link_program.specs.object_file.declared.object.Object.{Object}
-use Rattle.link_program.specs.object_file.Spaces.{defined_type}
-use Rattle.link_program.specs.made_symbols.declared.mode.Mode.TheVariants.{Plain}
-use Rattle.link_program.specs.made_symbols.Made.{made, MadeSymbol}
-use Rattle.link_program.specs.round_rules.Rounds.{Candidate}
-use Rattle.link_program.specs.name_rules.Entries.{InputSymbol, made_entry}
-use Rattle.link_program.specs.name_rules.Meanings.{Resolved, resolve, resolved_in, uses_of}
-use Rattle.link_program.specs.name_entries.View.{InputsRise}
-use Rattle.link_program.specs.link_rules.Program.{Program, Part, Ref, Content, function, segment, global, linker_made, no_source, a_symbol, init_calls, parts_of, parts_in, loose_parts, made_parts_from, made_part, made_kind, option_onto, indexed, function_part, segment_part, global_part, is_part_kept}
-use Rattle.link_program.specs.declared.program.Program.{Program as Data}
-use Rattle.link_program.specs.Program.{IsProgramOf}
+use Rattle.partial_tree.specs.link_program.linking_section.declared.symbol.SymbolKind.{SymbolKind}
+use Rattle.partial_tree.specs.link_program.linking_section.declared.symbol.SymbolKind.TheVariants.{Function, Datum, GlobalVar, Section, Table}
+use Rattle.partial_tree.specs.link_program.object_columns.declared.functions.FunctionDef.{FunctionDef}
+use Rattle.partial_tree.specs.link_program.object_columns.declared.segments.SegmentDef.{SegmentDef}
+use Rattle.partial_tree.specs.link_program.object_parts.declared.parts.GlobalDef.{GlobalDef}
+use Rattle.partial_tree.specs.link_program.object_file.declared.object.Object.{Object}
+use Rattle.partial_tree.specs.link_program.object_file.Spaces.{defined_type}
+use Rattle.partial_tree.specs.link_program.made_symbols.declared.mode.Mode.TheVariants.{Plain}
+use Rattle.partial_tree.specs.link_program.made_symbols.Made.{made, MadeSymbol}
+use Rattle.partial_tree.specs.link_program.round_rules.Rounds.{Candidate}
+use Rattle.partial_tree.specs.link_program.name_rules.Entries.{InputSymbol, made_entry}
+use Rattle.partial_tree.specs.link_program.name_rules.Meanings.{Resolved, resolve, resolved_in, uses_of}
+use Rattle.partial_tree.specs.link_program.name_entries.View.{InputsRise}
+use Rattle.partial_tree.specs.link_program.link_rules.Program.{Program, Part, Ref, Content, function, segment, global, linker_made, no_source, a_symbol, init_calls, parts_of, parts_in, loose_parts, made_parts_from, made_part, made_kind, option_onto, indexed, function_part, segment_part, global_part, is_part_kept}
+use Rattle.partial_tree.specs.link_program.declared.program.Program.{Program as Data}
+use Rattle.partial_tree.specs.link_program.Program.{IsProgramOf}
 use Rattle.partial_items.specs.Owned.{object_at, content_in, content_of}
 use Rattle.partial_items.proofs.Sought.{found_itself}
 

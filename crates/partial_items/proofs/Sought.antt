@@ -10,8 +10,8 @@ use Rattle.std.proofs.lemmas.Cmp.{ranked}
 use Rattle.std.proofs.lemmas.List.Sums.{position_or_len_is}
 use Rattle.std.proofs.lemmas.List.Folds.{find_at}
 use Rattle.std.proofs.lemmas.Option.{slice_get_past}
-use Rattle.link_program.specs.object_file.declared.object.Object.{Object}
-use Rattle.link_program.specs.name_entries.View.{InputsRise}
+use Rattle.partial_tree.specs.link_program.object_file.declared.object.Object.{Object}
+use Rattle.partial_tree.specs.link_program.name_entries.View.{InputsRise}
 
 lower : (a b : ℕ) → nat_cmp a b ≡ Less → a < b
 lower a b h = subst (λ o. MatchOrdering o (a < b) (a ≡ b) (b < a)) h (ranked a b (nat_cmp a b) refl)

@@ -4,23 +4,23 @@ use Rattle.std.specs.Prelude.{if◌then◌else◌, codes}
 use Rattle.std.specs.List.{cons_option}
 use Rattle.std.proofs.lemmas.Option.{same_Some, none-some}
 use Rattle.std.proofs.Math.ListN.{drop_of_length-le}
-use Rattle.link_program.specs.wl_base.Choice.{first_some}
-use Rattle.link_program.specs.wasm_types.declared.function.FuncType.{FuncType}
-use Rattle.link_program.specs.wasm_types.declared.import.Import.{Import}
-use Rattle.link_program.specs.linking_section.Flags.{is_explicit}
-use Rattle.link_program.specs.linking_section.declared.symbol.SymbolKind.{SymbolKind}
-use Rattle.link_program.specs.linking_section.declared.symbol.SymbolKind.TheVariants.{Function, Datum, GlobalVar, Section, Table}
-use Rattle.link_program.specs.object_file.declared.object.Object.{Object}
-use Rattle.link_program.specs.name_rules.Entries.{InputSymbol, ImportKey, SymbolType, of_function, of_global, untyped, is_kind, name_of}
-use Rattle.link_program.specs.name_rules.Meanings.{least_import}
-use Rattle.link_program.specs.link_rules.Program.{Program, is_that}
-use Rattle.partial_rules.specs.Partial as partial
-use Rattle.partial_rules.specs.Partial.{relocatable, memory_import}
-use Rattle.partial_symbols.specs.declared.facts.At.{At}
-use Rattle.partial_symbols.specs.declared.facts.Spot.{Spot}
-use Rattle.partial_symbols.specs.Known.{entry_spot, symbol_there, import_there}
-use Rattle.partial_imports.specs.declared.opens.Open.{Open}
-use Rattle.partial_imports.specs.Opens.{SeenOpen, open_seen, told_open}
+use Rattle.partial_tree.specs.link_program.wl_base.Choice.{first_some}
+use Rattle.partial_tree.specs.link_program.wasm_types.declared.function.FuncType.{FuncType}
+use Rattle.partial_tree.specs.link_program.wasm_types.declared.import.Import.{Import}
+use Rattle.partial_tree.specs.link_program.linking_section.Flags.{is_explicit}
+use Rattle.partial_tree.specs.link_program.linking_section.declared.symbol.SymbolKind.{SymbolKind}
+use Rattle.partial_tree.specs.link_program.linking_section.declared.symbol.SymbolKind.TheVariants.{Function, Datum, GlobalVar, Section, Table}
+use Rattle.partial_tree.specs.link_program.object_file.declared.object.Object.{Object}
+use Rattle.partial_tree.specs.link_program.name_rules.Entries.{InputSymbol, ImportKey, SymbolType, of_function, of_global, untyped, is_kind, name_of}
+use Rattle.partial_tree.specs.link_program.name_rules.Meanings.{least_import}
+use Rattle.partial_tree.specs.link_program.link_rules.Program.{Program, is_that}
+use Rattle.partial_tree.specs.partial_rules.Partial as partial
+use Rattle.partial_tree.specs.partial_rules.Partial.{relocatable, memory_import}
+use Rattle.partial_tree.specs.partial_symbols.declared.facts.At.{At}
+use Rattle.partial_tree.specs.partial_symbols.declared.facts.Spot.{Spot}
+use Rattle.partial_tree.specs.partial_symbols.Known.{entry_spot, symbol_there, import_there}
+use Rattle.partial_types.specs.partial_imports.declared.opens.Open.{Open}
+use Rattle.partial_types.specs.partial_imports.Opens.{SeenOpen, open_seen, told_open}
 use Rattle.partial_types.specs.Added.{symbol_type}
 use Rattle.partial_types.proofs.Merged.{typed_key}
 use Rattle.partial_items.specs.Imports.{kind_with, kind_there, import_with, own_import, import_by, import_told, spot_at, table_spot, table_at, first_table, same_spot, takes_import, import_if}

@@ -5,12 +5,12 @@ use Rattle.std.specs.List.{cons_option}
 use Rattle.std.proofs.lemmas.List.{take_all, take_more, map-append}
 use Rattle.std.proofs.lemmas.Option.{none-some, slice_get_within, get_or_from_slice_get}
 use Rattle.std.proofs.Math.ListN.{drop_of_length-le}
-use Rattle.link_program.specs.linking_section.declared.group.Member.{Member}
-use Rattle.link_program.specs.linking_section.declared.group.Group.{Group}
-use Rattle.link_program.specs.reloc_section.declared.entry.Reloc.{Reloc}
-use Rattle.link_program.specs.object_file.declared.object.Object.{Object}
-use Rattle.link_program.specs.name_rules.Entries.{is_input}
-use Rattle.link_program.specs.declared.program.Tables.{Tables}
+use Rattle.partial_tree.specs.link_program.linking_section.declared.group.Member.{Member}
+use Rattle.partial_tree.specs.link_program.linking_section.declared.group.Group.{Group}
+use Rattle.partial_tree.specs.link_program.reloc_section.declared.entry.Reloc.{Reloc}
+use Rattle.partial_tree.specs.link_program.object_file.declared.object.Object.{Object}
+use Rattle.partial_tree.specs.link_program.name_rules.Entries.{is_input}
+use Rattle.partial_tree.specs.link_program.declared.program.Tables.{Tables}
 use Rattle.partial_bytes.specs.declared.tree.Part.{Part}
 use Rattle.partial_items.specs.declared.groups.GroupAt.{GroupAt}
 use Rattle.partial_items.specs.declared.groups.Owner.{Owner}

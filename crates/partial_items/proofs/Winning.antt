@@ -7,26 +7,26 @@ use Rattle.std.proofs.lemmas.Bool.{eqb-true}
 use Rattle.std.proofs.lemmas.List.{length-append, map-append}
 use Rattle.std.proofs.lemmas.List.Folds.{find-append}
 use Rattle.std.proofs.lemmas.Option.{slice_get-map, slice_get_within, same_Some, none-some, get_or_from_slice_get}
-use Rattle.link_program.specs.wl_base.Choice.{given}
-use Rattle.link_program.specs.wl_base.Names.{number_of}
-use Rattle.link_program.specs.linking_section.declared.group.Member.{Member}
-use Rattle.link_program.specs.linking_section.declared.group.Group.{Group}
-use Rattle.link_program.specs.linking_section.declared.symbol.SymbolKind.TheVariants.{Function as FunctionKind}
-use Rattle.link_program.specs.object_file.declared.object.Object.{Object}
-use Rattle.link_program.specs.object_file.Spaces.{function_imports}
-use Rattle.link_program.specs.made_symbols.declared.mode.Mode.TheVariants.{Plain}
-use Rattle.link_program.specs.link_names.Numbered.{group_names}
-use Rattle.link_program.specs.name_rules.Entries.{has_group, group_winner, is_input}
-use Rattle.link_program.specs.name_entries.View.{is_number}
-use Rattle.link_program.specs.link_rules.Program.{Program, Part, chunk_at}
-use Rattle.link_program.specs.declared.program.Program.{Program as Data}
-use Rattle.link_program.specs.Program.{IsProgramOf}
-use Rattle.link_program.proofs.name_entries_lemmas.Numbers.{number_is, name_at}
-use Rattle.partial_rules.specs.Partial as partial
-use Rattle.partial_rules.specs.Partial.{relocatable}
-use Rattle.partial_symbols.proofs.Cells.{firsts_of, noted}
-use Rattle.partial_parts.specs.Kept.{place_in, AreKept}
-use Rattle.partial_parts.proofs.Parts.{place_is_told}
+use Rattle.partial_tree.specs.link_program.wl_base.Choice.{given}
+use Rattle.partial_tree.specs.link_program.wl_base.Names.{number_of}
+use Rattle.partial_tree.specs.link_program.linking_section.declared.group.Member.{Member}
+use Rattle.partial_tree.specs.link_program.linking_section.declared.group.Group.{Group}
+use Rattle.partial_tree.specs.link_program.linking_section.declared.symbol.SymbolKind.TheVariants.{Function as FunctionKind}
+use Rattle.partial_tree.specs.link_program.object_file.declared.object.Object.{Object}
+use Rattle.partial_tree.specs.link_program.object_file.Spaces.{function_imports}
+use Rattle.partial_tree.specs.link_program.made_symbols.declared.mode.Mode.TheVariants.{Plain}
+use Rattle.partial_tree.specs.link_program.link_names.Numbered.{group_names}
+use Rattle.partial_tree.specs.link_program.name_rules.Entries.{has_group, group_winner, is_input}
+use Rattle.partial_tree.specs.link_program.name_entries.View.{is_number}
+use Rattle.partial_tree.specs.link_program.link_rules.Program.{Program, Part, chunk_at}
+use Rattle.partial_tree.specs.link_program.declared.program.Program.{Program as Data}
+use Rattle.partial_tree.specs.link_program.Program.{IsProgramOf}
+use Rattle.partial_tree.proofs.link_program_lemmas.name_entries_lemmas.Numbers.{number_is, name_at}
+use Rattle.partial_tree.specs.partial_rules.Partial as partial
+use Rattle.partial_tree.specs.partial_rules.Partial.{relocatable}
+use Rattle.partial_tree.proofs.partial_symbols_lemmas.Cells.{firsts_of, noted}
+use Rattle.partial_tree.specs.partial_parts.Kept.{place_in, AreKept}
+use Rattle.partial_tree.proofs.partial_parts_lemmas.Parts.{place_is_told}
 use Rattle.partial_items.specs.declared.groups.GroupAt.{GroupAt}
 use Rattle.partial_items.specs.declared.groups.Owner.{Owner}
 use Rattle.partial_items.specs.Groups.{offered, offered_from, first_inputs, Places, member_with, members_of, Won, none_won, with_group, with_offer, with_groups, owner_of, with_objects, all_won, group_there, group_with, rows_from}

@@ -2,15 +2,15 @@
 use Rattle.std.specs.Prelude.{ℕ, ◌+◌, ◌-◌, ◌==◌, List, [], ◌∷◌, ◌++◌, map, filter_map, fold, length, replicate, slice_get, slice_index_or, if◌then◌else◌, Option, Some, None, option_map, option_and_then}
 use Rattle.std.specs.List.{cons_option}
 use Rattle.std.specs.Option.{option_or}
-use Rattle.link_program.specs.linking_section.declared.group.Member.{Member}
-use Rattle.link_program.specs.linking_section.declared.group.Group.{Group}
-use Rattle.link_program.specs.mark_bits.declared.chunk.Chunk.{Chunk}
-use Rattle.link_program.specs.object_file.declared.object.Object.{Object}
-use Rattle.link_program.specs.object_file.Spaces.{function_imports}
-use Rattle.link_program.specs.name_rules.Entries.{is_input}
-use Rattle.link_program.specs.link_rules.Program.{chunk_at}
-use Rattle.partial_symbols.specs.Columns.{changed_at}
-use Rattle.partial_parts.specs.Kept.{Kept, place_in}
+use Rattle.partial_tree.specs.link_program.linking_section.declared.group.Member.{Member}
+use Rattle.partial_tree.specs.link_program.linking_section.declared.group.Group.{Group}
+use Rattle.partial_tree.specs.link_program.mark_bits.declared.chunk.Chunk.{Chunk}
+use Rattle.partial_tree.specs.link_program.object_file.declared.object.Object.{Object}
+use Rattle.partial_tree.specs.link_program.object_file.Spaces.{function_imports}
+use Rattle.partial_tree.specs.link_program.name_rules.Entries.{is_input}
+use Rattle.partial_tree.specs.link_program.link_rules.Program.{chunk_at}
+use Rattle.partial_tree.specs.partial_symbols.Columns.{changed_at}
+use Rattle.partial_tree.specs.partial_parts.Kept.{Kept, place_in}
 use Rattle.partial_items.specs.declared.groups.GroupAt.{GroupAt}
 use Rattle.partial_items.specs.declared.groups.Owner.{Owner}
 

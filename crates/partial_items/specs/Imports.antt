@@ -1,18 +1,18 @@
 -- The imports of the object.
 use Rattle.std.specs.Prelude.{ℕ, ◌==◌, Bool, true, false, ◌&&◌, List, map, if◌then◌else◌, Option, Some, None, option_map, option_and_then, unwrap_or, codes}
-use Rattle.link_program.specs.wl_base.Choice.{first_some}
-use Rattle.link_program.specs.wasm_types.declared.function.FuncType.{FuncType}
-use Rattle.link_program.specs.wasm_types.declared.import.Import.{Import}
-use Rattle.link_program.specs.wasm_types.declared.import.ImportKind.{ImportKind}
-use Rattle.link_program.specs.wasm_types.declared.import.ImportKind.TheVariants as kinds
-use Rattle.link_program.specs.linking_section.declared.symbol.SymbolKind.{SymbolKind}
-use Rattle.link_program.specs.linking_section.declared.symbol.SymbolKind.TheVariants.{Function, Datum, GlobalVar, Section, Table}
-use Rattle.link_program.specs.object_file.declared.object.Object.{Object}
-use Rattle.link_program.specs.name_rules.Entries.{InputSymbol, ImportKey, SymbolType, of_function, of_global, untyped, is_kind, name_of}
-use Rattle.partial_symbols.specs.declared.facts.At.{At}
-use Rattle.partial_symbols.specs.declared.facts.Spot.{Spot}
-use Rattle.partial_symbols.specs.Known.{entry_spot, symbol_there, import_there}
-use Rattle.partial_imports.specs.declared.opens.Open.{Open}
+use Rattle.partial_tree.specs.link_program.wl_base.Choice.{first_some}
+use Rattle.partial_tree.specs.link_program.wasm_types.declared.function.FuncType.{FuncType}
+use Rattle.partial_tree.specs.link_program.wasm_types.declared.import.Import.{Import}
+use Rattle.partial_tree.specs.link_program.wasm_types.declared.import.ImportKind.{ImportKind}
+use Rattle.partial_tree.specs.link_program.wasm_types.declared.import.ImportKind.TheVariants as kinds
+use Rattle.partial_tree.specs.link_program.linking_section.declared.symbol.SymbolKind.{SymbolKind}
+use Rattle.partial_tree.specs.link_program.linking_section.declared.symbol.SymbolKind.TheVariants.{Function, Datum, GlobalVar, Section, Table}
+use Rattle.partial_tree.specs.link_program.object_file.declared.object.Object.{Object}
+use Rattle.partial_tree.specs.link_program.name_rules.Entries.{InputSymbol, ImportKey, SymbolType, of_function, of_global, untyped, is_kind, name_of}
+use Rattle.partial_tree.specs.partial_symbols.declared.facts.At.{At}
+use Rattle.partial_tree.specs.partial_symbols.declared.facts.Spot.{Spot}
+use Rattle.partial_tree.specs.partial_symbols.Known.{entry_spot, symbol_there, import_there}
+use Rattle.partial_types.specs.partial_imports.declared.opens.Open.{Open}
 use Rattle.partial_types.specs.Added.{symbol_type}
 use Rattle.partial_items.specs.Types.{number_in}
 

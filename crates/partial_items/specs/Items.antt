@@ -1,18 +1,18 @@
 -- What of the object stands in rows, each made of what is kept under a number of a part.
 use Rattle.std.specs.Prelude.{ℕ, ◌+◌, ◌-◌, List, [], ◌∷◌, map, slice_index_or, Option, None, option_map, option_and_then, unwrap_or}
-use Rattle.link_program.specs.wl_base.declared.span.FileSpan.{FileSpan}
-use Rattle.link_program.specs.wasm_module.declared.parts.Export.{Export}
-use Rattle.link_program.specs.linking_section.declared.segment.SegmentInfo.{SegmentInfo}
-use Rattle.link_program.specs.reloc_section.declared.entry.Reloc.{Reloc}
-use Rattle.link_program.specs.object_parts.declared.parts.GlobalDef.{GlobalDef}
-use Rattle.link_program.specs.object_file.declared.object.Object.{Object}
-use Rattle.link_program.specs.object_file.Objects.{no_info}
-use Rattle.link_program.specs.mark_bits.declared.chunk.Chunk.{Chunk}
-use Rattle.link_program.specs.image_emit.Bytes.{file_part}
-use Rattle.link_program.specs.declared.program.Tables.{Tables}
-use Rattle.link_program.specs.Look.{part_at, row_at}
-use Rattle.partial_rules.specs.Relocatable.{SpelledGlobal}
-use Rattle.partial_parts.specs.Kept.{Kept}
+use Rattle.partial_tree.specs.link_program.wl_base.declared.span.FileSpan.{FileSpan}
+use Rattle.partial_tree.specs.link_program.wasm_module.declared.parts.Export.{Export}
+use Rattle.partial_tree.specs.link_program.linking_section.declared.segment.SegmentInfo.{SegmentInfo}
+use Rattle.partial_tree.specs.link_program.reloc_section.declared.entry.Reloc.{Reloc}
+use Rattle.partial_tree.specs.link_program.object_parts.declared.parts.GlobalDef.{GlobalDef}
+use Rattle.partial_tree.specs.link_program.object_file.declared.object.Object.{Object}
+use Rattle.partial_tree.specs.link_program.object_file.Objects.{no_info}
+use Rattle.partial_tree.specs.link_program.mark_bits.declared.chunk.Chunk.{Chunk}
+use Rattle.partial_tree.specs.link_program.image_emit.Bytes.{file_part}
+use Rattle.partial_tree.specs.link_program.declared.program.Tables.{Tables}
+use Rattle.partial_tree.specs.link_program.Look.{part_at, row_at}
+use Rattle.partial_tree.specs.partial_rules.Relocatable.{SpelledGlobal}
+use Rattle.partial_tree.specs.partial_parts.Kept.{Kept}
 use Rattle.partial_bytes.specs.declared.tree.Part.{Part}
 use Rattle.partial_items.specs.Owned.{function_at, segment_at, global_at}
 

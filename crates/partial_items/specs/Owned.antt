@@ -1,14 +1,14 @@
 -- The part of a chunk, as its object has it.
 use Rattle.std.specs.Prelude.{ℕ, ◌==◌, List, find, slice_get, if◌then◌else◌, Option, None, option_map, option_and_then}
-use Rattle.link_program.specs.linking_section.declared.segment.SegmentInfo.{SegmentInfo}
-use Rattle.link_program.specs.object_columns.declared.functions.FunctionDef.{FunctionDef}
-use Rattle.link_program.specs.object_columns.declared.segments.SegmentDef.{SegmentDef}
-use Rattle.link_program.specs.object_parts.declared.parts.GlobalDef.{GlobalDef}
-use Rattle.link_program.specs.object_file.declared.object.Object.{Object}
-use Rattle.link_program.specs.object_file.Spaces.{defined_type}
-use Rattle.link_program.specs.mark_bits.declared.chunk.Chunk.{Chunk}
-use Rattle.link_program.specs.mark_bits.declared.kinds.TheConstants as chunks
-use Rattle.link_program.specs.link_rules.Program.{Content, function, segment, global}
+use Rattle.partial_tree.specs.link_program.linking_section.declared.segment.SegmentInfo.{SegmentInfo}
+use Rattle.partial_tree.specs.link_program.object_columns.declared.functions.FunctionDef.{FunctionDef}
+use Rattle.partial_tree.specs.link_program.object_columns.declared.segments.SegmentDef.{SegmentDef}
+use Rattle.partial_tree.specs.link_program.object_parts.declared.parts.GlobalDef.{GlobalDef}
+use Rattle.partial_tree.specs.link_program.object_file.declared.object.Object.{Object}
+use Rattle.partial_tree.specs.link_program.object_file.Spaces.{defined_type}
+use Rattle.partial_tree.specs.link_program.mark_bits.declared.chunk.Chunk.{Chunk}
+use Rattle.partial_tree.specs.link_program.mark_bits.declared.kinds.TheConstants as chunks
+use Rattle.partial_tree.specs.link_program.link_rules.Program.{Content, function, segment, global}
 
 -- The object of an input.
 abbrev pub object_at : List Object → ℕ → Option Object

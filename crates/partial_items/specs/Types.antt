@@ -1,12 +1,12 @@
 -- The numbers of types in the object.
 use Rattle.std.specs.Prelude.{ℕ, List, slice_index_or}
-use Rattle.link_program.specs.wasm_types.declared.function.FuncType.{FuncType}
-use Rattle.link_program.specs.wasm_types.Same.{same_type}
-use Rattle.link_program.specs.index_layout.Numbers.{number_by}
-use Rattle.link_program.specs.declared.part.Content.{Content}
-use Rattle.link_program.specs.declared.part.Content.TheVariants as contents
-use Rattle.link_program.specs.declared.program.Tables.{Tables}
-use Rattle.link_program.specs.Look.{part_at}
+use Rattle.partial_tree.specs.link_program.wasm_types.declared.function.FuncType.{FuncType}
+use Rattle.partial_tree.specs.link_program.wasm_types.Same.{same_type}
+use Rattle.partial_tree.specs.link_program.index_layout.Numbers.{number_by}
+use Rattle.partial_tree.specs.link_program.declared.part.Content.{Content}
+use Rattle.partial_tree.specs.link_program.declared.part.Content.TheVariants as contents
+use Rattle.partial_tree.specs.link_program.declared.program.Tables.{Tables}
+use Rattle.partial_tree.specs.link_program.Look.{part_at}
 
 -- The place of a type among these, or 0.
 abbrev pub number_in : List FuncType → FuncType → ℕ

@@ -1,20 +1,19 @@
 //! The exports of the object: kept functions that their own objects export.
 ghost use Rattle.std.specs.Prelude.{◌≡◌, ◌+◌, ◌++◌, [], filter_map, length, option_map, option_and_then, option_copied, slice_get, IfOk, OnOk};
 ghost use Rattle.std.specs.List.{cons_option};
-ghost use Rattle.link_program.specs.linking_section.declared.symbol.SymbolKind.TheVariants.{Function};
-ghost use Rattle.link_program.specs.made_symbols.declared.mode.Mode.TheVariants.{Plain};
-ghost use Rattle.link_program.specs.name_entries.View.{InputsRise};
-ghost use Rattle.link_program.specs.link_rules.Program.{Program as Rules};
-ghost use Rattle.link_program.specs.Program.{IsProgramOf};
-ghost use Rattle.partial_rules.specs.Partial as partial;
-ghost use Rattle.partial_parts.specs.Kept.{AreKept};
+ghost use Rattle.partial_tree.specs.link_program.linking_section.declared.symbol.SymbolKind.TheVariants.{Function};
+ghost use Rattle.partial_tree.specs.link_program.made_symbols.declared.mode.Mode.TheVariants.{Plain};
+ghost use Rattle.partial_tree.specs.link_program.name_entries.View.{InputsRise};
+ghost use Rattle.partial_tree.specs.link_program.link_rules.Program.{Program as Rules};
+ghost use Rattle.partial_tree.specs.link_program.Program.{IsProgramOf};
+ghost use Rattle.partial_tree.specs.partial_rules.Partial as partial;
+ghost use Rattle.partial_tree.specs.partial_parts.Kept.{AreKept};
 ghost use Rattle.partial_items.specs.Owned.{object_at};
 ghost use Rattle.partial_items.specs.Items as told;
 ghost use Rattle.partial_items.specs.Items.{chunk_of, export_with};
 
 use crate::owned::{function_in, owner_of};
-use link_program::{Object, Program, Tables, part_at};
-use partial_parts::Kept;
+use partial_tree::{Kept, Object, Program, Tables, part_at};
 use std::alloc::Global;
 use wasm_module::{Export, export_kinds};
 use wl_base::{OutOfMemory, Seq};

@@ -1,13 +1,13 @@
 //! The types of the kept functions, by their numbers.
 ghost use Rattle.std.specs.Prelude.{◌≡◌, false, Some, map, slice_get, slice_index_or, IfOk, OnOk};
-ghost use Rattle.link_program.specs.made_symbols.declared.mode.Mode.TheVariants.{Plain};
-ghost use Rattle.link_program.specs.link_rules.Program.{Program as Rules};
-ghost use Rattle.link_program.specs.Program.{IsProgramOf};
-ghost use Rattle.partial_rules.specs.Partial as partial;
+ghost use Rattle.partial_tree.specs.link_program.made_symbols.declared.mode.Mode.TheVariants.{Plain};
+ghost use Rattle.partial_tree.specs.link_program.link_rules.Program.{Program as Rules};
+ghost use Rattle.partial_tree.specs.link_program.Program.{IsProgramOf};
+ghost use Rattle.partial_tree.specs.partial_rules.Partial as partial;
 ghost use Rattle.partial_items.specs.Types.{number_in, content_number, function_type_number};
 
 use crate::numbers::TypeNumbers;
-use link_program::{Content, Program, Tables, part_at};
+use partial_tree::{Content, Program, Tables, part_at};
 use std::alloc::Global;
 use wasm_types::FuncType;
 use wl_base::{OutOfMemory, Seq};

@@ -1,19 +1,19 @@
 //! The globals of the object: those of all kept parts, each with the bytes by which its own object spells its first value.
 ghost use Rattle.std.specs.Prelude.{◌≡◌, ◌-◌, ◌++◌, [], false, Some, map, filter_map, option_map, option_and_then, slice_get, IfOk, OnOk};
 ghost use Rattle.std.specs.List.{cons_option};
-ghost use Rattle.link_program.specs.made_symbols.declared.mode.Mode.TheVariants.{Plain};
-ghost use Rattle.link_program.specs.name_entries.View.{InputsRise};
-ghost use Rattle.link_program.specs.link_rules.Program.{Program as Rules};
-ghost use Rattle.link_program.specs.Program.{IsProgramOf};
-ghost use Rattle.partial_rules.specs.Partial as partial;
+ghost use Rattle.partial_tree.specs.link_program.made_symbols.declared.mode.Mode.TheVariants.{Plain};
+ghost use Rattle.partial_tree.specs.link_program.name_entries.View.{InputsRise};
+ghost use Rattle.partial_tree.specs.link_program.link_rules.Program.{Program as Rules};
+ghost use Rattle.partial_tree.specs.link_program.Program.{IsProgramOf};
+ghost use Rattle.partial_tree.specs.partial_rules.Partial as partial;
 ghost use Rattle.partial_bytes.specs.Told.{global_told};
 ghost use Rattle.partial_items.specs.Owned.{object_at};
 ghost use Rattle.partial_items.specs.Items as told;
 ghost use Rattle.partial_items.specs.Items.{chunk_of};
 
 use crate::owned::{global_in, owner_of};
-use link_program::{GlobalDef, Object, Program, Tables, part_at};
 use partial_bytes::{GlobalRow, bytes_in};
+use partial_tree::{GlobalDef, Object, Program, Tables, part_at};
 use std::alloc::Global;
 use wl_base::{FileSpan, InputId, OutOfMemory, Seq};
 

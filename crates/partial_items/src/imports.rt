@@ -1,22 +1,21 @@
 //! The imports of the object: the memory, then one for each open function and global and one for all open tables, in the order of symbols.
 ghost use Rattle.std.specs.Prelude.{◌≡◌, ◌++◌, ◌∷◌, [], Some, false, map, filter, filter_map, option_map, IfOk, OnOk};
 ghost use Rattle.std.specs.List.{cons_option};
-ghost use Rattle.link_program.specs.made_symbols.declared.mode.Mode.TheVariants.{Plain};
-ghost use Rattle.link_program.specs.name_entries.Fits.{FitsObjects};
-ghost use Rattle.link_program.specs.link_rules.Program.{Program as Rules};
-ghost use Rattle.link_program.specs.declared.program.Program.{Program as Data};
-ghost use Rattle.link_program.specs.Program.{IsProgramOf};
-ghost use Rattle.partial_rules.specs.Partial as partial;
-ghost use Rattle.partial_rules.specs.Partial.{memory_import};
-ghost use Rattle.partial_symbols.specs.Known.{symbol_there, import_there};
-ghost use Rattle.partial_imports.specs.Opens.{open_seen, told_open};
+ghost use Rattle.partial_tree.specs.link_program.made_symbols.declared.mode.Mode.TheVariants.{Plain};
+ghost use Rattle.partial_tree.specs.link_program.name_entries.Fits.{FitsObjects};
+ghost use Rattle.partial_tree.specs.link_program.link_rules.Program.{Program as Rules};
+ghost use Rattle.partial_tree.specs.link_program.declared.program.Program.{Program as Data};
+ghost use Rattle.partial_tree.specs.link_program.Program.{IsProgramOf};
+ghost use Rattle.partial_tree.specs.partial_rules.Partial as partial;
+ghost use Rattle.partial_tree.specs.partial_rules.Partial.{memory_import};
+ghost use Rattle.partial_tree.specs.partial_symbols.Known.{symbol_there, import_there};
+ghost use Rattle.partial_types.specs.partial_imports.Opens.{open_seen, told_open};
 ghost use Rattle.partial_items.specs.Imports.{kind_there, import_with, own_import, import_by, import_told, spot_at, table_at, first_table, same_spot, takes_import, import_if};
 
 use crate::numbers::TypeNumbers;
-use link_program::{Entries, TypeRef};
 use linking_section::SymbolKind;
-use partial_imports::Open;
-use partial_symbols::{At, Spot};
+use partial_tree::{At, Entries, Spot, TypeRef};
+use partial_types::Open;
 use std::alloc::Global;
 use wasm_types::{Import, ImportKind, Limits, TableType};
 use wl_base::{OutOfMemory, Seq};

@@ -1,18 +1,18 @@
 //! What is said of the data segments of the object.
 ghost use Rattle.std.specs.Prelude.{◌≡◌, false, Some, map, option_and_then, slice_get, IfOk, OnOk};
-ghost use Rattle.link_program.specs.made_symbols.declared.mode.Mode.TheVariants.{Plain};
-ghost use Rattle.link_program.specs.name_entries.View.{InputsRise};
-ghost use Rattle.link_program.specs.link_rules.Program.{Program as Rules};
-ghost use Rattle.link_program.specs.Program.{IsProgramOf};
-ghost use Rattle.partial_rules.specs.Partial as partial;
+ghost use Rattle.partial_tree.specs.link_program.made_symbols.declared.mode.Mode.TheVariants.{Plain};
+ghost use Rattle.partial_tree.specs.link_program.name_entries.View.{InputsRise};
+ghost use Rattle.partial_tree.specs.link_program.link_rules.Program.{Program as Rules};
+ghost use Rattle.partial_tree.specs.link_program.Program.{IsProgramOf};
+ghost use Rattle.partial_tree.specs.partial_rules.Partial as partial;
 ghost use Rattle.partial_bytes.specs.Told.{info_told};
 ghost use Rattle.partial_items.specs.Owned.{object_at};
 ghost use Rattle.partial_items.specs.Items as told;
 ghost use Rattle.partial_items.specs.Items.{chunk_of};
 
 use crate::owned::{owner_of, segment_in};
-use link_program::{Object, Program, Tables, part_at};
 use partial_bytes::InfoRow;
+use partial_tree::{Object, Program, Tables, part_at};
 use std::alloc::Global;
 use wl_base::{OutOfMemory, Seq};
 

@@ -6,7 +6,7 @@ ghost use Rattle.partial_items.specs.Lent.{places_seen};
 
 use linking_section::{Member, member_kinds};
 use mark_bits::{Chunk, ChunkTable, kinds};
-use partial_parts::{Kept, place_in};
+use partial_tree::{Kept, place_in};
 use std::alloc::Global;
 use wl_base::{InputId, OutOfMemory};
 

@@ -18,7 +18,7 @@ pub struct TypeNumbers {
 
 impl Model for TypeNumbers {
     ghost use Rattle.std.specs.Prelude.{◌≤◌, List, length, take};
-    ghost use Rattle.link_program.specs.wasm_types.declared.function.FuncType.{FuncType as Item};
+    ghost use Rattle.partial_tree.specs.link_program.wasm_types.declared.function.FuncType.{FuncType as Item};
 
     ghost Value = { List Item };
 

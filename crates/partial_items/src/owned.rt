@@ -1,12 +1,12 @@
 //! The function, the segment and the global of a chunk, as its object has it. Parts come object by object, so the object of one mostly
 //! stands where that of the last one stood, and else it is searched for.
 ghost use Rattle.std.specs.Prelude.{◌≡◌, true, slice_get, option_map, option_and_then, option_copied};
-ghost use Rattle.link_program.specs.object_columns.Seen.{function_seen, segment_seen};
-ghost use Rattle.link_program.specs.name_entries.View.{InputsRise};
+ghost use Rattle.partial_tree.specs.link_program.object_columns.Seen.{function_seen, segment_seen};
+ghost use Rattle.partial_tree.specs.link_program.name_entries.View.{InputsRise};
 ghost use Rattle.partial_items.specs.Owned.{object_at};
 ghost use Rattle.partial_items.specs.Items.{chunk_of};
 
-use link_program::{FunctionRef, GlobalDef, Object, SegmentRef, Tables, part_at};
+use partial_tree::{FunctionRef, GlobalDef, Object, SegmentRef, Tables, part_at};
 use wl_base::InputId;
 
 /// Where the object of an input stands.

@@ -1,20 +1,19 @@
 //! The bodies and the data segments of the object, each with its relocations.
 ghost use Rattle.std.specs.Prelude.{◌≡◌, ℕ, List, false, Some, All, map, slice_get, slice_index_or, IfOk, OnOk};
-ghost use Rattle.link_program.specs.made_symbols.declared.mode.Mode.TheVariants.{Plain};
-ghost use Rattle.link_program.specs.link_rules.Program.{Program as Rules};
-ghost use Rattle.link_program.specs.Look.{row_at as row_told};
-ghost use Rattle.link_program.specs.Program.{IsProgramOf};
-ghost use Rattle.link_program.specs.Stand.{PartsStand};
-ghost use Rattle.partial_rules.specs.Partial as partial;
-ghost use Rattle.partial_symbols.specs.Standing.{Stood};
-ghost use Rattle.partial_symbols.specs.Known.{AreStanding};
+ghost use Rattle.partial_tree.specs.link_program.made_symbols.declared.mode.Mode.TheVariants.{Plain};
+ghost use Rattle.partial_tree.specs.link_program.link_rules.Program.{Program as Rules};
+ghost use Rattle.partial_tree.specs.link_program.Look.{row_at as row_told};
+ghost use Rattle.partial_tree.specs.link_program.Program.{IsProgramOf};
+ghost use Rattle.partial_tree.specs.link_program.Stand.{PartsStand};
+ghost use Rattle.partial_tree.specs.partial_rules.Partial as partial;
+ghost use Rattle.partial_tree.specs.partial_symbols.Standing.{Stood};
+ghost use Rattle.partial_tree.specs.partial_symbols.Known.{AreStanding};
 ghost use Rattle.partial_tree.specs.Relocs.{reloc_told};
 ghost use Rattle.partial_bytes.specs.Told.{PartFits, part_told};
 ghost use Rattle.partial_items.specs.Items.{given, part_given, parts_given};
 
-use link_program::{Named, Program, Tables, part_at, row_at};
 use partial_bytes::{Part, bytes_in};
-use partial_tree::{Targets, reloc_of};
+use partial_tree::{Named, Program, Tables, Targets, part_at, reloc_of, row_at};
 use reloc_section::Reloc;
 use std::alloc::Global;
 use wl_base::{OutOfMemory, Seq};

@@ -1,13 +1,12 @@
 //! The symbols of the object, which lend their names.
 ghost use Rattle.std.specs.Prelude.{◌≡◌, ◌++◌, [], Some, map, filter_map, option_map, IfOk, OnOk};
 ghost use Rattle.std.specs.List.{cons_option};
-ghost use Rattle.link_program.specs.name_entries.Fits.{FitsObjects};
+ghost use Rattle.partial_tree.specs.link_program.name_entries.Fits.{FitsObjects};
 ghost use Rattle.partial_tree.specs.Rows.{row_seen};
 ghost use Rattle.partial_bytes.specs.Told.{symbol_told};
 
-use link_program::Entries;
 use partial_bytes::SymbolRow;
-use partial_tree::Row;
+use partial_tree::{Entries, Row};
 use std::alloc::Global;
 use wl_base::{OutOfMemory, Seq};
 

@@ -4,8 +4,9 @@ mod Cells
 pub mod Held
 mod Placed
 mod Sighted
-mod Named
+mod Flagged
 mod Stands
 pub mod Numbered
 pub mod Whole
 pub mod Referring
+pub use Rattle.link_program.proofs as link_program_lemmas

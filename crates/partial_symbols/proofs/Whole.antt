@@ -20,7 +20,7 @@ use Rattle.partial_symbols.proofs.Lists.{all_from}
 use Rattle.partial_symbols.proofs.Held.{HeldOf, HeldWhere, entries_held, winners_held, held_objects}
 use Rattle.partial_symbols.proofs.Placed.{Placed, placed_of, fact_at, entry_of, facts_are, entries_are, all_placed, all_there, all_of_objects}
 use Rattle.partial_symbols.proofs.Sighted.{winner_seen, least_seen, referenced_seen, strong_seen, explicit_seen, import_seen, explicit_import_seen}
-use Rattle.partial_symbols.proofs.Named.{flag_seen}
+use Rattle.partial_symbols.proofs.Flagged.{flag_seen}
 use Rattle.partial_symbols.proofs.Stands.{stands_seen}
 use Rattle.partial_symbols.proofs.Numbered.{StandAlike, Differ, all_differ, count_is, symbols_are, of_symbols_are, of_names_are}
 

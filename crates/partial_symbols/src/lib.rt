@@ -14,4 +14,8 @@ mod winners;
 
 pub use columns::Column;
 pub use facts::{At, Fact, Spot};
+pub use link_program::{
+    Content, Entries, FuncTypeRef, FunctionRef, GlobalDef, LinkError, Named, Names, Object,
+    Program, SegmentRef, Symbol, Tables, TypeRef, part_at, refuse, row_at,
+};
 pub use standing::{Sight, Standing, sight_of, standing_of};

@@ -6,20 +6,20 @@ use Rattle.std.proofs.lemmas.List.{take_more, map-append}
 use Rattle.std.proofs.lemmas.List.Elements.{filter_map-append}
 use Rattle.std.proofs.lemmas.Option.{slice_get-map, get_or_from_slice_get, none-some}
 use Rattle.std.proofs.Math.ListN.{drop_of_length-le}
-use Rattle.link_program.specs.linking_section.Flags.{is_undefined}
-use Rattle.link_program.specs.linking_section.declared.init.InitFunc.{InitFunc}
-use Rattle.link_program.specs.linking_section.declared.symbol.Symbol.{Symbol}
-use Rattle.link_program.specs.object_file.declared.object.Object.{Object}
-use Rattle.link_program.specs.made_symbols.declared.mode.Mode.TheVariants.{Plain}
-use Rattle.link_program.specs.name_rules.Entries.{InputSymbol, symbols_of, entries_from}
-use Rattle.link_program.specs.name_rules.Meanings.{Meaning, Resolved, resolve, resolved_in, uses_of, meaning}
-use Rattle.link_program.specs.name_entries.View.{rows_of, entry_number}
-use Rattle.link_program.specs.link_rules.Program.{Program, Ref, ref_to, InitCall, init_call, init_calls_in, is_skipped}
-use Rattle.link_program.specs.link_rules.Marks.{all_symbols}
-use Rattle.link_program.specs.declared.program.Program.{Program as Data}
-use Rattle.link_program.specs.Program.{IsProgramOf}
-use Rattle.partial_rules.specs.Partial as partial
-use Rattle.partial_rules.specs.Partial.{relocatable}
+use Rattle.partial_symbols.specs.link_program.linking_section.Flags.{is_undefined}
+use Rattle.partial_symbols.specs.link_program.linking_section.declared.init.InitFunc.{InitFunc}
+use Rattle.partial_symbols.specs.link_program.linking_section.declared.symbol.Symbol.{Symbol}
+use Rattle.partial_symbols.specs.link_program.object_file.declared.object.Object.{Object}
+use Rattle.partial_symbols.specs.link_program.made_symbols.declared.mode.Mode.TheVariants.{Plain}
+use Rattle.partial_symbols.specs.link_program.name_rules.Entries.{InputSymbol, symbols_of, entries_from}
+use Rattle.partial_symbols.specs.link_program.name_rules.Meanings.{Meaning, Resolved, resolve, resolved_in, uses_of, meaning}
+use Rattle.partial_symbols.specs.link_program.name_entries.View.{rows_of, entry_number}
+use Rattle.partial_symbols.specs.link_program.link_rules.Program.{Program, Ref, ref_to, InitCall, init_call, init_calls_in, is_skipped}
+use Rattle.partial_symbols.specs.link_program.link_rules.Marks.{all_symbols}
+use Rattle.partial_symbols.specs.link_program.declared.program.Program.{Program as Data}
+use Rattle.partial_symbols.specs.link_program.Program.{IsProgramOf}
+use Rattle.partial_symbols.specs.partial_rules.Partial as partial
+use Rattle.partial_symbols.specs.partial_rules.Partial.{relocatable}
 use Rattle.partial_symbols.specs.Standing.{Stood}
 use Rattle.partial_symbols.specs.Known.{AreStanding}
 use Rattle.partial_symbols.specs.Referring.{number_by_name}

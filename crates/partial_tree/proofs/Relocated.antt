@@ -3,23 +3,23 @@ use Rattle.std.proofs.Common.{◌≡◌, ℕ, zero, suc, ◌<◌, List, [], ◌�
 use Rattle.std.specs.Prelude.{false}
 use Rattle.std.proofs.lemmas.List.Elements.{All-cons, All-head, All-tail}
 use Rattle.std.proofs.lemmas.Option.{slice_get-map, same_Some, none-some, get_or_from_slice_get}
-use Rattle.link_program.specs.wasm_types.declared.function.FuncType.{FuncType}
-use Rattle.link_program.specs.object_file.Spaces.{no_type}
-use Rattle.link_program.specs.name_rules.Entries.{InputSymbol}
-use Rattle.link_program.specs.name_rules.Meanings.{Meaning}
-use Rattle.link_program.specs.link_rules.Program as rules
-use Rattle.link_program.specs.link_rules.Program.{Program, Part, Ref, TypeWindow, a_symbol, a_type, named_ref, loose_variants}
-use Rattle.link_program.specs.declared.symbol.Symbol.{Symbol}
-use Rattle.link_program.specs.declared.named.Named.{Named}
-use Rattle.link_program.specs.declared.named.Named.TheVariants as names
-use Rattle.link_program.specs.declared.program.Program.{Program as Data}
-use Rattle.link_program.specs.Look.{row_at}
-use Rattle.link_program.specs.Told.{told_symbol}
-use Rattle.link_program.specs.Seen.{SeenRef, SeenNamed, seen_named, told_ref, told_named, NamesOne, no_symbol}
-use Rattle.link_program.specs.Stand.{IsRefOf, IsVariantOf, PartStands, PartsStand}
-use Rattle.link_program.specs.made_symbols.declared.mode.Mode.TheVariants.{Plain}
-use Rattle.link_program.specs.Program.{IsProgramOf}
-use Rattle.partial_rules.specs.Partial as partial
+use Rattle.partial_symbols.specs.link_program.wasm_types.declared.function.FuncType.{FuncType}
+use Rattle.partial_symbols.specs.link_program.object_file.Spaces.{no_type}
+use Rattle.partial_symbols.specs.link_program.name_rules.Entries.{InputSymbol}
+use Rattle.partial_symbols.specs.link_program.name_rules.Meanings.{Meaning}
+use Rattle.partial_symbols.specs.link_program.link_rules.Program as rules
+use Rattle.partial_symbols.specs.link_program.link_rules.Program.{Program, Part, Ref, TypeWindow, a_symbol, a_type, named_ref, loose_variants}
+use Rattle.partial_symbols.specs.link_program.declared.symbol.Symbol.{Symbol}
+use Rattle.partial_symbols.specs.link_program.declared.named.Named.{Named}
+use Rattle.partial_symbols.specs.link_program.declared.named.Named.TheVariants as names
+use Rattle.partial_symbols.specs.link_program.declared.program.Program.{Program as Data}
+use Rattle.partial_symbols.specs.link_program.Look.{row_at}
+use Rattle.partial_symbols.specs.link_program.Told.{told_symbol}
+use Rattle.partial_symbols.specs.link_program.Seen.{SeenRef, SeenNamed, seen_named, told_ref, told_named, NamesOne, no_symbol}
+use Rattle.partial_symbols.specs.link_program.Stand.{IsRefOf, IsVariantOf, PartStands, PartsStand}
+use Rattle.partial_symbols.specs.link_program.made_symbols.declared.mode.Mode.TheVariants.{Plain}
+use Rattle.partial_symbols.specs.link_program.Program.{IsProgramOf}
+use Rattle.partial_symbols.specs.partial_rules.Partial as partial
 use Rattle.partial_symbols.specs.Standing.{Stood}
 use Rattle.partial_symbols.specs.Known.{AreStanding}
 use Rattle.partial_symbols.specs.Referring.{number_for}

@@ -1,10 +1,10 @@
 -- The init functions of the object, by input and place.
 use Rattle.std.specs.Prelude.{ℕ, ◌+◌, not, ◌&&◌, List, [], ◌∷◌, ◌++◌, filter_map, length, if◌then◌else◌, Option, Some, None, option_and_then}
-use Rattle.link_program.specs.linking_section.Flags.{is_undefined}
-use Rattle.link_program.specs.linking_section.declared.init.InitFunc.{InitFunc}
-use Rattle.link_program.specs.object_file.declared.object.Object.{Object}
-use Rattle.link_program.specs.name_rules.Entries.{InputSymbol}
-use Rattle.link_program.specs.name_entries.View.{entry_at, entry_number}
+use Rattle.partial_symbols.specs.link_program.linking_section.Flags.{is_undefined}
+use Rattle.partial_symbols.specs.link_program.linking_section.declared.init.InitFunc.{InitFunc}
+use Rattle.partial_symbols.specs.link_program.object_file.declared.object.Object.{Object}
+use Rattle.partial_symbols.specs.link_program.name_rules.Entries.{InputSymbol}
+use Rattle.partial_symbols.specs.link_program.name_entries.View.{entry_at, entry_number}
 use Rattle.partial_symbols.specs.Standing.{Stood}
 use Rattle.partial_symbols.specs.Referring.{number_by_name}
 

@@ -1,8 +1,8 @@
 -- A look that is one of a program.
 use Rattle.std.specs.Prelude.{◌≡◌, ℕ, List, map, length}
-use Rattle.link_program.specs.linking_section.declared.symbol.SymbolKind.TheVariants.{Function, GlobalVar}
-use Rattle.link_program.specs.link_rules.Program.{Program}
-use Rattle.partial_rules.specs.Partial.{open_of}
+use Rattle.partial_symbols.specs.link_program.linking_section.declared.symbol.SymbolKind.TheVariants.{Function, GlobalVar}
+use Rattle.partial_symbols.specs.link_program.link_rules.Program.{Program}
+use Rattle.partial_symbols.specs.partial_rules.Partial.{open_of}
 use Rattle.partial_symbols.specs.Known.{IsSight}
 use Rattle.partial_parts.specs.Kept.{AreKept}
 use Rattle.partial_tree.specs.Rows.{Look}

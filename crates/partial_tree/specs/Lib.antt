@@ -3,5 +3,7 @@ pub mod Looks
 pub mod Known
 pub mod Inits
 pub mod Relocs
-pub use Rattle.link_program.specs as link_program
+pub use Rattle.partial_symbols.specs.link_program as link_program
+pub use Rattle.partial_symbols.specs.partial_rules as partial_rules
 pub use Rattle.partial_symbols.specs as partial_symbols
+pub use Rattle.partial_parts.specs as partial_parts

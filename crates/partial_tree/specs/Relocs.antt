@@ -1,16 +1,16 @@
 -- The relocations of the object's bodies and segments, by the tables of a program.
 use Rattle.std.specs.Prelude.{◌≡◌, ℕ, false, List, map, slice_get, slice_index_or, Some, pos}
-use Rattle.link_program.specs.reloc_section.declared.entry.Reloc.{Reloc}
-use Rattle.link_program.specs.link_rules.Program.{Program, Part}
-use Rattle.link_program.specs.declared.symbol.Symbol.{Symbol}
-use Rattle.link_program.specs.declared.named.Named.{Named}
-use Rattle.link_program.specs.declared.named.Named.TheVariants as names
-use Rattle.link_program.specs.declared.program.Program.{Program as Data}
-use Rattle.link_program.specs.Look.{row_at}
-use Rattle.link_program.specs.made_symbols.declared.mode.Mode.TheVariants.{Plain}
-use Rattle.link_program.specs.Program.{IsProgramOf}
-use Rattle.link_program.specs.Stand.{PartsStand}
-use Rattle.partial_rules.specs.Partial.{named_reloc, type_number}
+use Rattle.partial_symbols.specs.link_program.reloc_section.declared.entry.Reloc.{Reloc}
+use Rattle.partial_symbols.specs.link_program.link_rules.Program.{Program, Part}
+use Rattle.partial_symbols.specs.link_program.declared.symbol.Symbol.{Symbol}
+use Rattle.partial_symbols.specs.link_program.declared.named.Named.{Named}
+use Rattle.partial_symbols.specs.link_program.declared.named.Named.TheVariants as names
+use Rattle.partial_symbols.specs.link_program.declared.program.Program.{Program as Data}
+use Rattle.partial_symbols.specs.link_program.Look.{row_at}
+use Rattle.partial_symbols.specs.link_program.made_symbols.declared.mode.Mode.TheVariants.{Plain}
+use Rattle.partial_symbols.specs.link_program.Program.{IsProgramOf}
+use Rattle.partial_symbols.specs.link_program.Stand.{PartsStand}
+use Rattle.partial_symbols.specs.partial_rules.Partial.{named_reloc, type_number}
 use Rattle.partial_symbols.specs.Standing.{Stood}
 use Rattle.partial_symbols.specs.Known.{AreStanding}
 use Rattle.partial_symbols.specs.Referring.{number_for}

@@ -1,13 +1,13 @@
 -- The symbols of the object as small records, one after another.
 use Rattle.std.specs.Prelude.{ℕ, ◌+◌, Bool, true, false, not, List, [], ◌∷◌, ◌++◌, bit_and, slice_index_or, if◌then◌else◌, Option, Some, None, option_map}
-use Rattle.link_program.specs.linking_section.declared.symbol.Symbol.{Symbol}
-use Rattle.link_program.specs.linking_section.declared.symbol.SymbolKind.{SymbolKind}
-use Rattle.link_program.specs.linking_section.declared.symbol.SymbolKind.TheVariants.{Function, Datum, GlobalVar, Section, Table}
-use Rattle.link_program.specs.mark_bits.declared.chunk.Chunk.{Chunk}
-use Rattle.link_program.specs.object_file.declared.object.Object.{Object}
-use Rattle.link_program.specs.name_rules.Entries.{InputSymbol, name_of}
-use Rattle.link_program.specs.name_entries.View.{entry_number}
-use Rattle.link_program.specs.link_rules.Program.{chunk_at}
+use Rattle.partial_symbols.specs.link_program.linking_section.declared.symbol.Symbol.{Symbol}
+use Rattle.partial_symbols.specs.link_program.linking_section.declared.symbol.SymbolKind.{SymbolKind}
+use Rattle.partial_symbols.specs.link_program.linking_section.declared.symbol.SymbolKind.TheVariants.{Function, Datum, GlobalVar, Section, Table}
+use Rattle.partial_symbols.specs.link_program.mark_bits.declared.chunk.Chunk.{Chunk}
+use Rattle.partial_symbols.specs.link_program.object_file.declared.object.Object.{Object}
+use Rattle.partial_symbols.specs.link_program.name_rules.Entries.{InputSymbol, name_of}
+use Rattle.partial_symbols.specs.link_program.name_entries.View.{entry_number}
+use Rattle.partial_symbols.specs.link_program.link_rules.Program.{chunk_at}
 use Rattle.partial_symbols.specs.declared.facts.At.{At}
 use Rattle.partial_symbols.specs.declared.facts.Spot.{Spot}
 use Rattle.partial_symbols.specs.declared.columns.Column.{Column}

@@ -1,18 +1,17 @@
 //! The init functions of the object: those of all loaded objects that aren't skipped, by input and place.
 ghost use Rattle.std.specs.Prelude.{◌≡◌, ◌+◌, ◌++◌, [], false, filter_map, IfOk, OnOk};
 ghost use Rattle.std.specs.List.{cons_option};
-ghost use Rattle.link_program.specs.name_entries.Fits.{FitsObjects};
-ghost use Rattle.link_program.specs.link_rules.Program.{Program as Rules};
-ghost use Rattle.link_program.specs.declared.program.Program.{Program as Data};
-ghost use Rattle.link_program.specs.made_symbols.declared.mode.Mode.TheVariants.{Plain};
-ghost use Rattle.link_program.specs.Program.{IsProgramOf};
-ghost use Rattle.partial_rules.specs.Partial as partial;
+ghost use Rattle.partial_symbols.specs.link_program.name_entries.Fits.{FitsObjects};
+ghost use Rattle.partial_symbols.specs.link_program.link_rules.Program.{Program as Rules};
+ghost use Rattle.partial_symbols.specs.link_program.declared.program.Program.{Program as Data};
+ghost use Rattle.partial_symbols.specs.link_program.made_symbols.declared.mode.Mode.TheVariants.{Plain};
+ghost use Rattle.partial_symbols.specs.link_program.Program.{IsProgramOf};
+ghost use Rattle.partial_symbols.specs.partial_rules.Partial as partial;
 ghost use Rattle.partial_symbols.specs.Known.{AreStanding};
 ghost use Rattle.partial_tree.specs.Inits.{init_at, inits_from};
 
-use link_program::Entries;
 use linking_section::InitFunc;
-use partial_symbols::Standing;
+use partial_symbols::{Entries, Standing};
 use std::alloc::Global;
 use wl_base::{OutOfMemory, Seq};
 

@@ -7,5 +7,11 @@ mod relocs;
 mod symbols;
 
 pub use inits::inits_of;
+pub use partial_parts::{Kept, kept_of, place_in};
+pub use partial_symbols::{
+    At, Content, Entries, FunctionRef, GlobalDef, LinkError, Named, Names, Object, Program,
+    SegmentRef, Sight, Spot, Standing, Tables, TypeRef, part_at, refuse, row_at, sight_of,
+    standing_of,
+};
 pub use relocs::{Targets, reloc_of, relocs_are};
 pub use symbols::{Look, Row, rows_of};

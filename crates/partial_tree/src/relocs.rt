@@ -2,8 +2,7 @@
 ghost use Rattle.std.specs.Prelude.{◌≡◌, slice_index_or};
 ghost use Rattle.partial_tree.specs.Relocs.{reloc_told, RelocsAre};
 
-use link_program::{Named, Symbol};
-use partial_symbols::Standing;
+use partial_symbols::{Named, Standing, Symbol};
 use reloc_section::{Reloc, kinds};
 
 /// By what relocations are made.

@@ -1,23 +1,22 @@
 //! The symbols of the object, by the symbols of the loaded objects that stand for them.
 ghost use Rattle.std.specs.Prelude.{◌≡◌, ◌+◌, ◌∷◌, ◌++◌, [], not, map, option_map, fold, Some, None, bit_and, if◌then◌else◌, IfOk, OnOk};
-ghost use Rattle.link_program.specs.name_entries.Fits.{FitsObjects};
+ghost use Rattle.partial_symbols.specs.link_program.name_entries.Fits.{FitsObjects};
 ghost use Rattle.partial_symbols.specs.Known.{symbol_there};
 ghost use Rattle.partial_tree.specs.Rows.{known_of, bit_where, open_flags, one_if, is_function, is_global, open_index, with_open, index_of, with_defined, with_known, with_at, nothing_made, row_seen};
 ghost use Rattle.partial_tree.specs.Looks.{look_seen};
 ghost use Rattle.partial_tree.specs.Known.{IsLook};
-ghost use Rattle.link_program.specs.link_rules.Program.{Program as Rules};
-ghost use Rattle.link_program.specs.declared.program.Program.{Program as Data};
-ghost use Rattle.link_program.specs.made_symbols.declared.mode.Mode.TheVariants.{Plain};
-ghost use Rattle.link_program.specs.Program.{IsProgramOf};
-ghost use Rattle.partial_rules.specs.Partial as partial;
-ghost use Rattle.link_program.specs.link_rules.Program.{chunk_at};
+ghost use Rattle.partial_symbols.specs.link_program.link_rules.Program.{Program as Rules};
+ghost use Rattle.partial_symbols.specs.link_program.declared.program.Program.{Program as Data};
+ghost use Rattle.partial_symbols.specs.link_program.made_symbols.declared.mode.Mode.TheVariants.{Plain};
+ghost use Rattle.partial_symbols.specs.link_program.Program.{IsProgramOf};
+ghost use Rattle.partial_symbols.specs.partial_rules.Partial as partial;
+ghost use Rattle.partial_symbols.specs.link_program.link_rules.Program.{chunk_at};
 ghost use Rattle.partial_parts.specs.Kept.{place_in};
 
-use link_program::Entries;
 use linking_section::SymbolKind;
 use mark_bits::{Chunk, ChunkTable, kinds};
 use partial_parts::{Kept, place_in};
-use partial_symbols::{At, Column, Sight};
+use partial_symbols::{At, Column, Entries, Sight};
 use std::alloc::Global;
 use std::marker::Model;
 use wl_base::{InputId, OutOfMemory, Seq};

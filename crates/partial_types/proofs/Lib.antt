@@ -1,1 +1,2 @@
 mod Merged
+pub use Rattle.partial_imports.proofs as partial_imports_lemmas

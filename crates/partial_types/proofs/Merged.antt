@@ -4,36 +4,36 @@ use Rattle.std.specs.Prelude.{codes}
 use Rattle.std.specs.List.{cons_option}
 use Rattle.std.proofs.lemmas.Option.{slice_get-map, same_Some, none-some, get_or_from_slice_get}
 use Rattle.type_merge.proofs.Numbers.{in_turn}
-use Rattle.link_program.specs.wl_base.Choice.{first_some}
-use Rattle.link_program.specs.wasm_types.declared.function.FuncType.{FuncType}
-use Rattle.link_program.specs.wasm_types.declared.import.Import.{Import}
-use Rattle.link_program.specs.linking_section.Flags.{is_explicit, kind_code}
-use Rattle.link_program.specs.linking_section.declared.symbol.Symbol.{Symbol}
-use Rattle.link_program.specs.linking_section.declared.symbol.SymbolKind.{SymbolKind}
-use Rattle.link_program.specs.linking_section.declared.symbol.SymbolKind.TheVariants.{Function, Datum, GlobalVar, Section, Table}
-use Rattle.link_program.specs.object_file.declared.object.Object.{Object}
-use Rattle.link_program.specs.object_file.Spaces.{no_type}
-use Rattle.link_program.specs.name_rules.Entries.{InputSymbol, ImportKey, is_kind, name_of, symbols_of, entries_from, entry_in, import_in, type_in, key_of}
-use Rattle.link_program.specs.name_rules.Meanings.{least_import}
-use Rattle.link_program.specs.name_entries.View.{rows_of}
-use Rattle.link_program.specs.type_merge.Types.{with_type}
-use Rattle.link_program.specs.link_rules.Program as rules
-use Rattle.link_program.specs.link_rules.Program.{Program, Part, function, segment, global, linker_made, a_symbol, a_type, named_type, types_named}
-use Rattle.link_program.specs.link_rules.Keys.{function_type_of, content_type, window_types as defined_types}
-use Rattle.link_program.specs.declared.program.Program.{Program as Data}
-use Rattle.link_program.specs.declared.program.Tables.{Tables}
-use Rattle.link_program.specs.declared.named.Named.{Named}
-use Rattle.link_program.specs.declared.named.Named.TheVariants as names
-use Rattle.link_program.specs.declared.part.Content.{Content}
-use Rattle.link_program.specs.declared.part.Content.TheVariants as contents
-use Rattle.link_program.specs.declared.part.Part.{Part as Told}
-use Rattle.link_program.specs.Look.{no_part, row_at}
-use Rattle.link_program.specs.Seen.{SeenNamed, seen_symbol, seen_type, seen_named, told_named, SeenContent, a_function, a_segment, a_global, the_linkers, SeenPart, seen_part, told_part, seen_content, told_content}
-use Rattle.link_program.specs.made_symbols.declared.mode.Mode.TheVariants.{Plain}
-use Rattle.link_program.specs.Program.{IsProgramOf}
-use Rattle.partial_rules.specs.Partial as partial
-use Rattle.partial_symbols.specs.declared.facts.At.{At}
-use Rattle.partial_symbols.specs.Known.{symbol_there, import_there}
+use Rattle.partial_imports.specs.link_program.wl_base.Choice.{first_some}
+use Rattle.partial_imports.specs.link_program.wasm_types.declared.function.FuncType.{FuncType}
+use Rattle.partial_imports.specs.link_program.wasm_types.declared.import.Import.{Import}
+use Rattle.partial_imports.specs.link_program.linking_section.Flags.{is_explicit, kind_code}
+use Rattle.partial_imports.specs.link_program.linking_section.declared.symbol.Symbol.{Symbol}
+use Rattle.partial_imports.specs.link_program.linking_section.declared.symbol.SymbolKind.{SymbolKind}
+use Rattle.partial_imports.specs.link_program.linking_section.declared.symbol.SymbolKind.TheVariants.{Function, Datum, GlobalVar, Section, Table}
+use Rattle.partial_imports.specs.link_program.object_file.declared.object.Object.{Object}
+use Rattle.partial_imports.specs.link_program.object_file.Spaces.{no_type}
+use Rattle.partial_imports.specs.link_program.name_rules.Entries.{InputSymbol, ImportKey, is_kind, name_of, symbols_of, entries_from, entry_in, import_in, type_in, key_of}
+use Rattle.partial_imports.specs.link_program.name_rules.Meanings.{least_import}
+use Rattle.partial_imports.specs.link_program.name_entries.View.{rows_of}
+use Rattle.partial_imports.specs.link_program.type_merge.Types.{with_type}
+use Rattle.partial_imports.specs.link_program.link_rules.Program as rules
+use Rattle.partial_imports.specs.link_program.link_rules.Program.{Program, Part, function, segment, global, linker_made, a_symbol, a_type, named_type, types_named}
+use Rattle.partial_imports.specs.link_program.link_rules.Keys.{function_type_of, content_type, window_types as defined_types}
+use Rattle.partial_imports.specs.link_program.declared.program.Program.{Program as Data}
+use Rattle.partial_imports.specs.link_program.declared.program.Tables.{Tables}
+use Rattle.partial_imports.specs.link_program.declared.named.Named.{Named}
+use Rattle.partial_imports.specs.link_program.declared.named.Named.TheVariants as names
+use Rattle.partial_imports.specs.link_program.declared.part.Content.{Content}
+use Rattle.partial_imports.specs.link_program.declared.part.Content.TheVariants as contents
+use Rattle.partial_imports.specs.link_program.declared.part.Part.{Part as Told}
+use Rattle.partial_imports.specs.link_program.Look.{no_part, row_at}
+use Rattle.partial_imports.specs.link_program.Seen.{SeenNamed, seen_symbol, seen_type, seen_named, told_named, SeenContent, a_function, a_segment, a_global, the_linkers, SeenPart, seen_part, told_part, seen_content, told_content}
+use Rattle.partial_imports.specs.link_program.made_symbols.declared.mode.Mode.TheVariants.{Plain}
+use Rattle.partial_imports.specs.link_program.Program.{IsProgramOf}
+use Rattle.partial_imports.specs.partial_rules.Partial as partial
+use Rattle.partial_imports.specs.partial_symbols.declared.facts.At.{At}
+use Rattle.partial_imports.specs.partial_symbols.Known.{symbol_there, import_there}
 use Rattle.partial_imports.specs.declared.opens.Open.{Open}
 use Rattle.partial_imports.specs.Opens.{SeenOpen, open_seen, told_open}
 use Rattle.partial_types.specs.Added.{type_at, content_type_at, symbol_type, type_there, if_function, open_type, function_type, window_type, window_types, with_option, with_open, with_function, with_row}

@@ -1,21 +1,21 @@
 -- The types that are added, by the tables of a program.
 use Rattle.std.specs.Prelude.{ℕ, List, filter_map, fold, slice_index_or, Option, Some, None, unwrap_or}
-use Rattle.link_program.specs.wasm_types.declared.function.FuncType.{FuncType}
-use Rattle.link_program.specs.linking_section.declared.symbol.SymbolKind.{SymbolKind}
-use Rattle.link_program.specs.linking_section.declared.symbol.SymbolKind.TheVariants.{Function, Datum, GlobalVar, Section, Table}
-use Rattle.link_program.specs.object_file.declared.object.Object.{Object}
-use Rattle.link_program.specs.object_file.Spaces.{no_type}
-use Rattle.link_program.specs.name_rules.Entries.{InputSymbol, SymbolType, untyped}
-use Rattle.link_program.specs.type_merge.Types.{with_type}
-use Rattle.link_program.specs.link_rules.Keys.{function_type_of}
-use Rattle.link_program.specs.declared.named.Named.{Named}
-use Rattle.link_program.specs.declared.named.Named.TheVariants as names
-use Rattle.link_program.specs.declared.part.Content.{Content}
-use Rattle.link_program.specs.declared.part.Content.TheVariants as contents
-use Rattle.link_program.specs.declared.program.Tables.{Tables}
-use Rattle.link_program.specs.Look.{part_at, row_at}
-use Rattle.partial_symbols.specs.declared.facts.At.{At}
-use Rattle.partial_symbols.specs.Known.{symbol_there}
+use Rattle.partial_imports.specs.link_program.wasm_types.declared.function.FuncType.{FuncType}
+use Rattle.partial_imports.specs.link_program.linking_section.declared.symbol.SymbolKind.{SymbolKind}
+use Rattle.partial_imports.specs.link_program.linking_section.declared.symbol.SymbolKind.TheVariants.{Function, Datum, GlobalVar, Section, Table}
+use Rattle.partial_imports.specs.link_program.object_file.declared.object.Object.{Object}
+use Rattle.partial_imports.specs.link_program.object_file.Spaces.{no_type}
+use Rattle.partial_imports.specs.link_program.name_rules.Entries.{InputSymbol, SymbolType, untyped}
+use Rattle.partial_imports.specs.link_program.type_merge.Types.{with_type}
+use Rattle.partial_imports.specs.link_program.link_rules.Keys.{function_type_of}
+use Rattle.partial_imports.specs.link_program.declared.named.Named.{Named}
+use Rattle.partial_imports.specs.link_program.declared.named.Named.TheVariants as names
+use Rattle.partial_imports.specs.link_program.declared.part.Content.{Content}
+use Rattle.partial_imports.specs.link_program.declared.part.Content.TheVariants as contents
+use Rattle.partial_imports.specs.link_program.declared.program.Tables.{Tables}
+use Rattle.partial_imports.specs.link_program.Look.{part_at, row_at}
+use Rattle.partial_imports.specs.partial_symbols.declared.facts.At.{At}
+use Rattle.partial_imports.specs.partial_symbols.Known.{symbol_there}
 use Rattle.partial_imports.specs.declared.opens.Open.{Open}
 
 -- the type of this number

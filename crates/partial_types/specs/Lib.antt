@@ -1,2 +1,2 @@
 pub mod Added
-pub use Rattle.link_program.specs as link_program
+pub use Rattle.partial_imports.specs as partial_imports

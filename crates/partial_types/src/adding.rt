@@ -1,13 +1,12 @@
 //! Types that are added to a table.
 ghost use Rattle.std.specs.Prelude.{◌≡◌, ◌<◌, ◌-◌, ◌^◌, nat_lt, length, Some, IfOk, OnOk};
-ghost use Rattle.link_program.specs.object_file.Spaces.{no_type};
-ghost use Rattle.link_program.specs.object_columns.Seen.{func_type_seen};
-ghost use Rattle.link_program.specs.name_entries.Fits.{FitsObjects};
-ghost use Rattle.link_program.specs.type_merge.Types.{with_type};
+ghost use Rattle.partial_imports.specs.link_program.object_file.Spaces.{no_type};
+ghost use Rattle.partial_imports.specs.link_program.object_columns.Seen.{func_type_seen};
+ghost use Rattle.partial_imports.specs.link_program.name_entries.Fits.{FitsObjects};
+ghost use Rattle.partial_imports.specs.link_program.type_merge.Types.{with_type};
 ghost use Rattle.partial_types.specs.Added.{type_at, content_type_at, type_there};
 
-use link_program::{Content, Entries, FuncTypeRef, TypeRef};
-use partial_symbols::At;
+use partial_imports::{At, Content, Entries, FuncTypeRef, TypeRef};
 use type_merge::TypeTable;
 use wasm_types::FuncType;
 use wl_base::OutOfMemory;

@@ -5,4 +5,5 @@
 mod adding;
 mod types;
 
+pub use partial_imports::{Open, count_of, opens_of};
 pub use types::types_of;

@@ -1,17 +1,16 @@
 //! All types of the object, in their order.
 ghost use Rattle.std.specs.Prelude.{◌≡◌, [], Some, map, filter, fold, slice_get, IfOk, OnOk};
-ghost use Rattle.link_program.specs.name_entries.Fits.{FitsObjects};
-ghost use Rattle.link_program.specs.link_rules.Program.{Program as Rules};
-ghost use Rattle.link_program.specs.made_symbols.declared.mode.Mode.TheVariants.{Plain};
-ghost use Rattle.link_program.specs.Program.{IsProgramOf};
-ghost use Rattle.partial_rules.specs.Partial as partial;
+ghost use Rattle.partial_imports.specs.link_program.name_entries.Fits.{FitsObjects};
+ghost use Rattle.partial_imports.specs.link_program.link_rules.Program.{Program as Rules};
+ghost use Rattle.partial_imports.specs.link_program.made_symbols.declared.mode.Mode.TheVariants.{Plain};
+ghost use Rattle.partial_imports.specs.link_program.Program.{IsProgramOf};
+ghost use Rattle.partial_imports.specs.partial_rules.Partial as partial;
 ghost use Rattle.partial_imports.specs.Opens.{open_seen, told_open};
 ghost use Rattle.partial_types.specs.Added.{with_open, with_function, with_window, with_row};
 
 use crate::adding::{add_content, add_numbered, add_symbol};
-use link_program::{Entries, Named, Program, Tables, part_at, row_at};
 use linking_section::SymbolKind;
-use partial_imports::Open;
+use partial_imports::{Entries, Named, Open, Program, Tables, part_at, row_at};
 use std::alloc::Global;
 use type_merge::TypeTable;
 use wasm_types::FuncType;

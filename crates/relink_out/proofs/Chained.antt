@@ -1,11 +1,11 @@
 -- A partial link is refused by what is found of names, and else is what is made of the program.
 use Rattle.std.proofs.Common.{◌≡◌, ℕ, List, Option, Some, None, Result, refl, sym, ap, ◌∙◌}
-use Rattle.link_program.specs.wl_base.Choice.{unless, ◌>>=◌}
-use Rattle.link_program.specs.wl_base.declared.fault.Fault.{Fault}
-use Rattle.link_program.specs.name_rules.Cases.{clash, clash_by, duplicate}
-use Rattle.link_program.specs.link_rules.Program.{Program}
-use Rattle.link_program.specs.link_rules.LinkOf.{too_many_names}
-use Rattle.partial_rules.specs.PartialLink.{partial_program}
+use Rattle.partial_items.specs.link_program.wl_base.Choice.{unless, ◌>>=◌}
+use Rattle.partial_items.specs.link_program.wl_base.declared.fault.Fault.{Fault}
+use Rattle.partial_items.specs.link_program.name_rules.Cases.{clash, clash_by, duplicate}
+use Rattle.partial_items.specs.link_program.link_rules.Program.{Program}
+use Rattle.partial_items.specs.link_program.link_rules.LinkOf.{too_many_names}
+use Rattle.partial_items.specs.partial_rules.PartialLink.{partial_program}
 use Rattle.relink_out.specs.Made.{made_of}
 use Rattle.relink_out.specs.Laws.{PartialIsMade}
 

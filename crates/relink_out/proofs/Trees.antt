@@ -1,12 +1,12 @@
 -- The tree is the object of the definition.
 use Rattle.std.proofs.Common.{◌≡◌, ℕ, List, [], ◌∷◌, map, filter_map, Option, Some, None, refl, sym, ap, ◌∙◌}
 use Rattle.std.specs.List.{cons_option}
-use Rattle.link_program.specs.link_rules.Program.{Program}
-use Rattle.partial_rules.specs.Relocatable.{Relocatable}
-use Rattle.partial_rules.specs.Partial as partial
-use Rattle.partial_rules.specs.Partial.{relocatable}
-use Rattle.partial_bytes.specs.declared.tree.Tree.{Tree}
-use Rattle.partial_bytes.specs.Told.{part_told, global_told, info_told, symbol_told, group_told, tree_told}
+use Rattle.partial_items.specs.link_program.link_rules.Program.{Program}
+use Rattle.partial_items.specs.partial_rules.Relocatable.{Relocatable}
+use Rattle.partial_items.specs.partial_rules.Partial as partial
+use Rattle.partial_items.specs.partial_rules.Partial.{relocatable}
+use Rattle.partial_items.specs.partial_bytes.declared.tree.Tree.{Tree}
+use Rattle.partial_items.specs.partial_bytes.Told.{part_told, global_told, info_told, symbol_told, group_told, tree_told}
 
 -- what is found of each
 pub all_found : {A B : Type 0} (f : A → Option B) (xs : List A) (ys : List B) → map f xs ≡ map Some ys → filter_map f xs ≡ ys

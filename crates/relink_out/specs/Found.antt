@@ -1,11 +1,11 @@
 -- What is found of a program.
 use Rattle.std.specs.Prelude.{◌≡◌, ℕ, List, map, filter, length}
-use Rattle.link_program.specs.linking_section.declared.symbol.SymbolKind.TheVariants.{Function, GlobalVar}
-use Rattle.link_program.specs.link_rules.Program.{Program}
-use Rattle.partial_rules.specs.Partial as partial
-use Rattle.partial_symbols.specs.Known.{IsSight, AreStanding}
-use Rattle.partial_parts.specs.Kept.{AreKept}
-use Rattle.partial_imports.specs.Opens.{open_seen, told_open}
+use Rattle.partial_items.specs.link_program.linking_section.declared.symbol.SymbolKind.TheVariants.{Function, GlobalVar}
+use Rattle.partial_items.specs.link_program.link_rules.Program.{Program}
+use Rattle.partial_items.specs.partial_rules.Partial as partial
+use Rattle.partial_items.specs.partial_symbols.Known.{IsSight, AreStanding}
+use Rattle.partial_items.specs.partial_parts.Kept.{AreKept}
+use Rattle.partial_items.specs.partial_imports.Opens.{open_seen, told_open}
 use Rattle.relink_out.specs.declared.found.Found.{Found}
 
 -- It has what is known of the program's names, the symbols that stand in the object, the kept parts, the open names, and how many

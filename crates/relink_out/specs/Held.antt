@@ -1,9 +1,9 @@
 -- What of the object is held by its parts.
 use Rattle.std.specs.Prelude.{◌≡◌, ℕ, List, map, length}
-use Rattle.link_program.specs.reloc_section.declared.entry.Reloc.{Reloc}
-use Rattle.link_program.specs.declared.program.Program.{Program as Data}
-use Rattle.link_program.specs.Look.{row_at}
-use Rattle.partial_tree.specs.Relocs.{reloc_told}
+use Rattle.partial_items.specs.link_program.reloc_section.declared.entry.Reloc.{Reloc}
+use Rattle.partial_items.specs.link_program.declared.program.Program.{Program as Data}
+use Rattle.partial_items.specs.link_program.Look.{row_at}
+use Rattle.partial_items.specs.partial_tree.Relocs.{reloc_told}
 use Rattle.partial_items.specs.Groups.{Places, all_won}
 use Rattle.relink_out.specs.declared.found.Found.{Found}
 use Rattle.relink_out.specs.declared.held.Held.{Held}

@@ -1,11 +1,11 @@
 -- What the object of a program says of a partial link.
 use Rattle.std.specs.Prelude.{◌≡◌, ℕ, List, false, Result}
-use Rattle.link_program.specs.wl_base.Choice.{unless, ◌>>=◌}
-use Rattle.link_program.specs.wl_base.declared.fault.Fault.{Fault}
-use Rattle.link_program.specs.name_rules.Cases.{clash_by, duplicate}
-use Rattle.link_program.specs.link_rules.Program.{Program}
-use Rattle.link_program.specs.link_rules.LinkOf.{too_many_names}
-use Rattle.partial_rules.specs.PartialLink.{partial_program}
+use Rattle.partial_items.specs.link_program.wl_base.Choice.{unless, ◌>>=◌}
+use Rattle.partial_items.specs.link_program.wl_base.declared.fault.Fault.{Fault}
+use Rattle.partial_items.specs.link_program.name_rules.Cases.{clash_by, duplicate}
+use Rattle.partial_items.specs.link_program.link_rules.Program.{Program}
+use Rattle.partial_items.specs.link_program.link_rules.LinkOf.{too_many_names}
+use Rattle.partial_items.specs.partial_rules.PartialLink.{partial_program}
 use Rattle.relink_out.specs.Made.{made_of}
 
 -- The faults of names, in their order (`found_of` of program_build).

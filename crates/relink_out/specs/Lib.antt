@@ -4,4 +4,4 @@ pub mod Typed
 pub mod Named
 pub mod Held
 pub mod Laws
-pub use Rattle.link_program.specs as link_program
+pub use Rattle.partial_items.specs.partial_rules as partial_rules

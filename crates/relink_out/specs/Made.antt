@@ -1,11 +1,11 @@
 -- The object of a program whose names are in order.
 use Rattle.std.specs.Prelude.{ℕ, List, Result}
-use Rattle.link_program.specs.wl_base.Choice.{unless, ◌>>=◌}
-use Rattle.link_program.specs.wl_base.declared.fault.Fault.{Fault}
-use Rattle.link_program.specs.link_rules.Program.{Program}
-use Rattle.partial_rules.specs.Relocatable.{Relocatable, relocatable_bytes}
-use Rattle.partial_rules.specs.Partial.{relocatable, open_local}
-use Rattle.partial_rules.specs.PartialLink.{too_long}
+use Rattle.partial_items.specs.link_program.wl_base.Choice.{unless, ◌>>=◌}
+use Rattle.partial_items.specs.link_program.wl_base.declared.fault.Fault.{Fault}
+use Rattle.partial_items.specs.link_program.link_rules.Program.{Program}
+use Rattle.partial_items.specs.partial_rules.Relocatable.{Relocatable, relocatable_bytes}
+use Rattle.partial_items.specs.partial_rules.Partial.{relocatable, open_local}
+use Rattle.partial_items.specs.partial_rules.PartialLink.{too_long}
 
 -- The bytes of an object, unless they are too many.
 abbrev pub bytes_or : List ℕ → Result (List ℕ) Fault

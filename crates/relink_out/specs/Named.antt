@@ -1,9 +1,9 @@
 -- What of the object has symbols and names.
 use Rattle.std.specs.Prelude.{◌≡◌, List, map, Some}
-use Rattle.link_program.specs.link_rules.Program.{Program}
-use Rattle.partial_rules.specs.Partial as partial
-use Rattle.partial_rules.specs.Partial.{relocatable}
-use Rattle.partial_tree.specs.Rows.{row_seen}
+use Rattle.partial_items.specs.link_program.link_rules.Program.{Program}
+use Rattle.partial_items.specs.partial_rules.Partial as partial
+use Rattle.partial_items.specs.partial_rules.Partial.{relocatable}
+use Rattle.partial_items.specs.partial_tree.Rows.{row_seen}
 use Rattle.relink_out.specs.declared.named.Named.{Named}
 
 -- The exports, the symbols and the init functions.

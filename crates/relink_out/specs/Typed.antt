@@ -1,9 +1,9 @@
 -- What of the object rests on its types.
 use Rattle.std.specs.Prelude.{◌≡◌, ℕ, List, map}
-use Rattle.link_program.specs.link_rules.Program.{Program}
-use Rattle.link_program.specs.declared.program.Program.{Program as Data}
-use Rattle.partial_rules.specs.Partial as partial
-use Rattle.partial_rules.specs.Partial.{relocatable}
+use Rattle.partial_items.specs.link_program.link_rules.Program.{Program}
+use Rattle.partial_items.specs.link_program.declared.program.Program.{Program as Data}
+use Rattle.partial_items.specs.partial_rules.Partial as partial
+use Rattle.partial_items.specs.partial_rules.Partial.{relocatable}
 use Rattle.relink_out.specs.declared.typed.Typed.{Typed}
 
 -- The types, the numbers that the program's types have there, the imports, and the types of functions.

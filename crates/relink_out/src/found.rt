@@ -1,16 +1,16 @@
 //! What later parts look up by number.
 ghost use Rattle.std.specs.Prelude.{◌≡◌, IfOk};
-ghost use Rattle.link_program.specs.made_symbols.declared.mode.Mode.TheVariants.{Plain};
-ghost use Rattle.link_program.specs.name_entries.Fits.{FitsObjects};
-ghost use Rattle.link_program.specs.link_rules.Program.{Program as Rules};
-ghost use Rattle.link_program.specs.Program.{IsProgramOf};
+ghost use Rattle.partial_items.specs.link_program.made_symbols.declared.mode.Mode.TheVariants.{Plain};
+ghost use Rattle.partial_items.specs.link_program.name_entries.Fits.{FitsObjects};
+ghost use Rattle.partial_items.specs.link_program.link_rules.Program.{Program as Rules};
+ghost use Rattle.partial_items.specs.link_program.Program.{IsProgramOf};
 ghost use Rattle.relink_out.specs.Found.{AreFound};
 
-use link_program::{Entries, Program};
 use linking_section::SymbolKind;
-use partial_imports::{Open, count_of, opens_of};
-use partial_parts::{Kept, kept_of};
-use partial_symbols::{Sight, Standing, sight_of, standing_of};
+use partial_items::{
+    Entries, Kept, Open, Program, Sight, Standing, count_of, kept_of, opens_of, sight_of,
+    standing_of,
+};
 use std::alloc::Global;
 use wl_base::{OutOfMemory, Seq};
 

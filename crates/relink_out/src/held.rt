@@ -1,12 +1,10 @@
 //! What of the object is held by its parts: groups, and the relocations of bodies and data segments.
 ghost use Rattle.std.specs.Prelude.{◌≡◌, IfOk};
-ghost use Rattle.link_program.specs.name_entries.Fits.{FitsObjects};
+ghost use Rattle.partial_items.specs.link_program.name_entries.Fits.{FitsObjects};
 ghost use Rattle.relink_out.specs.Held.{AreHeld};
 
 use crate::found::Found;
-use link_program::{Entries, Program};
-use partial_items::{Places, Won, groups_of, relocs_of};
-use partial_tree::Targets;
+use partial_items::{Entries, Places, Program, Targets, Won, groups_of, relocs_of};
 use reloc_section::Reloc;
 use std::alloc::Global;
 use wl_base::OutOfMemory;

@@ -1,17 +1,15 @@
 //! What of the object has symbols and names: its exports, symbols and init functions.
 ghost use Rattle.std.specs.Prelude.{◌≡◌, false, IfOk};
-ghost use Rattle.link_program.specs.made_symbols.declared.mode.Mode.TheVariants.{Plain};
-ghost use Rattle.link_program.specs.name_entries.Fits.{FitsObjects};
-ghost use Rattle.link_program.specs.link_rules.Program.{Program as Rules};
-ghost use Rattle.link_program.specs.Program.{IsProgramOf};
+ghost use Rattle.partial_items.specs.link_program.made_symbols.declared.mode.Mode.TheVariants.{Plain};
+ghost use Rattle.partial_items.specs.link_program.name_entries.Fits.{FitsObjects};
+ghost use Rattle.partial_items.specs.link_program.link_rules.Program.{Program as Rules};
+ghost use Rattle.partial_items.specs.link_program.Program.{IsProgramOf};
 ghost use Rattle.relink_out.specs.Found.{AreFound};
 ghost use Rattle.relink_out.specs.Named.{AreNamed};
 
 use crate::found::Found;
-use link_program::{Entries, Program};
 use linking_section::InitFunc;
-use partial_items::exports_of;
-use partial_tree::{Look, Row, inits_of, rows_of};
+use partial_items::{Entries, Look, Program, Row, exports_of, inits_of, rows_of};
 use std::alloc::Global;
 use wasm_module::Export;
 use wl_base::{OutOfMemory, Seq};

@@ -1,14 +1,14 @@
 //! The call that makes the object of a partial link.
 ghost use Rattle.std.specs.Prelude.{◌≡◌, ◌≤◌, ◌^◌, false, length, IfOk};
-ghost use Rattle.link_program.specs.made_symbols.declared.mode.Mode.TheVariants.{Plain};
-ghost use Rattle.link_program.specs.name_entries.Fits.{FitsObjects};
-ghost use Rattle.link_program.specs.link_rules.Program as rules;
-ghost use Rattle.link_program.specs.link_rules.ModeOf.{IsPlain};
-ghost use Rattle.link_program.specs.Answers.{Answers};
-ghost use Rattle.link_program.specs.Program.{IsProgram, IsProgramOf};
-ghost use Rattle.link_program.specs.Stand.{PartsStand};
-ghost use Rattle.partial_rules.specs.Relocatable.{relocatable_bytes};
-ghost use Rattle.partial_rules.specs.Partial.{relocatable};
+ghost use Rattle.partial_items.specs.link_program.made_symbols.declared.mode.Mode.TheVariants.{Plain};
+ghost use Rattle.partial_items.specs.link_program.name_entries.Fits.{FitsObjects};
+ghost use Rattle.partial_items.specs.link_program.link_rules.Program as rules;
+ghost use Rattle.partial_items.specs.link_program.link_rules.ModeOf.{IsPlain};
+ghost use Rattle.partial_items.specs.link_program.Answers.{Answers};
+ghost use Rattle.partial_items.specs.link_program.Program.{IsProgram, IsProgramOf};
+ghost use Rattle.partial_items.specs.link_program.Stand.{PartsStand};
+ghost use Rattle.partial_items.specs.partial_rules.Relocatable.{relocatable_bytes};
+ghost use Rattle.partial_items.specs.partial_rules.Partial.{relocatable};
 ghost use Rattle.relink_out.specs.Made.{bytes_or, made_of};
 
 use crate::found::found_of;
@@ -16,7 +16,7 @@ use crate::held::held_of;
 use crate::named::named_of;
 use crate::typed::typed_of;
 use crate::whole::written_of;
-use link_program::{Entries, LinkError, Program, refuse};
+use partial_items::{Entries, LinkError, Program, refuse};
 use partial_open::open_local;
 use std::alloc::Global;
 use std::thread::Threads;

@@ -1,16 +1,16 @@
 //! What of the object rests on its types: the types themselves, imports, and the types of functions.
 ghost use Rattle.std.specs.Prelude.{◌≡◌, false, IfOk};
-ghost use Rattle.link_program.specs.made_symbols.declared.mode.Mode.TheVariants.{Plain};
-ghost use Rattle.link_program.specs.name_entries.Fits.{FitsObjects};
-ghost use Rattle.link_program.specs.link_rules.Program.{Program as Rules};
-ghost use Rattle.link_program.specs.Program.{IsProgramOf};
+ghost use Rattle.partial_items.specs.link_program.made_symbols.declared.mode.Mode.TheVariants.{Plain};
+ghost use Rattle.partial_items.specs.link_program.name_entries.Fits.{FitsObjects};
+ghost use Rattle.partial_items.specs.link_program.link_rules.Program.{Program as Rules};
+ghost use Rattle.partial_items.specs.link_program.Program.{IsProgramOf};
 ghost use Rattle.relink_out.specs.Found.{AreFound};
 ghost use Rattle.relink_out.specs.Typed.{AreTyped};
 
 use crate::found::Found;
-use link_program::{Entries, Program};
-use partial_items::{TypeNumbers, functions_of, imports_of, type_numbers};
-use partial_types::types_of;
+use partial_items::{
+    Entries, Program, TypeNumbers, functions_of, imports_of, type_numbers, types_of,
+};
 use std::alloc::Global;
 use wasm_types::Import;
 use wl_base::{OutOfMemory, Seq};

@@ -1,13 +1,13 @@
 //! The tree of the object, whose rows lend names and bytes.
 ghost use Rattle.std.specs.Prelude.{◌≡◌, ◌≤◌, ◌^◌, false, length, IfOk};
-ghost use Rattle.link_program.specs.made_symbols.declared.mode.Mode.TheVariants.{Plain};
-ghost use Rattle.link_program.specs.name_entries.Fits.{FitsObjects};
-ghost use Rattle.link_program.specs.link_rules.Program as rules;
-ghost use Rattle.link_program.specs.Answers.{Answers};
-ghost use Rattle.link_program.specs.Program.{IsProgramOf};
-ghost use Rattle.link_program.specs.Stand.{PartsStand};
-ghost use Rattle.partial_rules.specs.Relocatable.{relocatable_bytes};
-ghost use Rattle.partial_rules.specs.Partial.{relocatable};
+ghost use Rattle.partial_items.specs.link_program.made_symbols.declared.mode.Mode.TheVariants.{Plain};
+ghost use Rattle.partial_items.specs.link_program.name_entries.Fits.{FitsObjects};
+ghost use Rattle.partial_items.specs.link_program.link_rules.Program as rules;
+ghost use Rattle.partial_items.specs.link_program.Answers.{Answers};
+ghost use Rattle.partial_items.specs.link_program.Program.{IsProgramOf};
+ghost use Rattle.partial_items.specs.link_program.Stand.{PartsStand};
+ghost use Rattle.partial_items.specs.partial_rules.Relocatable.{relocatable_bytes};
+ghost use Rattle.partial_items.specs.partial_rules.Partial.{relocatable};
 ghost use Rattle.relink_out.specs.Made.{bytes_or};
 ghost use Rattle.relink_out.specs.Found.{AreFound};
 ghost use Rattle.relink_out.specs.Typed.{AreTyped};
@@ -19,9 +19,9 @@ use crate::held::Held;
 use crate::named::Named;
 use crate::typed::Typed;
 use crate::writing::write;
-use link_program::{Entries, LinkError, Program};
-use partial_bytes::Tree;
-use partial_items::{globals_of, group_rows, infos_of, parts_of, symbols_of};
+use partial_items::{
+    Entries, LinkError, Program, Tree, globals_of, group_rows, infos_of, parts_of, symbols_of,
+};
 use std::alloc::Global;
 use std::thread::Threads;
 use wl_base::Seq;

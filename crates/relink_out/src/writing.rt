@@ -1,12 +1,11 @@
 //! The bytes of the object, unless they are too many.
 ghost use Rattle.std.specs.Prelude.{◌≡◌, ◌≤◌, ◌^◌, length, IfOk};
-ghost use Rattle.link_program.specs.Answers.{Answers};
-ghost use Rattle.partial_rules.specs.Relocatable.{relocatable_bytes};
-ghost use Rattle.partial_bytes.specs.Told.{tree_told, TreeFits};
+ghost use Rattle.partial_items.specs.link_program.Answers.{Answers};
+ghost use Rattle.partial_items.specs.partial_rules.Relocatable.{relocatable_bytes};
+ghost use Rattle.partial_items.specs.partial_bytes.Told.{tree_told, TreeFits};
 ghost use Rattle.relink_out.specs.Made.{bytes_or};
 
-use link_program::LinkError;
-use partial_bytes::{Tree, measure, written};
+use partial_items::{LinkError, Tree, measure, written};
 use std::alloc::Global;
 use std::thread::Threads;
 use wl_base::{Fault, Seq};

@@ -11,13 +11,12 @@ mod manual;
 mod words;
 
 use ahead::Ahead;
-use driver_command::drive;
+use driver_command::{drive, link_command};
 use driver_lines::say_error;
 use driver_shelf::DriverShelf;
 use driver_words::{Answer, translate};
 use host_files::HostFiles;
 use host_outside::{FileShelf, Loaded, OutputSink, WordsFault, read_shorter, words_of};
-use link_command::link_command;
 use manual::answer;
 use std::alloc::Global;
 use std::fs::File;

@@ -8,6 +8,7 @@ WebAssembly module.
 
 Usage:
   wasmld INPUT.. -o OUTPUT [OPTION]..
+  wasmld -r OBJECT.. -o OUTPUT
   wasmld --make-case=N [-o OUTPUT] [OPTION]..
   wasmld --help
   wasmld --version
@@ -48,6 +49,9 @@ Numbers are decimal, or 0x and hexadecimal digits.
   --validate                 check the module by the standard's rules of
                              validation, and refuse it where it breaks one
   --keep-debug               keep the objects' debug sections, joined
+  -r                         write one relocatable object in place of a module;
+                             the inputs are objects, and of the other options
+                             -o and --threads alone have an effect
   -m wasm32, -s, -S, --strip-all, --strip-debug
                              have no effect
 

@@ -1,5 +1,5 @@
 use Rattle.driver_laws.proofs.own_words_have_plans.Goals as goal
-use Rattle.driver_laws.proofs.Plans.{have_plans, name_files, keep_debug}
+use Rattle.driver_laws.proofs.Plans.{have_plans, name_files, keep_debug, are_partial}
 
 pub returns-clause-plans : goal.returns-clause-plans
 returns-clause-plans c = have_plans c.words_are_cut.ensures.plans
@@ -9,3 +9,6 @@ returns-clause-files c = name_files c.words_are_cut.ensures.plans
 
 pub returns-clause-debug : goal.returns-clause-debug
 returns-clause-debug c = keep_debug c.words_are_cut.ensures.plans
+
+pub returns-clause-partial : goal.returns-clause-partial
+returns-clause-partial c = are_partial c.words_are_cut.ensures.plans

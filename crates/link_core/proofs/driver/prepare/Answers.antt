@@ -1,6 +1,7 @@
 use Rattle.std.proofs.Common.{rules, sym, subst, ◌∙◌}
 use Rattle.std.proofs.lemmas.Result.{err_from_is_err_and}
 use Rattle.link_output.specs.link_program.made_symbols.declared.mode.Mode.TheVariants.{Plain}
+use Rattle.link_output.specs.link_program.name_entries.Fits.{Fits}
 use Rattle.link_output.specs.link_program.link_rules.Program.{program_of}
 use Rattle.link_output.specs.link_program.Loaded.{IsLoaded}
 use Rattle.mismatch_rules.specs.Mismatches.{standing}
@@ -13,6 +14,7 @@ use Rattle.link_core.specs.Prepared.{outputs}
 use Rattle.link_core.proofs.Answering.{choose_failed, goes_on_chosen}
 use Rattle.link_core.proofs.Loading.{find_stops, due_is, all_found, found_is_linked, loaded_there}
 use Rattle.link_core.proofs.Listing.{tells_by, tells_all}
+use Rattle.link_core.proofs.Opened.{plain_in, by_plan}
 use Rattle.link_core.proofs.Tails.{prepared_tail}
 use Rattle.link_core.proofs.driver.prepare.Goals as goal
 
@@ -20,8 +22,8 @@ pub find_telling-requires : goal.find_telling-requires
 find_telling-requires g c κs within =
     let loaded =
     subst (λ hs. IsLoaded g.l.origin.files g.l.origin.all c.objects-objects.result.now hs) (sym c.homes-homes.ensures)
-    (subst (λ os. IsLoaded g.l.origin.files g.l.origin.all os c.args.inputs.now.homes) (sym c.objects-objects.ensures) c.requires.1.1.1.1.1.1.1.1) in
-    (search rules, (search rules, (search rules, (search rules, (c.requires.1.1.1.1.0, (c.requires.1.1.1.1.1.0, loaded))))))
+    (subst (λ os. IsLoaded g.l.origin.files g.l.origin.all os c.args.inputs.now.homes) (sym c.objects-objects.ensures) c.requires.1.1.1.1.1.1.1.1.0) in
+    (search rules, (search rules, (search rules, (search rules, (c.requires.1.1.1.1.0, (c.requires.1.1.1.1.1.0, (loaded, c.requires.1.1.1.1.1.1.1.1.1)))))))
 
 pub returns-in_err-found-clause-exact : goal.returns-in_err-found-clause-exact
 returns-in_err-found-clause-exact g c =
@@ -33,13 +35,14 @@ pub choose-requires : goal.choose-requires
 choose-requires g c κs within =
     let is : IsLinking (program_in g.l) c.program-program.result c.view-entries.result c.args.files.now =
     found_is_linked g.l c.args.plan.now c.args.inputs.now.loaded c.objects-objects.result.now c.requires.1.1.1.1.1.0 c.requires.1.1.1.1.1.1.1.0 c.objects-objects.ensures c.args.files.now
-    c.args.inputs.now.homes c.in_ok-found.found c.program-program.result c.view-entries.result c.requires.1.1.1.1.0 c.requires.1.1.1.1.1.1.0 c.requires.1.1.1.1.1.1.1.1 c.parts_stand.ensures c.in_ok-found.ensures.found.1
-    c.program-program.ensures.is c.view-entries.ensures.fits c.view-entries.ensures.objects c.program-program.ensures.objects c.view-entries.ensures.names c.program-program.ensures.names in
-    let program = is.program in
-    let fits = is.fits in
+    c.args.inputs.now.homes c.in_ok-found.found c.program-program.result c.view-entries.result c.requires.1.1.1.1.0 c.requires.1.1.1.1.1.1.0 c.requires.1.1.1.1.1.1.1.1.0 c.parts_stand.ensures c.in_ok-found.ensures.found.1
+    (c.program-program.ensures.is Plain) c.view-entries.ensures.fits c.view-entries.ensures.objects c.program-program.ensures.objects c.view-entries.ensures.names c.program-program.ensures.names in
+    let plain = plain_in g.l c.args.plan.now c.requires.1.1.1.1.1.0 c.requires.1.1.1.1.1.1.1.1.1 in
+    let program = by_plan c.program-program.result (program_in g.l) plain is.program in
+    let fits = subst (λ m. Fits m c.view-entries.result) (sym plain) is.fits in
     let objects = is.objects in
     let stand = is.stand in
-    (search rules, (search rules, (search rules, (search rules, (program, (fits, (objects, stand)))))))
+    (search rules, (search rules, (search rules, (search rules, (program, (fits, (objects, (stand, plain))))))))
 
 pub returns-in_err-chosen-clause-exact : goal.returns-in_err-chosen-clause-exact
 returns-in_err-chosen-clause-exact g c =
@@ -51,13 +54,13 @@ pub lay_out-prepared-requires : goal.lay_out-prepared-requires
 lay_out-prepared-requires g c κs within =
     let is : IsLinking (program_in g.l) c.program-program.result c.view-entries.result c.args.files.now =
     found_is_linked g.l c.args.plan.now c.args.inputs.now.loaded c.objects-objects.result.now c.requires.1.1.1.1.1.0 c.requires.1.1.1.1.1.1.1.0 c.objects-objects.ensures c.args.files.now
-    c.args.inputs.now.homes c.in_ok-found.found c.program-program.result c.view-entries.result c.requires.1.1.1.1.0 c.requires.1.1.1.1.1.1.0 c.requires.1.1.1.1.1.1.1.1 c.parts_stand.ensures c.in_ok-found.ensures.found.1
-    c.program-program.ensures.is c.view-entries.ensures.fits c.view-entries.ensures.objects c.program-program.ensures.objects c.view-entries.ensures.names c.program-program.ensures.names in
+    c.args.inputs.now.homes c.in_ok-found.found c.program-program.result c.view-entries.result c.requires.1.1.1.1.0 c.requires.1.1.1.1.1.1.0 c.requires.1.1.1.1.1.1.1.1.0 c.parts_stand.ensures c.in_ok-found.ensures.found.1
+    (c.program-program.ensures.is Plain) c.view-entries.ensures.fits c.view-entries.ensures.objects c.program-program.ensures.objects c.view-entries.ensures.names c.program-program.ensures.names in
     let chosen : IsChosen (stage_of (program_in g.l)) c.program-program.result c.as_slice-exports.result.now c.as_slice-live.result.now =
     subst (λ es. IsChosen (stage_of (program_in g.l)) c.program-program.result es c.as_slice-live.result.now) (sym c.as_slice-exports.ensures)
     (subst (λ ns. IsChosen (stage_of (program_in g.l)) c.program-program.result c.in_ok-chosen.chosen.exports ns) (sym c.as_slice-live.ensures) c.in_ok-chosen.ensures.1) in
     let loaded = loaded_there g.l c.args.plan.now c.args.inputs.now.loaded c.objects-objects.result.now c.requires.1.1.1.1.1.0 c.requires.1.1.1.1.1.1.1.0 c.objects-objects.ensures
-    c.args.inputs.now.homes c.homes-homes.result.now c.homes-homes.ensures c.requires.1.1.1.1.1.1.1.1 in
+    c.args.inputs.now.homes c.homes-homes.result.now c.homes-homes.ensures c.requires.1.1.1.1.1.1.1.1.0 in
     (search rules, (search rules, (is, (chosen, loaded))))
 
 pub returns-clause-exact : goal.returns-clause-exact

@@ -1,5 +1,5 @@
 use Rattle.std.proofs.Common.{◌≡◌, map, drop}
-use Rattle.link_program.specs.wl_base.Choice.{first_some}
+use Rattle.partial_tree.specs.link_program.wl_base.Choice.{first_some}
 use Rattle.partial_items.specs.Imports.{table_at, first_table}
 use Rattle.partial_items.proofs.imports.first_table.Given as goal
 

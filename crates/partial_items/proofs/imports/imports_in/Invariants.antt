@@ -1,5 +1,5 @@
 use Rattle.std.proofs.Common.{◌≡◌, ◌∷◌, filter_map, take}
-use Rattle.partial_rules.specs.Partial.{memory_import}
+use Rattle.partial_tree.specs.partial_rules.Partial.{memory_import}
 use Rattle.partial_items.specs.Imports.{import_if}
 use Rattle.partial_items.proofs.imports.imports_in.Given as goal
 

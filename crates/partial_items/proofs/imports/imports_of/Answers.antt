@@ -1,5 +1,5 @@
 use Rattle.std.proofs.Common.{sym, ap, ◌∙◌, ◌∷◌, filter_map}
-use Rattle.partial_rules.specs.Partial.{memory_import}
+use Rattle.partial_tree.specs.partial_rules.Partial.{memory_import}
 use Rattle.partial_items.specs.Imports.{first_table, import_if}
 use Rattle.partial_items.proofs.Taken.{imports_are}
 use Rattle.partial_items.proofs.imports.imports_of.Goals as goal

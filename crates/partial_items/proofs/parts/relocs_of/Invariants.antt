@@ -1,5 +1,5 @@
 use Rattle.std.proofs.Common.{◌≡◌, map, take}
-use Rattle.link_program.specs.Look.{row_at}
+use Rattle.partial_tree.specs.link_program.Look.{row_at}
 use Rattle.partial_tree.specs.Relocs.{reloc_told}
 use Rattle.partial_items.proofs.parts.relocs_of.Given as goal
 

@@ -1,7 +1,7 @@
 use Rattle.std.proofs.Common.{[], ◌++◌, ap, ◌∙◌}
 use Rattle.std.specs.Prelude.{Option}
 use Rattle.std.specs.List.{cons_option}
-use Rattle.link_program.specs.linking_section.declared.init.InitFunc.{InitFunc}
+use Rattle.partial_symbols.specs.link_program.linking_section.declared.init.InitFunc.{InitFunc}
 use Rattle.partial_tree.specs.Inits.{init_at}
 use Rattle.partial_tree.proofs.Initial.{found_more}
 use Rattle.partial_tree.proofs.inits.put_all.Goals as goal

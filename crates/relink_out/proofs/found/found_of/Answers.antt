@@ -1,5 +1,5 @@
 use Rattle.std.proofs.Common.{sym, ap, ◌∙◌, map}
-use Rattle.partial_symbols.specs.Known.{symbol_there}
+use Rattle.partial_items.specs.partial_symbols.Known.{symbol_there}
 use Rattle.relink_out.proofs.found.found_of.Goals as goal
 
 pub returns : goal.returns

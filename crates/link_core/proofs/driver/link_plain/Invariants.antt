@@ -1,5 +1,5 @@
 use Rattle.link_output.specs.link_program.Loaded.{the_candidates}
-use Rattle.link_core.proofs.driver.link_files.Given as goal
+use Rattle.link_core.proofs.driver.link_plain.Given as goal
 
 abbrev pub ghost-prepare : goal.ghost-prepare
 ghost-prepare g a = record {

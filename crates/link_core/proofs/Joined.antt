@@ -1,0 +1,84 @@
+-- The steps of a partial link.
+use Rattle.std.proofs.Common.{◌≡◌, ◌∙◌, ℕ, List, [], false, refl, sym, ap, subst, tt, Result, Ok, Err}
+use Rattle.link_output.specs.link_program.wl_base.Choice.{◌>>=◌}
+use Rattle.link_output.specs.link_program.wl_base.declared.fault.Fault.{Fault}
+use Rattle.link_output.specs.link_program.object_file.declared.object.Object.{Object}
+use Rattle.link_output.specs.link_program.made_symbols.declared.mode.Mode.TheVariants.{Plain}
+use Rattle.link_output.specs.link_program.round_rules.Rounds.{Candidate, load}
+use Rattle.link_output.specs.link_program.name_rules.Cases.{clash_by, duplicate}
+use Rattle.link_output.specs.link_program.link_plan.declared.plan.Plan.{Plan}
+use Rattle.link_output.specs.link_program.link_rules.Candidates.{candidates_of}
+use Rattle.link_output.specs.link_program.link_rules.ModeOf.{mode_of, plain_mode}
+use Rattle.link_output.specs.link_program.link_rules.Program.{Program, program_of}
+use Rattle.link_output.specs.link_program.link_rules.LinkOf.{asked_names, the_readers, too_many_names}
+use Rattle.link_output.specs.link_program.declared.error.LinkError.{LinkError}
+use Rattle.link_output.specs.link_program.declared.error.LinkError.TheVariants.{Refused, OutOfMemory}
+use Rattle.link_output.specs.link_program.Answers.{Fails}
+use Rattle.link_output.specs.link_program.Loaded.{the_candidates}
+use Rattle.debug_links.specs.valid_links.link_runs.link_inputs.Inputs.{loaded_of}
+use Rattle.debug_links.specs.valid_links.link_runs.link_inputs.Loaded.{AreInputs}
+use Rattle.debug_links.specs.valid_links.link_runs.link_inputs.declared.inputs.Inputs.{Inputs}
+use Rattle.program_build.specs.Found.{Finds, found_of}
+use Rattle.partial_rules.specs.PartialLink.{partial_program}
+use Rattle.partial_inputs.specs.Refused.{IsBare, joined}
+use Rattle.relink_out.specs.Made.{made_of}
+use Rattle.relink_out.specs.Laws.{PartialIsMade}
+use Rattle.link_core.specs.Answers.{Answers}
+use Rattle.link_core.proofs.Answering.{fails_by}
+use Rattle.link_core.proofs.Opened.{given, not_given}
+use Rattle.link_core.proofs.Steps.{named_by}
+
+-- ---- loading
+
+module _ (plan : Plan) (files : List (List ℕ)) where
+  abbrev next : List Candidate → List Object → Result (List ℕ) Fault
+  next all objects = partial_program (program_of Plain plan files all objects)
+
+  failed : Result (List Object) Fault → Result (List ℕ) Fault
+  failed (Ok objects) = Ok []
+  failed (Err g) = Err g
+
+  stops_by : (f : Fault) (r : Result (List Candidate) Fault) → (r >>= λ all. load Plain [] all) ≡ Err f → (r >>= λ all. load Plain [] all >>= λ objects. next all objects) ≡ Err f
+  stops_by f (Ok all) e = ap (λ (r : Result (List Object) Fault). r >>= λ objects. next all objects) e
+  stops_by f (Err g) e = ap failed e
+
+  module _ (bare : IsBare plan) where
+    mode_is : mode_of plan ≡ Plain
+    mode_is = plain_mode plan bare.plain
+
+    loaded_is : loaded_of Plain plan files ≡ (candidates_of the_readers plan files >>= λ all. load Plain [] all)
+    unfolding loaded_of
+    loaded_is = ap (λ (asked : List (List ℕ)). candidates_of the_readers plan files >>= λ all. load Plain asked all) bare.asked
+
+    by_load : (e : LinkError) → Fails e (loaded_of Plain plan files) → Answers (Err e) (joined plan files)
+    by_load (Refused f) fails = stops_by f (candidates_of the_readers plan files) (sym loaded_is ∙ fails)
+    by_load OutOfMemory fails = tt
+
+    pub load_stops : (e x : LinkError) → x ≡ e → Fails e (loaded_of (mode_of plan) plan files) → Answers (Err x) (joined plan files)
+    load_stops e x is fails = fails_by (joined plan files) e x is (by_load e (not_given plan files e mode_is fails))
+
+    pub goes_on_joined : (i : Inputs) (r : Result (List ℕ) LinkError) → AreInputs (mode_of plan) plan files i
+        → Answers r (partial_program (program_of Plain plan files (the_candidates plan files) i.loaded)) → Answers r (joined plan files)
+    goes_on_joined i r are said =
+        let objects : load Plain [] (the_candidates plan files) ≡ Ok i.loaded
+            = ap (λ (asked : List (List ℕ)). load Plain asked (the_candidates plan files)) (sym bare.asked) ∙ given plan files i mode_is are in
+        let whole : joined plan files ≡ next (the_candidates plan files) i.loaded
+            = ap (λ (r : Result (List Candidate) Fault). r >>= λ all. load Plain [] all >>= λ objects. next all objects) are.candidates
+            ∙ ap (λ (r : Result (List Object) Fault). r >>= λ objects. next (the_candidates plan files) objects) objects in
+        subst (Answers r) (sym whole) said
+
+-- ---- what is made of what is found
+
+module _ (law : PartialIsMade) (p : Program) (strict : p.plan.loose_calls ≡ false) where
+  made_by : (r : Result Program Fault) → found_of p ≡ r → partial_program p ≡ (r >>= made_of)
+  made_by r e = law p strict ∙ named_by p (λ p. clash_by p.plan.loose_calls p.entries) (λ p. duplicate p.entries) made_of r (too_many_names p) e
+
+  by_find : (plan : Plan) (objects : List Object) (e : LinkError) → Finds Plain (Err e) plan objects p → Answers (Err e) (partial_program p)
+  by_find plan objects (Refused f) finds = made_by (Err f) finds
+  by_find plan objects OutOfMemory finds = tt
+
+  pub find_refuses : (plan : Plan) (objects : List Object) (e x : LinkError) → x ≡ e → Finds Plain (Err e) plan objects p → Answers (Err x) (partial_program p)
+  find_refuses plan objects e x is finds = fails_by (partial_program p) e x is (by_find plan objects e finds)
+
+  pub goes_on_made : (r : Result (List ℕ) LinkError) → found_of p ≡ Ok p → Answers r (made_of p) → Answers r (partial_program p)
+  goes_on_made r found said = subst (Answers r) (sym (made_by (Ok p) found)) said
