@@ -26,7 +26,7 @@ fn name_again(alloc: Global, name: &Option<Text>) -> Result<Option<Text>, OutOfM
 }
 
 /// The plan with its options left out.
-#[tactic(auto, using(crate::proofs::Bare::bare_is_plan, crate::proofs::Bare::bare_is_bare))]
+#[tactic(auto, using(crate::proofs::Ranges::bare_is_plan, crate::proofs::Ranges::bare_is_bare))]
 pub fn bare_plan(alloc: Global, plan: &Plan) -> Result<Plan, OutOfMemory>
     requires { IsPlan plan.now }
     ensures is { IfOk result (λ p. p ≡ bare plan.now) }
