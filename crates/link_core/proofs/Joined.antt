@@ -1,5 +1,5 @@
 -- The steps of a partial link.
-use Rattle.std.proofs.Common.{◌≡◌, ◌∙◌, ℕ, List, [], false, refl, sym, ap, subst, tt, Result, Ok, Err}
+use Rattle.std.proofs.Common.{◌≡◌, ◌∙◌, ℕ, List, [], false, refl, sym, ap, subst, Result, Ok, Err}
 use Rattle.link_output.specs.link_program.wl_base.Choice.{◌>>=◌}
 use Rattle.link_output.specs.link_program.wl_base.declared.fault.Fault.{Fault}
 use Rattle.link_output.specs.link_program.object_file.declared.object.Object.{Object}

@@ -1,8 +1,8 @@
 -- The plan of a partial link keeps to the ranges of plans.
-use Rattle.std.proofs.Common.{◌≡◌, ℕ, refl, tt}
+use Rattle.std.proofs.Common.{◌≡◌, ℕ, refl}
 use Rattle.link_plan.specs.declared.plan.Plan.{Plan}
 use Rattle.link_plan.specs.Plan.{IsPlan}
-use Rattle.link_inputs.specs.link_program.link_rules.LinkOf.{asked_names}
+use Rattle.link_program.specs.link_rules.LinkOf.{asked_names}
 use Rattle.partial_rules.specs.PartialLink.{bare}
 use Rattle.partial_inputs.specs.Refused.{IsBare}
 

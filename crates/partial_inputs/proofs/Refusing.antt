@@ -1,10 +1,10 @@
 -- Where the faults of inputs stand in a partial link.
 use Rattle.std.proofs.Common.{◌≡◌, ℕ, List, [], ◌∷◌, refl, Option, Some, None, Result, Err}
 use Rattle.std.specs.Prelude.{option_map}
-use Rattle.link_inputs.specs.link_program.wl_base.Choice.{first_some, unless, ◌>>=◌}
-use Rattle.link_inputs.specs.link_program.wl_base.declared.fault.Fault.{Fault}
-use Rattle.link_inputs.specs.link_program.wl_base.declared.fault.Fault.TheVariants.{NotPartial}
-use Rattle.link_inputs.specs.link_program.link_rules.Candidates.{too_much_input}
+use Rattle.link_program.specs.wl_base.Choice.{first_some, unless, ◌>>=◌}
+use Rattle.link_program.specs.wl_base.declared.fault.Fault.{Fault}
+use Rattle.link_program.specs.wl_base.declared.fault.Fault.TheVariants.{NotPartial}
+use Rattle.link_program.specs.link_rules.Candidates.{too_much_input}
 use Rattle.link_plan.specs.declared.plan.Plan.{Plan}
 use Rattle.partial_rules.specs.PartialLink.{bare, first_not_plain, partial_of, partial_by}
 use Rattle.partial_inputs.specs.Refused.{refused_inputs, joined, RefusedFirst, ThenJoined}

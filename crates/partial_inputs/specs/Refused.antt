@@ -1,14 +1,14 @@
 -- What is refused of the inputs of a partial link before any is read, and what stands behind that.
 use Rattle.std.specs.Prelude.{◌≡◌, ℕ, false, List, [], ◌∷◌, Option, Some, None, option_map, Result, Err}
-use Rattle.link_inputs.specs.link_program.wl_base.Choice.{first_some, ◌>>=◌}
-use Rattle.link_inputs.specs.link_program.wl_base.declared.fault.Fault.{Fault}
-use Rattle.link_inputs.specs.link_program.wl_base.declared.fault.Fault.TheVariants.{NotPartial}
-use Rattle.link_inputs.specs.link_program.made_symbols.declared.mode.Mode.TheVariants.{Plain}
-use Rattle.link_inputs.specs.link_program.round_rules.Rounds.{load}
-use Rattle.link_inputs.specs.link_program.link_rules.Candidates.{too_much_input, candidates_of}
-use Rattle.link_inputs.specs.link_program.link_rules.ModeOf.{IsPlain}
-use Rattle.link_inputs.specs.link_program.link_rules.Program.{program_of}
-use Rattle.link_inputs.specs.link_program.link_rules.LinkOf.{asked_names, the_readers}
+use Rattle.link_program.specs.wl_base.Choice.{first_some, ◌>>=◌}
+use Rattle.link_program.specs.wl_base.declared.fault.Fault.{Fault}
+use Rattle.link_program.specs.wl_base.declared.fault.Fault.TheVariants.{NotPartial}
+use Rattle.link_program.specs.made_symbols.declared.mode.Mode.TheVariants.{Plain}
+use Rattle.link_program.specs.round_rules.Rounds.{load}
+use Rattle.link_program.specs.link_rules.Candidates.{too_much_input, candidates_of}
+use Rattle.link_program.specs.link_rules.ModeOf.{IsPlain}
+use Rattle.link_program.specs.link_rules.Program.{program_of}
+use Rattle.link_program.specs.link_rules.LinkOf.{asked_names, the_readers}
 use Rattle.link_plan.specs.declared.plan.Plan.{Plan}
 use Rattle.link_plan.specs.declared.plan.InputWord.{InputWord}
 use Rattle.partial_rules.specs.PartialLink.{bare, first_not_plain, partial_program, partial_of}

@@ -1,6 +1,6 @@
 //! What a partial link joins are plain objects: a library, and an object that would be loaded by need, are refused.
 ghost use Rattle.std.specs.Prelude.{◌≡◌, ◌<◌, ◌^◌, [], ◌∷◌, length};
-ghost use Rattle.link_inputs.specs.link_program.link_rules.Candidates.{is_library, too_much_input};
+ghost use Rattle.link_program.specs.link_rules.Candidates.{is_library, too_much_input};
 ghost use Rattle.partial_rules.specs.PartialLink.{first_not_plain};
 ghost use Rattle.partial_inputs.specs.Refused.{refused_inputs};
 
