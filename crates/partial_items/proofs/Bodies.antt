@@ -22,8 +22,7 @@ use Rattle.partial_tree.specs.partial_rules.Relocatable.{Windowed}
 use Rattle.partial_tree.specs.partial_rules.Partial as partial
 use Rattle.partial_tree.specs.partial_symbols.Standing.{Stood}
 use Rattle.partial_tree.specs.partial_symbols.Known.{AreStanding}
-use Rattle.partial_tree.specs.Relocs.{reloc_told}
-use Rattle.partial_tree.proofs.Relocated.{part_relocs}
+use Rattle.partial_tree.specs.Relocs.{reloc_told, RelocsAre}
 use Rattle.partial_bytes.specs.declared.tree.Part.{Part as Lent}
 use Rattle.partial_bytes.specs.Told.{empty_of, part_with, part_told, PartFits}
 use Rattle.partial_bytes.proofs.Windowed.{parts_windowed}
@@ -112,7 +111,7 @@ module _ (p : Program) where
 
 -- ---- all parts
 
-module _ (d : Data) (p : Program) (is : IsProgramOf Plain d p) (stand : PartsStand p) (strict : p.plan.loose_calls ≡ false) (s : Stood) (are : AreStanding p d.names.now.names s)
+module _ (law : RelocsAre) (d : Data) (p : Program) (is : IsProgramOf Plain d p) (stand : PartsStand p) (strict : p.plan.loose_calls ≡ false) (s : Stood) (are : AreStanding p d.names.now.names s)
     (numbers : List ℕ) (numbered : numbers ≡ map (partial.type_number p) d.tables.now.types) where
   abbrev t : Tables
   t = d.tables.now
@@ -126,13 +125,13 @@ module _ (d : Data) (p : Program) (is : IsProgramOf Plain d p) (stand : PartsSta
   one_told : (kind n : ℕ) (part : Part) → slice_get p.parts n ≡ Some part → IsKept kind part → told_given (part_given p.files t n (relocs n)) ≡ partial.windowed p part
   unfolding told_given
   one_told kind n part at kept =
-      let rs = part_relocs d p is stand strict s are numbers numbered n part at in
+      let rs = law d p is stand strict s are numbers numbered n part at in
       let source = source_is n part at in
       (λ i. part_with (rs i) (file_part p.files (source i))) ∙ parts_windowed p part
 
   one_fits : (kind n : ℕ) (part : Part) → slice_get p.parts n ≡ Some part → IsKept kind part → FitsGiven (part_given p.files t n (relocs n))
   one_fits kind n part at kept =
-      let rs = part_relocs d p is stand strict s are numbers numbered n part at in
+      let rs = law d p is stand strict s are numbers numbered n part at in
       let source = source_is n part at in
       subst (λ (x : List Reloc). All (LiesIn (length (file_part p.files (part_at t n).source))) (map empty_of x)) (sym rs)
       (subst (λ x. All (LiesIn (length (file_part p.files x))) (map empty_of (map (partial.named_reloc p) part.named))) (sym source)

@@ -1,5 +1,5 @@
 -- What is made of kept parts by their numbers is what is made of the parts.
-use Rattle.std.proofs.Common.{◌≡◌, ℕ, zero, suc, ◌+◌, ◌<◌, ◌==◌, Bool, true, false, not, ◌&&◌, cond, List, [], ◌∷◌, ◌++◌, map, filter, filter_map, take, length, get_or, slice_get, Option, Some, None, option_map, refl, sym, ap, subst, ◌∙◌, arith, All}
+use Rattle.std.proofs.Common.{◌≡◌, ℕ, zero, suc, ◌+◌, ◌<◌, ◌==◌, Bool, true, false, not, ◌&&◌, cond, List, [], ◌∷◌, ◌++◌, map, filter, filter_map, take, length, get_or, slice_get, Option, Some, None, option_map, refl, sym, ap, subst, ◌∙◌, arith, append_assoc, All}
 use Rattle.std.specs.List.{AllByRecursion, cons_option}
 use Rattle.std.proofs.lemmas.Bool.{and_parts}
 use Rattle.std.proofs.lemmas.List.{take_more, map-append}
@@ -17,19 +17,21 @@ use Rattle.partial_tree.specs.partial_rules.Partial as partial
 
 -- ---- loops
 
--- one item more that may be found
-pub found_more : {A B : Type 0} (f : A → Option B) (xs : List A) (i : ℕ) (d : A) → i < length xs → (old new : List B) → new ≡ old ++ cons_option (f (get_or xs i d)) [] → old ≡ filter_map f (take i xs)
-    → new ≡ filter_map f (take (i + 1) xs)
-found_more f xs i d lt old new put so_far =
-    put ∙ (ap (λ os. os ++ cons_option (f (get_or xs i d)) []) so_far
-    ∙ sym (ap (filter_map f) (take_more xs i d lt) ∙ filter_map-append f (take i xs) (get_or xs i d ∷ [])))
+-- one item more that may be found, behind what stood there first
+pub found_more : {A B : Type 0} (f : A → Option B) (xs : List A) (i : ℕ) (d : A) → i < length xs → (first old new : List B) (found : Option B) → new ≡ old ++ cons_option found [] → found ≡ f (get_or xs i d)
+    → old ≡ first ++ filter_map f (take i xs) → new ≡ first ++ filter_map f (take (i + 1) xs)
+found_more f xs i d lt first old new found put is so_far =
+    put
+    ∙ ((λ j. so_far j ++ cons_option (is j) [])
+    ∙ (append_assoc first (filter_map f (take i xs)) (cons_option (f (get_or xs i d)) [])
+    ∙ ap (λ os. first ++ os) (sym (ap (filter_map f) (take_more xs i d lt) ∙ filter_map-append f (take i xs) (get_or xs i d ∷ [])))))
 
 -- the same, of what is seen in it
 pub seen_more : {A B C : Type 0} (view : C → B) (f : A → Option B) (xs : List A) (i : ℕ) (d : A) → i < length xs → (old new : List C) (found : Option C) → new ≡ old ++ cons_option found [] → option_map view found ≡ f (get_or xs i d)
     → map view old ≡ filter_map f (take i xs) → map view new ≡ filter_map f (take (i + 1) xs)
 seen_more {C = C} view f xs i d lt old new found put is so_far =
-    found_more f xs i d lt (map view old) (map view new)
-    (ap (map view) put ∙ (map-append view old (cons_option found []) ∙ ap (λ os. map view old ++ os) (one found ∙ ap (λ o. cons_option o []) is))) so_far
+    found_more f xs i d lt [] (map view old) (map view new) (option_map view found)
+    (ap (map view) put ∙ (map-append view old (cons_option found []) ∙ ap (λ os. map view old ++ os) (one found))) is so_far
   where
     one : (o : Option C) → map view (cons_option o []) ≡ cons_option (option_map view o) []
     one None = refl

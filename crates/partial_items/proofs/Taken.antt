@@ -1,18 +1,20 @@
 -- The imports that are made of open names are those of the definition.
-use Rattle.std.proofs.Common.{◌≡◌, ℕ, zero, suc, ◌+◌, ◌<◌, ◌≤◌, ◌==◌, Bool, true, false, ◌&&◌, cond, List, [], ◌∷◌, map, filter, filter_map, find, drop, length, get_or, Option, Some, None, option_map, option_and_then, unwrap_or, refl, sym, ap, ◌∙◌, arith}
+use Rattle.std.proofs.Common.{◌≡◌, ℕ, zero, suc, ◌+◌, ◌<◌, ◌≤◌, ◌==◌, Bool, true, false, ◌&&◌, cond, List, [], ◌∷◌, map, filter, filter_map, find, drop, length, get_or, slice_get, Option, Some, None, option_map, option_and_then, unwrap_or, refl, sym, ap, ◌∙◌, arith}
 use Rattle.std.specs.Prelude.{if◌then◌else◌, codes}
 use Rattle.std.specs.List.{cons_option}
-use Rattle.std.proofs.lemmas.Option.{same_Some, none-some}
+use Rattle.std.proofs.lemmas.Option.{slice_get-map, same_Some, none-some, get_or_from_slice_get}
 use Rattle.std.proofs.Math.ListN.{drop_of_length-le}
 use Rattle.partial_tree.specs.link_program.wl_base.Choice.{first_some}
 use Rattle.partial_tree.specs.link_program.wasm_types.declared.function.FuncType.{FuncType}
 use Rattle.partial_tree.specs.link_program.wasm_types.declared.import.Import.{Import}
 use Rattle.partial_tree.specs.link_program.linking_section.Flags.{is_explicit}
+use Rattle.partial_tree.specs.link_program.linking_section.declared.symbol.Symbol.{Symbol}
 use Rattle.partial_tree.specs.link_program.linking_section.declared.symbol.SymbolKind.{SymbolKind}
 use Rattle.partial_tree.specs.link_program.linking_section.declared.symbol.SymbolKind.TheVariants.{Function, Datum, GlobalVar, Section, Table}
 use Rattle.partial_tree.specs.link_program.object_file.declared.object.Object.{Object}
-use Rattle.partial_tree.specs.link_program.name_rules.Entries.{InputSymbol, ImportKey, SymbolType, of_function, of_global, untyped, is_kind, name_of}
+use Rattle.partial_tree.specs.link_program.name_rules.Entries.{InputSymbol, ImportKey, SymbolType, of_function, of_global, untyped, is_kind, name_of, symbols_of, entries_from, entry_in, import_in, type_in, key_of}
 use Rattle.partial_tree.specs.link_program.name_rules.Meanings.{least_import}
+use Rattle.partial_tree.specs.link_program.name_entries.View.{rows_of}
 use Rattle.partial_tree.specs.link_program.link_rules.Program.{Program, is_that}
 use Rattle.partial_tree.specs.partial_rules.Partial as partial
 use Rattle.partial_tree.specs.partial_rules.Partial.{relocatable, memory_import}
@@ -22,7 +24,6 @@ use Rattle.partial_tree.specs.partial_symbols.Known.{entry_spot, symbol_there, i
 use Rattle.partial_types.specs.partial_imports.declared.opens.Open.{Open}
 use Rattle.partial_types.specs.partial_imports.Opens.{SeenOpen, open_seen, told_open}
 use Rattle.partial_types.specs.Added.{symbol_type}
-use Rattle.partial_types.proofs.Merged.{typed_key}
 use Rattle.partial_items.specs.Imports.{kind_with, kind_there, import_with, own_import, import_by, import_told, spot_at, table_spot, table_at, first_table, same_spot, takes_import, import_if}
 
 -- ---- the first that is there, looked for from place to place
@@ -45,6 +46,38 @@ module _ {A B : Type 0} (f : A → Option B) where
 
   pub first_none : (xs : List A) (i : ℕ) (whole : Option B) → length xs ≤ i → first_some (map f (drop i xs)) ≡ whole → None ≡ whole
   first_none xs i whole past so_far = sym (ap (λ ys. first_some (map f ys)) (drop_of_length-le xs past)) ∙ so_far
+
+-- ---- the type of an import is that of the symbol that stands on it
+
+key_type : (objects : List Object) (o : Object) (p : ℕ) (ss : List Symbol) (i : ℕ) (x : InputSymbol) (k : ImportKey) → slice_get (entries_from objects o p ss) i ≡ Some x → x.import ≡ Some k → k.type ≡ x.type
+key_type objects o p [] i x k at is = absurd (none-some x at)
+key_type objects o p (s ∷ ss) zero x k at is =
+    by (import_in o s s.kind) (ap (λ (y : InputSymbol). y.import) (same_Some (entry_in objects o p s) x at) ∙ is) ∙ ap (λ (y : InputSymbol). y.type) (same_Some (entry_in objects o p s) x at)
+  where
+    by : (i : Option Import) → option_map (key_of (type_in o s s.kind)) i ≡ Some k → k.type ≡ type_in o s s.kind
+    by None e = absurd (none-some k e)
+    by (Some i) e = sym (ap (λ (y : ImportKey). y.type) (same_Some (key_of (type_in o s s.kind) i) k e))
+key_type objects o p (s ∷ ss) (suc i) x k at is = key_type objects o (p + 1) ss i x k at is
+
+typed_key : (objects : List Object) (at : At) (k : ImportKey) → import_there objects at ≡ Some k → k.type ≡ symbol_type (symbol_there objects at)
+typed_key objects at k is = by_symbol (symbol_there objects at) refl is
+  where
+    by_object : (o : Option Object) → slice_get objects at.object ≡ o → (x : InputSymbol) → slice_get (get_or (rows_of objects) at.object []) at.place ≡ Some x → x.import ≡ Some k → k.type ≡ x.type
+    by_object None none x there e = absurd (none-some x (sym (ap (λ row. slice_get row at.place) (no_row (rows_of objects) at.object (slice_get-map (symbols_of objects) objects at.object ∙ ap (option_map (symbols_of objects)) none))) ∙ there))
+      where
+        no_row : (rows : List (List InputSymbol)) (i : ℕ) → slice_get rows i ≡ None → get_or rows i [] ≡ []
+        no_row [] i none = refl
+        no_row (r ∷ rows) zero none = absurd (none-some r (sym none))
+        no_row (r ∷ rows) (suc i) none = no_row rows i none
+    by_object (Some o) found x there e =
+        let row : get_or (rows_of objects) at.object [] ≡ symbols_of objects o = get_or_from_slice_get (rows_of objects) at.object (symbols_of objects o) [] (slice_get-map (symbols_of objects) objects at.object ∙ ap (option_map (symbols_of objects)) found) in
+        key_type objects o 0 o.symbols at.place x k (ap (λ r. slice_get r at.place) (sym row) ∙ there) e
+
+    by_symbol : (x : Option InputSymbol) → symbol_there objects at ≡ x → option_and_then (λ (e : InputSymbol). e.import) (symbol_there objects at) ≡ Some k → k.type ≡ symbol_type (symbol_there objects at)
+    by_symbol None none e = absurd (none-some k (sym (ap (option_and_then (λ (e : InputSymbol). e.import)) none) ∙ e))
+    by_symbol (Some x) there e =
+        by_object (slice_get objects at.object) refl x there (sym (ap (option_and_then (λ (e : InputSymbol). e.import)) there) ∙ e)
+        ∙ sym (ap symbol_type there)
 
 -- ---- one import
 

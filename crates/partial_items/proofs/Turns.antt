@@ -2,13 +2,18 @@
 use Rattle.std.proofs.Common.{◌≡◌, ℕ, zero, suc, ◌+◌, ◌<◌, ◌≤◌, true, false, List, [], ◌∷◌, ◌++◌, map, fold, take, drop, length, get_or, slice_get, Option, Some, None, option_map, refl, sym, ap, ◌∙◌, arith, append_assoc, append-nil}
 use Rattle.std.specs.Prelude.{if◌then◌else◌}
 use Rattle.std.specs.List.{cons_option}
-use Rattle.std.proofs.lemmas.List.{take_all, take_more, map-append}
+use Rattle.std.proofs.lemmas.List.{take_all, take_more, map-append, length-map}
 use Rattle.std.proofs.lemmas.Option.{none-some, slice_get_within, get_or_from_slice_get}
 use Rattle.std.proofs.Math.ListN.{drop_of_length-le}
 use Rattle.partial_tree.specs.link_program.linking_section.declared.group.Member.{Member}
 use Rattle.partial_tree.specs.link_program.linking_section.declared.group.Group.{Group}
 use Rattle.partial_tree.specs.link_program.reloc_section.declared.entry.Reloc.{Reloc}
+use Rattle.partial_tree.specs.link_program.wasm_types.declared.import.Import.{Import}
+use Rattle.partial_tree.specs.link_program.linking_section.declared.symbol.SymbolKind.TheVariants.{Function}
 use Rattle.partial_tree.specs.link_program.object_file.declared.object.Object.{Object}
+use Rattle.partial_tree.specs.link_program.object_file.Spaces.{function_imports}
+use Rattle.partial_tree.specs.link_program.name_entries.declared.parts.ObjectParts.{ObjectParts}
+use Rattle.partial_tree.specs.link_program.name_entries.Parts.{AreParts}
 use Rattle.partial_tree.specs.link_program.name_rules.Entries.{is_input}
 use Rattle.partial_tree.specs.link_program.declared.program.Tables.{Tables}
 use Rattle.partial_bytes.specs.declared.tree.Part.{Part}
@@ -65,6 +70,13 @@ pub none_offers : (rows : List (List ℕ)) (objects : List Object) (i : ℕ) (ol
 none_offers rows objects i old whole none so_far = sym (ap (offered_from rows i old) (dropped_none objects i none)) ∙ so_far
 
 -- ---- the groups of an object
+
+-- how many functions an object imports
+pub imports_counted : (objects : List Object) (parts : List ObjectParts) (i : ℕ) (o : Object) (own : ObjectParts) → AreParts objects parts → slice_get objects i ≡ Some o → slice_get parts i ≡ Some own
+    → length own.imports.functions ≡ length (function_imports o)
+imports_counted objects parts i o own are at there =
+    let same = (are.each i o own at there).imports Function in
+    sym (length-map own.imports.functions (slice_get o.imports)) ∙ (ap length same ∙ length-map (function_imports o) (λ (x : Import). Some x))
 
 module _ (l : Places) (winners : List (Option ℕ)) (o : Owner) (gs : List Group) (ns : List ℕ) where
   one_group : (w whole : Won) (i : ℕ) (g : Group) (n : ℕ) → slice_get gs i ≡ Some g → slice_get ns i ≡ Some n → with_groups l winners o w i (drop i gs) (drop i ns) ≡ whole

@@ -1,10 +1,10 @@
 -- The groups that objects win, with their members, are those of the definition.
-use Rattle.std.proofs.Common.{◌≡◌, ℕ, zero, suc, ◌+◌, ◌-◌, ◌<◌, ◌≤◌, ◌==◌, Bool, true, false, ◌&&◌, ◌||◌, cond, List, [], ◌∷◌, ◌++◌, map, filter, filter_map, flat_map, find, fold, length, replicate, get_or, slice_get, Option, Some, None, option_map, option_and_then, refl, sym, ap, subst, ◌∙◌, arith, append_assoc, append-nil}
+use Rattle.std.proofs.Common.{◌≡◌, ℕ, zero, suc, ◌+◌, ◌-◌, ◌<◌, ◌≤◌, ◌==◌, Bool, true, false, ◌&&◌, ◌||◌, cond, List, [], ◌∷◌, ◌++◌, map, filter, filter_map, flat_map, find, fold, length, replicate, get_or, slice_get, Option, Some, None, option_map, option_and_then, refl, sym, ap, subst, ◌∙◌, arith, append_assoc, append-nil, set, length-set, get_or-set_same, get_or-set_other}
 use Rattle.std.specs.Prelude.{if◌then◌else◌, bytes_eq}
 use Rattle.std.specs.Option.{option_or}
 use Rattle.std.specs.List.{list_any, cons_option, IsDistinct}
-use Rattle.std.proofs.lemmas.Bool.{eqb-true}
-use Rattle.std.proofs.lemmas.List.{length-append, map-append}
+use Rattle.std.proofs.lemmas.Bool.Decides.{nat_tests}
+use Rattle.std.proofs.lemmas.List.{length-append, map-append, length-replicate, get_or-replicate}
 use Rattle.std.proofs.lemmas.List.Folds.{find-append}
 use Rattle.std.proofs.lemmas.Option.{slice_get-map, slice_get_within, same_Some, none-some, get_or_from_slice_get}
 use Rattle.partial_tree.specs.link_program.wl_base.Choice.{given}
@@ -24,7 +24,6 @@ use Rattle.partial_tree.specs.link_program.Program.{IsProgramOf}
 use Rattle.partial_tree.proofs.link_program_lemmas.name_entries_lemmas.Numbers.{number_is, name_at}
 use Rattle.partial_tree.specs.partial_rules.Partial as partial
 use Rattle.partial_tree.specs.partial_rules.Partial.{relocatable}
-use Rattle.partial_tree.proofs.partial_symbols_lemmas.Cells.{firsts_of, noted}
 use Rattle.partial_tree.specs.partial_parts.Kept.{place_in, AreKept}
 use Rattle.partial_tree.proofs.partial_parts_lemmas.Parts.{place_is_told}
 use Rattle.partial_items.specs.declared.groups.GroupAt.{GroupAt}
@@ -44,13 +43,51 @@ offer_of input n = record { input = input; number = n }
 abbrev number : Offer → Option ℕ
 number f = Some f.number
 
-abbrev step : Offer → Option ℕ → Option ℕ
-step f c = option_or c (Some f.input)
-
 abbrev passes : ℕ → Offer → Bool
 passes i f = is_number i (number f) && true
 
-row_folds : (input : ℕ) (column : List (Option ℕ)) (ns : List ℕ) → fold (offered input) column ns ≡ fold (noted None number step) column (map (offer_of input) ns)
+abbrev noted : List (Option ℕ) → Offer → List (Option ℕ)
+noted column f = offered f.input column f.number
+
+-- what stands at a number, where an offer more is noted
+one_noted : (column : List (Option ℕ)) (f : Offer) (i : ℕ) → i < length column → get_or (noted column f) i None ≡ (if f.number == i then option_or (get_or column i None) (Some f.input) else get_or column i None)
+one_noted column f i lt = by (f.number == i) refl
+  where
+    by : (b : Bool) → (f.number == i) ≡ b → get_or (set column f.number (option_or (get_or column f.number None) (Some f.input))) i None ≡ (if b then option_or (get_or column i None) (Some f.input) else get_or column i None)
+    by true is =
+        let same : f.number ≡ i = grind (arith, nat_tests) in
+        ap (λ k. get_or (set column k (option_or (get_or column k None) (Some f.input))) i None) same ∙ get_or-set_same column i (option_or (get_or column i None) (Some f.input)) None lt
+    by false is =
+        let apart : i ≡ f.number → ⊥ = λ e. let back : f.number ≡ i = sym e in grind (arith, nat_tests) in
+        get_or-set_other column f.number i (option_or (get_or column f.number None) (Some f.input)) None apart
+
+or_none : (o : Option ℕ) → o ≡ option_or o None
+or_none None = refl
+or_none (Some a) = refl
+
+one_first : (c : Option ℕ) (f : Offer) (b : Bool) (r : Option Offer) → option_or (if b then option_or c (Some f.input) else c) (option_map (λ (x : Offer). x.input) r)
+    ≡ option_or c (option_map (λ (x : Offer). x.input) (cond (b && true) (Some f) r))
+one_first (Some x) f true r = refl
+one_first (Some x) f false r = refl
+one_first None f true r = refl
+one_first None f false r = refl
+
+firsts : (column : List (Option ℕ)) (fs : List Offer) (i : ℕ) → i < length column
+    → get_or (fold noted column fs) i None ≡ option_or (get_or column i None) (option_map (λ (x : Offer). x.input) (find (passes i) fs))
+firsts column [] i lt = or_none (get_or column i None)
+firsts column (f ∷ fs) i lt =
+    let within : i < length (noted column f) = subst (λ n. i < n) (sym (length-set column f.number (option_or (get_or column f.number None) (Some f.input)))) lt in
+    firsts (noted column f) fs i within
+    ∙ (ap (λ o. option_or o (option_map (λ (x : Offer). x.input) (find (passes i) fs))) (one_noted column f i lt)
+    ∙ one_first (get_or column i None) f (f.number == i) (find (passes i) fs))
+
+firsts_of : (n : ℕ) (fs : List Offer) (i : ℕ) → i < n → get_or (fold noted (replicate n None) fs) i None ≡ option_map (λ (x : Offer). x.input) (find (passes i) fs)
+firsts_of n fs i lt =
+    let within : i < length (replicate {A = Option ℕ} n None) = subst (λ m. i < m) (sym (length-replicate {A = Option ℕ} n None)) lt in
+    firsts (replicate n None) fs i within
+    ∙ ap (λ o. option_or o (option_map (λ (x : Offer). x.input) (find (passes i) fs))) (get_or-replicate n i None None lt)
+
+row_folds : (input : ℕ) (column : List (Option ℕ)) (ns : List ℕ) → fold (offered input) column ns ≡ fold noted column (map (offer_of input) ns)
 row_folds input column [] = refl
 row_folds input column (n ∷ ns) = row_folds input (offered input column n) ns
 
@@ -63,12 +100,12 @@ module _ (rows : List (List ℕ)) where
   offers k [] = []
   offers k (o ∷ os) = map (offer_of o.input) (get_or rows k []) ++ offers (k + 1) os
 
-  all_fold : (k : ℕ) (column : List (Option ℕ)) (os : List Object) → offered_from rows k column os ≡ fold (noted None number step) column (offers k os)
+  all_fold : (k : ℕ) (column : List (Option ℕ)) (os : List Object) → offered_from rows k column os ≡ fold noted column (offers k os)
   all_fold k column [] = refl
   all_fold k column (o ∷ os) =
       all_fold (k + 1) (fold (offered o.input) column (get_or rows k [])) os
-      ∙ (ap (λ c. fold (noted None number step) c (offers (k + 1) os)) (row_folds o.input column (get_or rows k []))
-      ∙ sym (fold_append (noted None number step) column (map (offer_of o.input) (get_or rows k [])) (offers (k + 1) os)))
+      ∙ (ap (λ c. fold noted c (offers (k + 1) os)) (row_folds o.input column (get_or rows k []))
+      ∙ sym (fold_append noted column (map (offer_of o.input) (get_or rows k [])) (offers (k + 1) os)))
 
 -- the first of an object's, or else of those behind it
 first_of_row : (input i : ℕ) (ns : List ℕ) (rest : List Offer) → option_map (λ (f : Offer). f.input) (find (passes i) (map (offer_of input) ns ++ rest))
@@ -119,7 +156,7 @@ module _ (names : List (List ℕ)) (differ : IsDistinct bytes_eq names) (i : ℕ
   pub winners_are : (rows : List (List ℕ)) (objects : List Object) → Numbered rows 0 objects → get_or (first_inputs (length names) rows objects) i None ≡ group_winner objects name
   winners_are rows objects each =
       ap (λ column. get_or column i None) (all_fold rows 0 (replicate (length names) None) objects)
-      ∙ (firsts_of None number step (λ (c : Option ℕ). c) (λ (f : Offer). true) (λ (f : Offer). f.input) (λ f c. refl) (length names) (offers rows 0 objects) i refl (slice_get_within names i name at)
+      ∙ (firsts_of (length names) (offers rows 0 objects) i (slice_get_within names i name at)
       ∙ winner_is rows 0 objects each)
 
 -- ---- one group more

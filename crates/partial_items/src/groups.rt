@@ -71,6 +71,7 @@ fn offer(column: &mut [Option<InputId>], input: InputId, number: u32)
 }
 
 /// Notes the groups of an object.
+#[tactic(auto, using(crate::proofs::Turns::offer_more, crate::proofs::Turns::offers_end))]
 fn offer_all(column: &mut [Option<InputId>], names: &Names, object: u32, input: InputId)
     ensures { column.new ≡ fold (told.offered input) column.old (slice_index_or names.now.groups object []) }
 {
@@ -82,6 +83,7 @@ fn offer_all(column: &mut [Option<InputId>], names: &Names, object: u32, input: 
 }
 
 /// By the number of a name, the first input that has a group of the name.
+#[tactic(auto, using(crate::proofs::Turns::objects_offer, crate::proofs::Turns::objects_offered, crate::proofs::Turns::none_offers))]
 fn first_inputs(alloc: Global, entries: Entries<'_>) -> Result<Vec<Option<InputId>>, OutOfMemory>
     requires { FitsObjects entries }
     ensures { IfOk result (λ column. column.items ≡ told.first_inputs (length entries.entry.names.now.names) entries.entry.names.now.groups entries.entry.objects.now) }
@@ -89,9 +91,10 @@ fn first_inputs(alloc: Global, entries: Entries<'_>) -> Result<Vec<Option<InputI
     let names = entries.names;
     let mut column = vec![in alloc; None; names.count() as usize]?;
     for object in 0..entries.count() {
-        if let Some(from) = entries.objects.get(object as usize) {
-            offer_all(column.as_mut_slice(), names, object, from.input);
-        }
+        let Some(from) = entries.objects.get(object as usize) else {
+            return Ok(column);
+        };
+        offer_all(column.as_mut_slice(), names, object, from.input);
     }
     Ok(column)
 }
@@ -117,6 +120,7 @@ struct Owner {
 }
 
 /// The object at a place.
+#[tactic(auto, using(crate::proofs::Turns::imports_counted))]
 fn owner_of(entries: Entries<'_>, object: u32, from: &Object) -> Result<Owner, OutOfMemory>
     requires fits { FitsObjects entries }
     requires there { slice_get entries.objects.now object ≡ Some from.now }
@@ -173,6 +177,7 @@ impl Won {
     }
 
     /// The groups of an object more, those that it wins.
+    #[tactic(auto, using(crate::proofs::Turns::group_won, crate::proofs::Turns::group_lost, crate::proofs::Turns::no_group, crate::proofs::Turns::no_number, crate::proofs::Turns::groups_end))]
     fn add(
         &mut self,
         list: &mut Vec<Member>,
@@ -200,6 +205,7 @@ impl Won {
 }
 
 /// The groups of all objects.
+#[tactic(auto, using(crate::proofs::Turns::object_won, crate::proofs::Turns::objects_won, crate::proofs::Turns::none_wins))]
 fn won_in(
     alloc: Global,
     places: Places<'_>,
@@ -269,6 +275,7 @@ fn put<'a>(rows: &mut Seq<GroupRow<'a>>, found: Option<GroupRow<'a>>) -> Result<
     Ok(())
 }
 
+#[tactic(auto, using(crate::proofs::Turns::row_more, crate::proofs::Turns::rows_end))]
 fn rows_in<'a>(
     alloc: Global,
     objects: &'a [Object],

@@ -13,7 +13,7 @@ ghost use Rattle.partial_bytes.specs.Told.{PartFits, part_told};
 ghost use Rattle.partial_items.specs.Items.{given, part_given, parts_given};
 
 use partial_bytes::{Part, bytes_in};
-use partial_tree::{Named, Program, Tables, Targets, part_at, reloc_of, row_at};
+use partial_tree::{Named, Program, Tables, Targets, part_at, reloc_of, relocs_are, row_at};
 use reloc_section::Reloc;
 use std::alloc::Global;
 use wl_base::{OutOfMemory, Seq};
@@ -63,6 +63,7 @@ fn part_with<'a>(
     }
 }
 
+#[tactic(auto, using(crate::proofs::Turns::part_more, crate::proofs::Turns::parts_end))]
 fn parts_in<'a>(
     alloc: Global,
     files: &'a [Seq<u8>],
@@ -94,6 +95,7 @@ pub fn parts_of<'a>(
         → relocs.now ≡ map (λ n. map (reloc_told s program.entry.tables.now.symbols numbers) (row_told program.entry.tables.now n)) parts.now
         → (map part_told ps ≡ map (partial.windowed p) (partial.kept p kind)) × All PartFits ps) }
 {
+    relocs_are();
     let rows = parts_in(alloc, files, program.tables, relocs, parts)?;
     Ok(rows)
 }
