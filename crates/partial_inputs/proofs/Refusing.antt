@@ -1,5 +1,5 @@
 -- Where the faults of inputs stand in a partial link.
-use Rattle.std.proofs.Common.{◌≡◌, ℕ, List, [], ◌∷◌, refl, Option, Some, None, Result, Err}
+use Rattle.std.proofs.Common.{◌≡◌, ℕ, List, [], ◌∷◌, refl, ap, Option, Some, None, Result, Ok, Err}
 use Rattle.std.specs.Prelude.{option_map}
 use Rattle.link_program.specs.wl_base.Choice.{first_some, unless, ◌>>=◌}
 use Rattle.link_program.specs.wl_base.declared.fault.Fault.{Fault}
@@ -16,12 +16,16 @@ module _ (plan : Plan) (files : List (List ℕ)) where
   abbrev both : Option Fault → Result (List ℕ) Fault
   both a = unless a files >>= λ files. unless (option_map NotPartial (first_not_plain 0 plan.inputs files)) files >>= λ files. joined (bare plan) files
 
+  abbrev told : Option Fault → Result (List ℕ) Fault
+  told (Some g) = Err g
+  told None = Ok []
+
   last_stops : (f : Fault) (b : Option Fault) → first_some (b ∷ []) ≡ Some f → last b ≡ Err f
-  last_stops f (Some g) refl = refl
+  last_stops f (Some g) e = ap told e
   last_stops f None e = absurd cc
 
   both_stop : (f : Fault) (a : Option Fault) → first_some (a ∷ option_map NotPartial (first_not_plain 0 plan.inputs files) ∷ []) ≡ Some f → both a ≡ Err f
-  both_stop f (Some g) refl = refl
+  both_stop f (Some g) e = ap told e
   both_stop f None e = last_stops f (option_map NotPartial (first_not_plain 0 plan.inputs files)) e
 
   last_goes : (b : Option Fault) → first_some (b ∷ []) ≡ None → last b ≡ joined (bare plan) files

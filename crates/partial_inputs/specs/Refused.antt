@@ -37,3 +37,6 @@ RefusedFirst = (plan : Plan) (files : List (List ℕ)) (f : Fault) → refused_i
 
 abbrev pub ThenJoined : Type 0
 ThenJoined = (plan : Plan) (files : List (List ℕ)) → refused_inputs plan.inputs files ≡ None → partial_of plan files ≡ joined (bare plan) files
+
+abbrev pub BareIsBare : Type 0
+BareIsBare = (plan : Plan) → IsBare (bare plan)

@@ -3,7 +3,6 @@
 ghost use Rattle.std.specs.Prelude.{◌≡◌, IfOk};
 ghost use Rattle.link_plan.specs.Plan.{IsPlan};
 ghost use Rattle.partial_rules.specs.PartialLink.{bare};
-ghost use Rattle.partial_inputs.specs.Refused.{IsBare};
 
 use link_plan::Plan;
 use std::alloc::Global;
@@ -26,12 +25,11 @@ fn name_again(alloc: Global, name: &Option<Text>) -> Result<Option<Text>, OutOfM
 }
 
 /// The plan with its options left out.
-#[tactic(auto, using(crate::proofs::Ranges::bare_is_plan, crate::proofs::Ranges::bare_is_bare))]
+#[tactic(auto, using(crate::proofs::Ranges::bare_is_plan))]
 pub fn bare_plan(alloc: Global, plan: &Plan) -> Result<Plan, OutOfMemory>
     requires { IsPlan plan.now }
     ensures is { IfOk result (λ p. p ≡ bare plan.now) }
     ensures numbers { IfOk result IsPlan }
-    ensures bare { IfOk result IsBare }
 {
     Ok(Plan {
         inputs: Seq::from_slice(alloc, plan.inputs.as_slice())?,

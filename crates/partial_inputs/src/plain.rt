@@ -25,13 +25,19 @@ fn first_not_plain(words: &[InputWord], files: &[Seq<u8>]) -> Option<u32>
     requires few { length words.now < 2 ^ 32 }
     ensures { result ≡ first_not_plain 0 words.now files.now }
 {
-    for at in 0..words.len() {
-        if at >= files.len() {
+    let mut left = words;
+    let mut behind = files;
+    let mut file: u32 = 0;
+    while let [word, next_words @ ..] = left {
+        let [bytes, next_files @ ..] = behind else {
             return None;
+        };
+        if word.lazy || is_library(bytes.as_slice()) {
+            return Some(file);
         }
-        if words[at].lazy || is_library(files[at].as_slice()) {
-            return Some(at as u32);
-        }
+        left = next_words;
+        behind = next_files;
+        file += 1;
     }
     None
 }
