@@ -1,6 +1,7 @@
 //! What of the object has symbols and names: its exports, symbols and init functions.
 ghost use Rattle.std.specs.Prelude.{◌≡◌, false, IfOk};
 ghost use Rattle.partial_items.specs.link_program.made_symbols.declared.mode.Mode.TheVariants.{Plain};
+ghost use Rattle.partial_items.specs.link_program.name_entries.View.{InputsRise};
 ghost use Rattle.partial_items.specs.link_program.name_entries.Fits.{FitsObjects};
 ghost use Rattle.partial_items.specs.link_program.link_rules.Program.{Program as Rules};
 ghost use Rattle.partial_items.specs.link_program.Program.{IsProgramOf};
@@ -29,6 +30,7 @@ pub fn named_of(
     entries: Entries<'_>,
     found: &Found,
 ) -> Result<Named, OutOfMemory>
+    requires rise { InputsRise 0 program.objects.now }
     requires fits { FitsObjects entries }
     requires objects { entries.objects.now ≡ program.objects.now }
     requires names { entries.names.now ≡ program.names.now }

@@ -1,6 +1,7 @@
 //! The call that makes the object of a partial link.
 ghost use Rattle.std.specs.Prelude.{◌≡◌, ◌≤◌, ◌^◌, false, length, IfOk};
 ghost use Rattle.partial_items.specs.link_program.made_symbols.declared.mode.Mode.TheVariants.{Plain};
+ghost use Rattle.partial_items.specs.link_program.name_entries.View.{InputsRise};
 ghost use Rattle.partial_items.specs.link_program.name_entries.Fits.{FitsObjects};
 ghost use Rattle.partial_items.specs.link_program.link_rules.Program as rules;
 ghost use Rattle.partial_items.specs.link_program.link_rules.ModeOf.{IsPlain};
@@ -36,6 +37,7 @@ fn object<R: Threads + Sync>(
     requires program { IsProgramOf Plain program p }
     requires strict { p.plan.loose_calls ≡ false }
     requires stand { PartsStand p }
+    requires rise { InputsRise 0 program.objects.now }
     requires fits { FitsObjects entries }
     requires objects { entries.objects.now ≡ program.objects.now }
     requires names { entries.names.now ≡ program.names.now }
@@ -47,10 +49,10 @@ fn object<R: Threads + Sync>(
     let typed = typed_of(alloc, program, entries, &found)?;
     let named = named_of(alloc, program, entries, &found)?;
     let held = held_of(alloc, program, entries, &found, typed.numbers.as_slice())?;
-    let bytes = written_of(
+    let answer = written_of(
         rt, alloc, program, entries, files, &found, &typed, &named, &held, workers,
-    )?;
-    Ok(bytes)
+    );
+    answer
 }
 
 /// The object that a partial link makes of a program: all that is kept of the loaded objects, as one relocatable object of at most 2^30 bytes.
@@ -78,7 +80,8 @@ pub fn partial<R: Threads + Sync>(
     ensures exact { Answers (λ bytes. bytes) result (made_of p) }
     ensures short { IfOk result (λ bytes. length bytes ≤ 2 ^ 30) }
 {
-    refuse(open_local(alloc, entries)?)?;
-    let bytes = object(rt, alloc, program, entries, files, workers)?;
-    Ok(bytes)
+    let fault = open_local(alloc, entries)?;
+    refuse(fault)?;
+    let answer = object(rt, alloc, program, entries, files, workers);
+    answer
 }

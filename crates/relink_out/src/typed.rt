@@ -42,7 +42,7 @@ pub fn typed_of(
     let table = types_of(alloc, program, entries, found.opens.as_slice(), functions)?;
     let mut types = TypeNumbers::new(table);
     let numbers = type_numbers(alloc, &mut types, program.tables.types.as_slice())?;
-    let functions = functions_of(alloc, program, numbers.as_slice(), functions)?;
+    let function_types = functions_of(alloc, program, numbers.as_slice(), functions)?;
     let imports = imports_of(
         alloc,
         &mut types,
@@ -54,6 +54,6 @@ pub fn typed_of(
         types,
         numbers,
         imports,
-        functions,
+        functions: function_types,
     })
 }

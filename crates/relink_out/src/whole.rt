@@ -1,6 +1,7 @@
 //! The tree of the object, whose rows lend names and bytes.
 ghost use Rattle.std.specs.Prelude.{◌≡◌, ◌≤◌, ◌^◌, false, length, IfOk};
 ghost use Rattle.partial_items.specs.link_program.made_symbols.declared.mode.Mode.TheVariants.{Plain};
+ghost use Rattle.partial_items.specs.link_program.name_entries.View.{InputsRise};
 ghost use Rattle.partial_items.specs.link_program.name_entries.Fits.{FitsObjects};
 ghost use Rattle.partial_items.specs.link_program.link_rules.Program as rules;
 ghost use Rattle.partial_items.specs.link_program.Answers.{Answers};
@@ -45,6 +46,7 @@ pub fn written_of<R: Threads + Sync>(
     requires program { IsProgramOf Plain program p }
     requires strict { p.plan.loose_calls ≡ false }
     requires stand { PartsStand p }
+    requires rise { InputsRise 0 program.objects.now }
     requires fits { FitsObjects entries }
     requires objects { entries.objects.now ≡ program.objects.now }
     requires files { files.now ≡ p.files }
@@ -74,6 +76,6 @@ pub fn written_of<R: Threads + Sync>(
         inits: named.inits.as_slice(),
         groups: groups.as_slice(),
     };
-    let bytes = write(rt, alloc, &tree, workers)?;
-    Ok(bytes)
+    let answer = write(rt, alloc, &tree, workers);
+    answer
 }
