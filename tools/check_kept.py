@@ -4,11 +4,13 @@
 `rt check` builds all libraries below a crate anew. This takes those that an earlier climb (climb.py) proved: of the sources that stand here, or else the
 newest of that name. It asks nothing more of them: it is for proving, and `rt ci` is the judge. A library that was never kept, or that the variable OWN
 names (OWN=a,b), is taken from crates/NAME/out/built here, where --build leaves it. BUILT=FOLDER names a checkout in which a plain `rt ci` runs or ran:
-its libraries are taken before those of climbs. FLAGs are the compiler's: --only PATH, --allow-holes, --test, --jobs N, --empty-contracts.
+its libraries are taken before those of climbs. What the kit's own `rt ci` kept (13f) is taken too, where it is newer than what a climb kept. FLAGs are the compiler's: --only PATH, --allow-holes, --test, --jobs N, --empty-contracts.
 """
 
 import glob
+import json
 import os
+import shutil
 import subprocess
 import sys
 
@@ -19,13 +21,37 @@ OWN = set(filter(None, os.environ.get("OWN", "").split(",")))
 BUILT = os.environ.get("BUILT")
 
 
+# Where the kit's own `rt ci` keeps what it passed.
+KIT_STORE = f"{os.path.dirname(build.KIT)}/rattle-kept"
+
+
+def unfolded(entry):
+    """A library that the kit keeps, with its files under their names. The kit numbers them, and tells their names in made.json."""
+    place = f"{climb.STORE}/of-kit/{os.path.basename(entry)}"
+    if os.path.isdir(place):
+        return place
+    with open(f"{entry}/made.json", encoding="utf-8") as text:
+        made = json.load(text)
+    room = f"{place}.{os.getpid()}"
+    for number, (path, _) in enumerate(made["files"]):
+        os.makedirs(os.path.dirname(f"{room}/{path}"), exist_ok=True)
+        climb.linked(f"{entry}/{number}", f"{room}/{path}")
+    try:
+        os.rename(room, place)
+    except OSError:
+        # another check was quicker
+        shutil.rmtree(room)
+    return place
+
+
 def newest():
     """Where the library of each name lies that was kept last."""
     found = {}
-    for path in glob.glob(f"{climb.STORE}/proof-*"):
+    for path in [*glob.glob(f"{climb.STORE}/proof-*"), *glob.glob(f"{KIT_STORE}/proof-*")]:
         name = os.path.basename(path).split("-")[1]
         if name not in found or os.stat(path).st_mtime > os.stat(found[name]).st_mtime:
             found[name] = path
+    found = {name: unfolded(path) if path.startswith(KIT_STORE) else path for name, path in found.items()}
     for path in glob.glob(f"{BUILT}/crates/*/out/rlib/*.rlib/format") if BUILT else []:
         folder = os.path.dirname(os.path.dirname(os.path.dirname(path)))
         found[os.path.basename(os.path.dirname(folder))] = folder

@@ -1,7 +1,7 @@
 #!/usr/bin/env python3
 """`rt ci` over what earlier climbs passed: climb.py [--no-edits] [CRATE..], at the top of a clone. With crates named, these and all below them.
 
-It is rt ci itself, but for two things. What a crate's proof, its tests or an edit passed is kept on this machine, by a sum of all that was read, and
+It is rt ci itself, but for two things, on a kit (13b) whose rt ci keeps nothing; on one that keeps (13f) it is rt ci alone. What a crate's proof, its tests or an edit passed is kept on this machine, by a sum of all that was read, and
 isn't done again. And sums and lists of libraries are taken once, where rt takes them along each path through crates.txt, which takes it minutes. It is
 for the climb of a session; a plain `rt ci` is the judge. KEPT names another folder than /var/tmp/rattle-kept.
 """
@@ -153,6 +153,9 @@ def main():
     names = [it for it in sys.argv[1:] if not it.startswith("--")]
     os.chdir(build.TOP)
     rt = rt_itself()
+    if not hasattr(rt, "must_fail_all"):
+        # This kit keeps what passed by itself, and takes sums once.
+        sys.exit(rt.main(["ci", *names]))
     with_sums_once(rt)
     with_store(rt)
     if names:

@@ -1,5 +1,5 @@
 -- The plan of a partial link keeps to the ranges of plans.
-use Rattle.std.proofs.Common.{◌≡◌, ℕ, refl, arith}
+use Rattle.std.proofs.Common.{refl, arith}
 use Rattle.link_plan.specs.declared.plan.Plan.{Plan}
 use Rattle.link_plan.specs.Plan.{IsPlan}
 use Rattle.link_program.specs.link_rules.LinkOf.{asked_names}

@@ -7,7 +7,7 @@ use Rattle.link_program.specs.wl_base.declared.fault.Fault.TheVariants.{NotParti
 use Rattle.link_program.specs.link_rules.Candidates.{too_much_input}
 use Rattle.link_plan.specs.declared.plan.Plan.{Plan}
 use Rattle.partial_rules.specs.PartialLink.{bare, first_not_plain, partial_of, partial_by}
-use Rattle.partial_inputs.specs.Refused.{refused_inputs, joined, RefusedFirst, ThenJoined}
+use Rattle.partial_inputs.specs.Refused.{joined, RefusedFirst, ThenJoined}
 
 module _ (plan : Plan) (files : List (List ℕ)) where
   abbrev last : Option Fault → Result (List ℕ) Fault
