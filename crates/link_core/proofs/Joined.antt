@@ -1,5 +1,6 @@
 -- The steps of a partial link.
-use Rattle.std.proofs.Common.{◌≡◌, ◌∙◌, ℕ, List, [], false, refl, sym, ap, subst, Result, Ok, Err}
+use Rattle.std.proofs.Common.{◌≡◌, ◌∙◌, ◌≤◌, ◌^◌, ℕ, List, [], false, sym, ap, subst, length, arith, Result, Ok, Err}
+use Rattle.std.specs.Prelude.{IfOk}
 use Rattle.link_output.specs.link_program.wl_base.Choice.{◌>>=◌}
 use Rattle.link_output.specs.link_program.wl_base.declared.fault.Fault.{Fault}
 use Rattle.link_output.specs.link_program.object_file.declared.object.Object.{Object}
@@ -8,12 +9,12 @@ use Rattle.link_output.specs.link_program.round_rules.Rounds.{Candidate, load}
 use Rattle.link_output.specs.link_program.name_rules.Cases.{clash_by, duplicate}
 use Rattle.link_output.specs.link_program.link_plan.declared.plan.Plan.{Plan}
 use Rattle.link_output.specs.link_program.link_rules.Candidates.{candidates_of}
-use Rattle.link_output.specs.link_program.link_rules.ModeOf.{mode_of, plain_mode}
+use Rattle.link_output.specs.link_program.link_rules.ModeOf.{mode_of, plain_mode, IsPlain}
 use Rattle.link_output.specs.link_program.link_rules.Program.{Program, program_of}
 use Rattle.link_output.specs.link_program.link_rules.LinkOf.{asked_names, the_readers, too_many_names}
 use Rattle.link_output.specs.link_program.declared.error.LinkError.{LinkError}
 use Rattle.link_output.specs.link_program.declared.error.LinkError.TheVariants.{Refused, OutOfMemory}
-use Rattle.link_output.specs.link_program.Answers.{Fails}
+use Rattle.link_output.specs.link_program.Answers.{Fails, Answers as Told}
 use Rattle.link_output.specs.link_program.Loaded.{the_candidates}
 use Rattle.debug_links.specs.valid_links.link_runs.link_inputs.Inputs.{loaded_of}
 use Rattle.debug_links.specs.valid_links.link_runs.link_inputs.Loaded.{AreInputs}
@@ -23,7 +24,8 @@ use Rattle.partial_rules.specs.PartialLink.{partial_program}
 use Rattle.partial_inputs.specs.Refused.{IsBare, joined}
 use Rattle.relink_out.specs.Made.{made_of}
 use Rattle.relink_out.specs.Laws.{PartialIsMade}
-use Rattle.link_core.specs.Answers.{Answers}
+use Rattle.link_core.specs.Answers.{Answers, IsShort}
+use Rattle.link_core.specs.Loading.{Loading, program_in}
 use Rattle.link_core.proofs.Answering.{fails_by}
 use Rattle.link_core.proofs.Opened.{given, not_given}
 use Rattle.link_core.proofs.Steps.{named_by}
@@ -82,3 +84,24 @@ module _ (law : PartialIsMade) (p : Program) (strict : p.plan.loose_calls ≡ fa
 
   pub goes_on_made : (r : Result (List ℕ) LinkError) → found_of p ≡ Ok p → Answers r (made_of p) → Answers r (partial_program p)
   goes_on_made r found said = subst (Answers r) (sym (made_by (Ok p) found)) said
+
+-- ---- what is known of the program
+
+pub strict_in : (l : Loading) (plan : Plan) → l.origin.plan ≡ plan → plan.loose_calls ≡ false → (program_in l).plan.loose_calls ≡ false
+unfolding program_of
+strict_in l plan same strict = ap (λ (q : Plan). q.loose_calls) same ∙ strict
+
+pub plainly_in : (l : Loading) (plan : Plan) → l.origin.plan ≡ plan → IsPlain plan → IsPlain (program_in l).plan
+unfolding program_of
+plainly_in l plan same plain = ap (λ (q : Plan). q.shared) same ∙ plain
+
+-- ---- answers
+
+pub answer_of : (r : Result (List ℕ) LinkError) (said : Result (List ℕ) Fault) → Told (λ (bytes : List ℕ). bytes) r said → Answers r said
+answer_of (Ok bytes) said told = told
+answer_of (Err e) said told = told
+
+-- at most 2^30 bytes are fewer than 2^31
+pub short_of : (r : Result (List ℕ) LinkError) → IfOk r (λ bytes. length bytes ≤ 2 ^ 30) → IsShort r
+short_of (Ok bytes) few = omega (arith, few)
+short_of (Err e) few = tt

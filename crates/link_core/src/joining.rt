@@ -93,9 +93,9 @@ fn join_loaded<R: Threads + Sync, G: Gate>(
 {
     let objects = inputs.objects();
     let homes = inputs.homes();
+    partial_is_made();
     let found = find(rt, alloc, plan, objects, homes, workers, gate)?;
     parts_stand();
-    partial_is_made();
     let program = found.program(plan, objects);
     let entries = found.view(objects);
     let answer = partial(rt, alloc, program, entries, files, workers);
