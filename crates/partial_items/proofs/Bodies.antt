@@ -24,8 +24,7 @@ use Rattle.partial_tree.specs.partial_symbols.Standing.{Stood}
 use Rattle.partial_tree.specs.partial_symbols.Known.{AreStanding}
 use Rattle.partial_tree.specs.Relocs.{reloc_told, RelocsAre}
 use Rattle.partial_bytes.specs.declared.tree.Part.{Part as Lent}
-use Rattle.partial_bytes.specs.Told.{empty_of, part_with, part_told, PartFits}
-use Rattle.partial_bytes.proofs.Windowed.{parts_windowed}
+use Rattle.partial_bytes.specs.Told.{empty_of, part_with, part_told, PartFits, PartsAreWindowed}
 use Rattle.partial_items.specs.Items.{Given, given, part_given, parts_given}
 use Rattle.partial_items.proofs.Listed.{IsKept, all_kept, of_object, at_number, maps_agree, part_seen}
 
@@ -111,7 +110,7 @@ module _ (p : Program) where
 
 -- ---- all parts
 
-module _ (law : RelocsAre) (d : Data) (p : Program) (is : IsProgramOf Plain d p) (stand : PartsStand p) (strict : p.plan.loose_calls ≡ false) (s : Stood) (are : AreStanding p d.names.now.names s)
+module _ (law : RelocsAre) (emptied : PartsAreWindowed) (d : Data) (p : Program) (is : IsProgramOf Plain d p) (stand : PartsStand p) (strict : p.plan.loose_calls ≡ false) (s : Stood) (are : AreStanding p d.names.now.names s)
     (numbers : List ℕ) (numbered : numbers ≡ map (partial.type_number p) d.tables.now.types) where
   abbrev t : Tables
   t = d.tables.now
@@ -127,7 +126,7 @@ module _ (law : RelocsAre) (d : Data) (p : Program) (is : IsProgramOf Plain d p)
   one_told kind n part at kept =
       let rs = law d p is stand strict s are numbers numbered n part at in
       let source = source_is n part at in
-      (λ i. part_with (rs i) (file_part p.files (source i))) ∙ parts_windowed p part
+      (λ i. part_with (rs i) (file_part p.files (source i))) ∙ emptied p part
 
   one_fits : (kind n : ℕ) (part : Part) → slice_get p.parts n ≡ Some part → IsKept kind part → FitsGiven (part_given p.files t n (relocs n))
   one_fits kind n part at kept =
