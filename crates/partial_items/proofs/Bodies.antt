@@ -134,4 +134,4 @@ module _ (law : RelocsAre) (emptied : RowsAreWindowed) (fitting : RowsFit) (d : 
     pub parts_fit : All PartFits ps
     parts_fit =
         fitting p (partial.kept p kind) ps are_rows
-        (all_of p.parts (IsKept kind) (WindowsLie p) (λ n part at kept. part_lies part (at_number (PartStands p) p.parts n part stand at) (of_object kind part kept)) ns (partial.kept p kind) same (all_kept p kind))
+        (all_of p.parts (IsKept kind) (WindowsLie p) (λ n part at kept. part_lies p part (at_number (PartStands p) p.parts n part stand at) (of_object kind part kept)) ns (partial.kept p kind) same (all_kept p kind))
