@@ -18,33 +18,15 @@ use Rattle.partial_tree.specs.link_program.Look.{part_at, row_at}
 use Rattle.partial_tree.specs.link_program.Program.{IsProgramOf}
 use Rattle.partial_tree.specs.link_program.Seen.{SeenPart}
 use Rattle.partial_tree.specs.link_program.Stand.{named_place, named_size, NamedStand, SourceLies, PartStands, PartsStand}
-use Rattle.partial_tree.specs.partial_rules.Relocatable.{Windowed}
 use Rattle.partial_tree.specs.partial_rules.Partial as partial
+use Rattle.partial_tree.specs.partial_rules.Partial.{empty_window}
 use Rattle.partial_tree.specs.partial_symbols.Standing.{Stood}
 use Rattle.partial_tree.specs.partial_symbols.Known.{AreStanding}
 use Rattle.partial_tree.specs.Relocs.{reloc_told, RelocsAre}
 use Rattle.partial_bytes.specs.declared.tree.Part.{Part as Lent}
-use Rattle.partial_bytes.specs.Told.{empty_of, part_with, part_told, PartFits}
-use Rattle.partial_bytes.proofs.Windowed.{parts_windowed}
+use Rattle.partial_bytes.specs.Told.{part_told, PartFits, AreRows, RowsAreWindowed, WindowsLie, RowsFit}
 use Rattle.partial_items.specs.Items.{Given, given, part_given, parts_given}
 use Rattle.partial_items.proofs.Listed.{IsKept, all_kept, of_object, at_number, maps_agree, part_seen}
-
--- ---- what is given, as the object has it
-
-told_given : Given → Windowed
-told_given g = part_with g.relocs g.bytes
-
-abbrev FitsGiven : Given → Type 0
-FitsGiven g = All (LiesIn (length g.bytes)) (map empty_of g.relocs)
-
-all_told : (ps : List Lent) → map part_told ps ≡ map told_given (map given ps)
-unfolding told_given
-all_told [] = refl
-all_told (p ∷ ps) = ap (λ ws. part_told p ∷ ws) (all_told ps)
-
-all_fit : (ps : List Lent) → All FitsGiven (map given ps) → All PartFits ps
-all_fit [] all = All-nil PartFits
-all_fit (p ∷ ps) all = All-cons PartFits p ps (All-head FitsGiven (given p) (map given ps) all) (all_fit ps (All-tail FitsGiven (given p) (map given ps) all))
 
 -- ---- by number
 
@@ -67,14 +49,22 @@ map_twice : {A B C : Type 0} (g : B → C) (f : A → B) (xs : List A) → map g
 map_twice g f [] = refl
 map_twice g f (x ∷ xs) = ap (λ ys. g (f x) ∷ ys) (map_twice g f xs)
 
-all_agree : {B : Type 0} (Q : B → Type 0) (xs : List Part) (P : Part → Type 0) (f : ℕ → B) → ((n : ℕ) (part : Part) → slice_get xs n ≡ Some part → P part → Q (f n))
-    → (ns : List ℕ) (parts : List Part) → map (slice_get xs) ns ≡ map Some parts → AllByRecursion P parts → All Q (map f ns)
-all_agree Q xs P f each [] parts same all = All-nil Q
-all_agree Q xs P f each (n ∷ ns) [] same all = absurd cc
-all_agree Q xs P f each (n ∷ ns) (part ∷ parts) same all =
+all_of : (xs : List Part) (P Q : Part → Type 0) → ((n : ℕ) (part : Part) → slice_get xs n ≡ Some part → P part → Q part)
+    → (ns : List ℕ) (parts : List Part) → map (slice_get xs) ns ≡ map Some parts → AllByRecursion P parts → All Q parts
+all_of xs P Q each ns [] same all = All-nil Q
+all_of xs P Q each [] (part ∷ parts) same all = absurd cc
+all_of xs P Q each (n ∷ ns) (part ∷ parts) same all =
     let at : slice_get xs n ≡ Some part = cc in
     let others : map (slice_get xs) ns ≡ map Some parts = cc in
-    All-cons Q (f n) (map f ns) (each n part at all.0) (all_agree Q xs P f each ns parts others all.1)
+    All-cons Q part parts (each n part at all.0) (all_of xs P Q each ns parts others all.1)
+
+all_relocs : (ps : List Lent) → map (λ (row : Lent). row.relocs.now) ps ≡ map (λ (g : Given). g.relocs) (map given ps)
+all_relocs [] = refl
+all_relocs (p ∷ ps) = ap (λ rs. p.relocs.now ∷ rs) (all_relocs ps)
+
+all_bytes : (ps : List Lent) → map (λ (row : Lent). row.bytes.now) ps ≡ map (λ (g : Given). g.bytes) (map given ps)
+all_bytes [] = refl
+all_bytes (p ∷ ps) = ap (λ bs. p.bytes.now ∷ bs) (all_bytes ps)
 
 -- ---- windows lie in their part
 
@@ -83,14 +73,14 @@ stand_le from end [] s = s
 stand_le from end (n ∷ ns) s = let b = stand_le (named_place n + named_size n) end ns s.1 in omega (arith, s.0, b)
 
 module _ (p : Program) where
-  one_lies : (end : ℕ) (n : Named) → named_place n + named_size n ≤ end → LiesIn end (empty_of (partial.named_reloc p n))
+  one_lies : (end : ℕ) (n : Named) → named_place n + named_size n ≤ end → LiesIn end (empty_window n)
   one_lies end (a_symbol ref) le = le
   one_lies end (a_type w) le = le
 
-  all_lie : (from end : ℕ) (ns : List Named) → NamedStand from end ns → All (LiesIn end) (map empty_of (map (partial.named_reloc p) ns))
+  all_lie : (from end : ℕ) (ns : List Named) → NamedStand from end ns → All (LiesIn end) (map empty_window ns)
   all_lie from end [] s = All-nil (LiesIn end)
   all_lie from end (n ∷ ns) s =
-      All-cons (LiesIn end) (empty_of (partial.named_reloc p n)) (map empty_of (map (partial.named_reloc p) ns))
+      All-cons (LiesIn end) (empty_window n) (map empty_window ns)
       (one_lies end n (stand_le (named_place n + named_size n) end ns s.1)) (all_lie (named_place n + named_size n) end ns s.1)
 
   as_long : (s : FileSpan) → SourceLies p.files s → length (file_part p.files s) ≡ s.span.len
@@ -99,57 +89,49 @@ module _ (p : Program) where
       let left = length-drop s.span.start file in
       length-take-le s.span.len (drop s.span.start file) (omega (arith, lies, left))
 
-  part_lies : (part : Part) → PartStands p part → (part.chunk.input == 0) ≡ false → All (LiesIn (length (part_bytes p part))) (map empty_of (map (partial.named_reloc p) part.named))
+  part_lies : (part : Part) → PartStands p part → (part.chunk.input == 0) ≡ false → WindowsLie p part
   part_lies part stands object = by stands.windows
     where
       long : length (part_bytes p part) ≡ part.source.span.len
       long = as_long part.source stands.source
 
-      by : ((part.chunk.input ≡ 0) × (part.chunk.kind ≡ 0)) ⊎ NamedStand 0 part.source.span.len part.named → All (LiesIn (length (part_bytes p part))) (map empty_of (map (partial.named_reloc p) part.named))
+      by : ((part.chunk.input ≡ 0) × (part.chunk.kind ≡ 0)) ⊎ NamedStand 0 part.source.span.len part.named → All (LiesIn (length (part_bytes p part))) (map empty_window part.named)
       by (inl linkers) = absurd (let e : true ≡ false = sym (eq-eqb part.chunk.input 0 linkers.0) ∙ object in cc)
-      by (inr stand) = subst (λ n. All (LiesIn n) (map empty_of (map (partial.named_reloc p) part.named))) (sym long) (all_lie 0 part.source.span.len part.named stand)
+      by (inr stand) = subst (λ n. All (LiesIn n) (map empty_window part.named)) (sym long) (all_lie 0 part.source.span.len part.named stand)
 
 -- ---- all parts
 
-module _ (law : RelocsAre) (d : Data) (p : Program) (is : IsProgramOf Plain d p) (stand : PartsStand p) (strict : p.plan.loose_calls ≡ false) (s : Stood) (are : AreStanding p d.names.now.names s)
-    (numbers : List ℕ) (numbered : numbers ≡ map (partial.type_number p) d.tables.now.types) where
+module _ (law : RelocsAre) (emptied : RowsAreWindowed) (fitting : RowsFit) (d : Data) (p : Program) (is : IsProgramOf Plain d p) (stand : PartsStand p) (strict : p.plan.loose_calls ≡ false) (s : Stood)
+    (are : AreStanding p d.names.now.names s) (numbers : List ℕ) (numbered : numbers ≡ map (partial.type_number p) d.tables.now.types) where
   abbrev t : Tables
   t = d.tables.now
 
   abbrev relocs : ℕ → List Reloc
   relocs n = map (reloc_told s t.symbols numbers) (row_at t n)
 
-  source_is : (n : ℕ) (part : Part) → slice_get p.parts n ≡ Some part → (part_at t n).source ≡ part.source
-  source_is n part at = ap (λ (x : SeenPart). x.source) (part_seen d p is n part at)
-
-  one_told : (kind n : ℕ) (part : Part) → slice_get p.parts n ≡ Some part → IsKept kind part → told_given (part_given p.files t n (relocs n)) ≡ partial.windowed p part
-  unfolding told_given
-  one_told kind n part at kept =
-      let rs = law d p is stand strict s are numbers numbered n part at in
-      let source = source_is n part at in
-      (λ i. part_with (rs i) (file_part p.files (source i))) ∙ parts_windowed p part
-
-  one_fits : (kind n : ℕ) (part : Part) → slice_get p.parts n ≡ Some part → IsKept kind part → FitsGiven (part_given p.files t n (relocs n))
-  one_fits kind n part at kept =
-      let rs = law d p is stand strict s are numbers numbered n part at in
-      let source = source_is n part at in
-      subst (λ (x : List Reloc). All (LiesIn (length (file_part p.files (part_at t n).source))) (map empty_of x)) (sym rs)
-      (subst (λ x. All (LiesIn (length (file_part p.files x))) (map empty_of (map (partial.named_reloc p) part.named))) (sym source)
-      (part_lies p part (at_number (PartStands p) p.parts n part stand at) (of_object kind part kept)))
-
   module _ (files : List (List ℕ)) (same_files : files ≡ p.files) (kind : ℕ) (ns : List ℕ) (same : map (slice_get p.parts) ns ≡ map Some (partial.kept p kind)) (ps : List Lent)
       (made : map given ps ≡ parts_given files t (map relocs ns) 0 ns) where
     as_given : map given ps ≡ map (λ n. part_given p.files t n (relocs n)) ns
     as_given = made ∙ (ap (λ fs. parts_given fs t (map relocs ns) 0 ns) same_files ∙ all_in_turn p.files t relocs ns)
 
+    are_rows : AreRows p (partial.kept p kind) ps
+    are_rows = record {
+      relocs =
+          all_relocs ps
+          ∙ (ap (map (λ (g : Given). g.relocs)) as_given
+          ∙ (map_twice (λ (g : Given). g.relocs) (λ n. part_given p.files t n (relocs n)) ns
+          ∙ maps_agree p.parts (IsKept kind) relocs (λ (part : Part). map (partial.named_reloc p) part.named) (λ n part at kept. law d p is stand strict s are numbers numbered n part at) ns (partial.kept p kind) same (all_kept p kind)));
+      bytes =
+          all_bytes ps
+          ∙ (ap (map (λ (g : Given). g.bytes)) as_given
+          ∙ (map_twice (λ (g : Given). g.bytes) (λ n. part_given p.files t n (relocs n)) ns
+          ∙ maps_agree p.parts (IsKept kind) (λ n. file_part p.files (part_at t n).source) (part_bytes p) (λ n part at kept. ap (λ (x : SeenPart). file_part p.files x.source) (part_seen d p is n part at)) ns (partial.kept p kind) same (all_kept p kind)));
+    }
+
     pub parts_are : map part_told ps ≡ map (partial.windowed p) (partial.kept p kind)
-    parts_are =
-        all_told ps
-        ∙ (ap (map told_given) as_given
-        ∙ (map_twice told_given (λ n. part_given p.files t n (relocs n)) ns
-        ∙ maps_agree p.parts (IsKept kind) (λ n. told_given (part_given p.files t n (relocs n))) (partial.windowed p) (one_told kind) ns (partial.kept p kind) same (all_kept p kind)))
+    parts_are = emptied p (partial.kept p kind) ps are_rows
 
     pub parts_fit : All PartFits ps
     parts_fit =
-        all_fit ps
-        (subst (All FitsGiven) (sym as_given) (all_agree FitsGiven p.parts (IsKept kind) (λ n. part_given p.files t n (relocs n)) (one_fits kind) ns (partial.kept p kind) same (all_kept p kind)))
+        fitting p (partial.kept p kind) ps are_rows
+        (all_of p.parts (IsKept kind) (WindowsLie p) (λ n part at kept. part_lies p part (at_number (PartStands p) p.parts n part stand at) (of_object kind part kept)) ns (partial.kept p kind) same (all_kept p kind))

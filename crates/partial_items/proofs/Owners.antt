@@ -26,13 +26,21 @@ use Rattle.partial_items.proofs.Sought.{found_itself}
 
 -- ---- where the object of an input stands
 
-pub is_near : (objects : List Object) (place input : ℕ) (o : Object) → InputsRise 0 objects → slice_get objects place ≡ Some o → (o.input == input) ≡ true → slice_get objects place ≡ object_at objects input
-is_near objects place input o rise at same =
+is_there : (objects : List Object) (place input : ℕ) (o : Object) → InputsRise 0 objects → slice_get objects place ≡ Some o → (o.input == input) ≡ true → slice_get objects place ≡ object_at objects input
+is_there objects place input o rise at same =
     let own : get_or objects place o ≡ o = get_or_from_slice_get objects place o o at in
     at
     ∙ (sym (ap (λ (x : Object). Some x) own)
     ∙ (sym (found_itself objects place o rise (slice_get_within objects place o at))
     ∙ ap (object_at objects) (ap (λ (x : Object). x.input) own ∙ eqb-true o.input input same)))
+
+pub is_near : (objects : List Object) (place input own : ℕ) → InputsRise 0 objects → Some own ≡ option_map (λ (o : Object). o.input) (slice_get objects place) → (own == input) ≡ true
+    → slice_get objects place ≡ object_at objects input
+is_near objects place input own rise is same = by (slice_get objects place) refl is
+  where
+    by : (x : Option Object) → slice_get objects place ≡ x → Some own ≡ option_map (λ (o : Object). o.input) x → slice_get objects place ≡ object_at objects input
+    by None at e = absurd (none-some own (sym e))
+    by (Some o) at e = is_there objects place input o rise at (ap (λ n. n == input) (sym (same_Some own o.input e)) ∙ same)
 
 -- ---- the parts of an object
 

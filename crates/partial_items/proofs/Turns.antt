@@ -35,6 +35,11 @@ dropped_none [] (suc i) none = refl
 dropped_none (x ∷ xs) zero none = absurd (none-some x (sym none))
 dropped_none (x ∷ xs) (suc i) none = dropped_none xs i none
 
+past_end : {A : Type 0} (xs : List A) (i : ℕ) → slice_get xs i ≡ None → length xs ≤ i
+past_end [] i none = omega arith
+past_end (x ∷ xs) zero none = absurd (none-some x (sym none))
+past_end (x ∷ xs) (suc i) none = let r = past_end xs i none in omega (arith, r)
+
 next : {A : Type 0} (xs : List A) (i : ℕ) (d : A) → i < length xs → drop i xs ≡ get_or xs i d ∷ drop (i + 1) xs
 next [] i d lt = absurd (omega (arith, lt))
 next (x ∷ xs) zero d lt = refl
@@ -58,6 +63,9 @@ offer_more input first ns i n old new at step so_far =
 pub offers_end : (input : ℕ) (first : List (Option ℕ)) (ns : List ℕ) (i : ℕ) (old : List (Option ℕ)) → length ns ≤ i → old ≡ fold (offered input) first (take i ns) → old ≡ fold (offered input) first ns
 offers_end input first ns i old past so_far = so_far ∙ ap (fold (offered input) first) (take_all i ns past)
 
+pub no_offer : (input : ℕ) (first : List (Option ℕ)) (ns : List ℕ) (i : ℕ) (old : List (Option ℕ)) → slice_get ns i ≡ None → old ≡ fold (offered input) first (take i ns) → old ≡ fold (offered input) first ns
+no_offer input first ns i old none so_far = so_far ∙ ap (fold (offered input) first) (take_all i ns (past_end ns i none))
+
 pub objects_offer : (rows : List (List ℕ)) (objects : List Object) (i : ℕ) (o : Object) (old new whole : List (Option ℕ)) → slice_get objects i ≡ Some o → new ≡ fold (offered o.input) old (get_or rows i [])
     → offered_from rows i old (drop i objects) ≡ whole → offered_from rows (i + 1) new (drop (i + 1) objects) ≡ whole
 objects_offer rows objects i o old new whole at step so_far =
@@ -79,22 +87,12 @@ imports_counted objects parts i o own are at there =
     sym (length-map own.imports.functions (slice_get o.imports)) ∙ (ap length same ∙ length-map (function_imports o) (λ (x : Import). Some x))
 
 module _ (l : Places) (winners : List (Option ℕ)) (o : Owner) (gs : List Group) (ns : List ℕ) where
-  one_group : (w whole : Won) (i : ℕ) (g : Group) (n : ℕ) → slice_get gs i ≡ Some g → slice_get ns i ≡ Some n → with_groups l winners o w i (drop i gs) (drop i ns) ≡ whole
-      → with_groups l winners o (with_offer l winners o w i g n) (i + 1) (drop (i + 1) gs) (drop (i + 1) ns) ≡ whole
-  one_group w whole i g n here there so_far =
+  pub one_group : (old new whole : Won) (i : ℕ) (g : Group) (n : ℕ) → slice_get gs i ≡ Some g → slice_get ns i ≡ Some n → new ≡ with_offer l winners o old i g n
+      → with_groups l winners o old i (drop i gs) (drop i ns) ≡ whole → with_groups l winners o new (i + 1) (drop (i + 1) gs) (drop (i + 1) ns) ≡ whole
+  one_group old new whole i g n here there step so_far =
       let a = dropped_at gs i g here in
       let b = dropped_at ns i n there in
-      sym (λ j. with_groups l winners o w i (a j) (b j)) ∙ so_far
-
-  pub group_won : (old new whole : Won) (i : ℕ) (g : Group) (n : ℕ) → slice_get gs i ≡ Some g → slice_get ns i ≡ Some n → is_input o.input (get_or winners n None) ≡ true → new ≡ with_group l o old i g
-      → with_groups l winners o old i (drop i gs) (drop i ns) ≡ whole → with_groups l winners o new (i + 1) (drop (i + 1) gs) (drop (i + 1) ns) ≡ whole
-  group_won old new whole i g n here there wins step so_far =
-      ap (λ w. with_groups l winners o w (i + 1) (drop (i + 1) gs) (drop (i + 1) ns)) (step ∙ sym (ap (λ b. if b then with_group l o old i g else old) wins)) ∙ one_group old whole i g n here there so_far
-
-  pub group_lost : (old whole : Won) (i : ℕ) (g : Group) (n : ℕ) → slice_get gs i ≡ Some g → slice_get ns i ≡ Some n → is_input o.input (get_or winners n None) ≡ false
-      → with_groups l winners o old i (drop i gs) (drop i ns) ≡ whole → with_groups l winners o old (i + 1) (drop (i + 1) gs) (drop (i + 1) ns) ≡ whole
-  group_lost old whole i g n here there loses so_far =
-      ap (λ w. with_groups l winners o w (i + 1) (drop (i + 1) gs) (drop (i + 1) ns)) (sym (ap (λ b. if b then with_group l o old i g else old) loses)) ∙ one_group old whole i g n here there so_far
+      ap (λ w. with_groups l winners o w (i + 1) (drop (i + 1) gs) (drop (i + 1) ns)) step ∙ (sym (λ j. with_groups l winners o old i (a j) (b j)) ∙ so_far)
 
   no_numbers : (w : Won) (i : ℕ) (xs : List Group) → with_groups l winners o w i xs [] ≡ w
   no_numbers w i [] = refl

@@ -35,12 +35,16 @@ pub record Places : Type 0 where
   pub chunks : List Chunk
   pub functions : ℕ
 
+abbrev pub segment_member : Places → ℕ → ℕ → Member
+segment_member l input index = record { kind = 0; index = place_in l.kept l.chunks (chunk_at input 1 index) }
+
+abbrev pub function_member : Places → ℕ → ℕ → Member
+function_member l input index = record { kind = 1; index = l.functions + place_in l.kept l.chunks (chunk_at input 0 index) }
+
 -- Of an object that imports so many functions: data segments are of kind 0, functions of kind 1, and others are left out.
 abbrev pub member_with : Places → ℕ → ℕ → Member → Option Member
 member_with l input imports m =
-    if m.kind == 0 then Some (record { kind = 0; index = place_in l.kept l.chunks (chunk_at input 1 m.index) })
-    else if m.kind == 1 then Some (record { kind = 1; index = l.functions + place_in l.kept l.chunks (chunk_at input 0 (m.index - imports)) })
-    else None
+    if m.kind == 0 then Some (segment_member l input m.index) else if m.kind == 1 then Some (function_member l input (m.index - imports)) else None
 
 abbrev pub members_of : Places → Owner → Group → List Member
 members_of l o g = filter_map (member_with l o.input o.imports) g.members

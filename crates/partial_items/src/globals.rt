@@ -61,7 +61,7 @@ fn put<'a>(
     globals: &mut Seq<GlobalRow<'a>>,
     found: Option<GlobalRow<'a>>,
 ) -> Result<(), OutOfMemory>
-    ensures { OnOk result (globals.new ≡ globals.old ++ cons_option found []) }
+    ensures { OnOk result (globals.new ≡ globals.old ++ cons_option found.entry []) }
 {
     if let Some(global) = found {
         globals.push(global)?;

@@ -71,14 +71,15 @@ fn offer(column: &mut [Option<InputId>], input: InputId, number: u32)
 }
 
 /// Notes the groups of an object.
-#[tactic(auto, using(crate::proofs::Turns::offer_more, crate::proofs::Turns::offers_end))]
+#[tactic(auto, using(crate::proofs::Turns::offer_more, crate::proofs::Turns::offers_end, crate::proofs::Turns::no_offer))]
 fn offer_all(column: &mut [Option<InputId>], names: &Names, object: u32, input: InputId)
     ensures { column.new ≡ fold (told.offered input) column.old (slice_index_or names.now.groups object []) }
 {
     for place in 0..names.groups(object) {
-        if let Some(number) = names.group(object, place) {
-            offer(column, input, number);
-        }
+        let Some(number) = names.group(object, place) else {
+            return;
+        };
+        offer(column, input, number);
     }
 }
 
@@ -176,8 +177,28 @@ impl Won {
         Ok(())
     }
 
+    /// One group more, by the number of its name, where its object wins it.
+    fn offer(
+        &mut self,
+        list: &mut Vec<Member>,
+        places: Places<'_>,
+        winners: &[Option<InputId>],
+        owner: Owner,
+        place: u32,
+        group: &Group,
+        number: u32,
+    ) -> Result<(), OutOfMemory>
+        ensures { OnOk result (self.new ≡ told.with_offer (places_seen places.entry) winners.now owner self.old place group.now number) }
+    {
+        if wins(winners, number, owner.input) {
+            self.put(list, places, owner, place, group)
+        } else {
+            Ok(())
+        }
+    }
+
     /// The groups of an object more, those that it wins.
-    #[tactic(auto, using(crate::proofs::Turns::group_won, crate::proofs::Turns::group_lost, crate::proofs::Turns::no_group, crate::proofs::Turns::no_number, crate::proofs::Turns::groups_end))]
+    #[tactic(auto, using(crate::proofs::Turns::one_group, crate::proofs::Turns::no_group, crate::proofs::Turns::no_number, crate::proofs::Turns::groups_end))]
     fn add(
         &mut self,
         list: &mut Vec<Member>,
@@ -196,11 +217,23 @@ impl Won {
             let Some(number) = names.group(owner.object, place) else {
                 return Ok(());
             };
-            if wins(winners, number, owner.input) {
-                self.put(list, places, owner, place, group)?;
-            }
+            self.offer(list, places, winners, owner, place, group, number)?;
         }
         Ok(())
+    }
+
+    /// Where the groups stand.
+    fn groups(&self) -> &[GroupAt]
+        ensures { result.now ≡ self.now.groups }
+    {
+        self.groups.as_slice()
+    }
+
+    /// The members of each.
+    fn members(&self) -> &Lists<Member>
+        ensures { result.now ≡ self.now.members }
+    {
+        &self.members
     }
 }
 
@@ -267,7 +300,7 @@ fn row_of<'a>(objects: &'a [Object], at: GroupAt, members: &'a [Member]) -> Opti
 
 /// Puts a group behind others, where there is one.
 fn put<'a>(rows: &mut Seq<GroupRow<'a>>, found: Option<GroupRow<'a>>) -> Result<(), OutOfMemory>
-    ensures { OnOk result (rows.new ≡ rows.old ++ cons_option found []) }
+    ensures { OnOk result (rows.new ≡ rows.old ++ cons_option found.entry []) }
 {
     if let Some(row) = found {
         rows.push(row)?;
@@ -302,6 +335,6 @@ pub fn group_rows<'a>(
         → l.chunks ≡ map (λ part. part.chunk) p.parts → l.functions ≡ length (partial.open_of p Function)
         → won.now ≡ told.all_won l (length d.names.now.names) d.names.now.groups d.objects.now → map group_told rows ≡ (partial.relocatable p).groups) }
 {
-    let rows = rows_in(alloc, objects, won.groups.as_slice(), &won.members)?;
+    let rows = rows_in(alloc, objects, won.groups(), won.members())?;
     Ok(rows)
 }

@@ -1,7 +1,7 @@
 //! Members of groups, by their numbers in the object.
 ghost use Rattle.std.specs.Prelude.{◌≡◌, ◌+◌, ◌++◌, [], filter_map, IfOk, OnOk};
 ghost use Rattle.std.specs.List.{cons_option};
-ghost use Rattle.partial_items.specs.Groups.{member_with};
+ghost use Rattle.partial_items.specs.Groups.{segment_member, function_member, member_with};
 ghost use Rattle.partial_items.specs.Lent.{places_seen};
 
 use linking_section::{Member, member_kinds};
@@ -32,7 +32,9 @@ fn sum(a: u32, b: u32) -> Result<u32, OutOfMemory>
 }
 
 /// The data segment of an index.
-fn segment(places: Places<'_>, input: InputId, index: u32) -> Member {
+fn segment(places: Places<'_>, input: InputId, index: u32) -> Member
+    ensures { result ≡ segment_member (places_seen places.entry) input index }
+{
     let chunk = Chunk {
         input,
         kind: kinds::SEGMENT,
@@ -45,7 +47,9 @@ fn segment(places: Places<'_>, input: InputId, index: u32) -> Member {
 }
 
 /// The function that stands at a place among those that its object defines.
-fn function(places: Places<'_>, input: InputId, index: u32) -> Result<Member, OutOfMemory> {
+fn function(places: Places<'_>, input: InputId, index: u32) -> Result<Member, OutOfMemory>
+    ensures { IfOk result (λ m. m ≡ function_member (places_seen places.entry) input index) }
+{
     let chunk = Chunk {
         input,
         kind: kinds::FUNCTION,
@@ -70,13 +74,13 @@ fn member(
 ) -> Result<Option<Member>, OutOfMemory>
     ensures { IfOk result (λ m. m ≡ member_with (places_seen places.entry) input imports own) }
 {
-    match own.kind {
-        member_kinds::DATA => Ok(Some(segment(places, input, own.index))),
-        member_kinds::FUNCTION => {
-            let found = function(places, input, own.index.saturating_sub(imports))?;
-            Ok(Some(found))
-        }
-        _ => Ok(None),
+    if own.kind == member_kinds::DATA {
+        Ok(Some(segment(places, input, own.index)))
+    } else if own.kind == member_kinds::FUNCTION {
+        let found = function(places, input, own.index.saturating_sub(imports))?;
+        Ok(Some(found))
+    } else {
+        Ok(None)
     }
 }
 

@@ -26,14 +26,24 @@ fn search(objects: &[Object], input: InputId) -> Option<usize>
     }
 }
 
+/// The input of the object at a place.
+fn input_at(objects: &[Object], place: usize) -> Option<InputId>
+    ensures { result ≡ option_map (λ o. o.input) (slice_get objects.now place) }
+{
+    match objects.get(place) {
+        Some(object) => Some(object.input),
+        None => None,
+    }
+}
+
 /// Whether the object of an input stands at a place.
 #[tactic(auto, using(crate::proofs::Owners::is_near))]
 fn is_at(objects: &[Object], place: usize, input: InputId) -> bool
     requires { InputsRise 0 objects.now }
     ensures { result ≡ true → slice_get objects.now place ≡ object_at objects.now input }
 {
-    match objects.get(place) {
-        Some(object) => object.input == input,
+    match input_at(objects, place) {
+        Some(own) => own == input,
         None => false,
     }
 }

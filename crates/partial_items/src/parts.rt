@@ -12,7 +12,7 @@ ghost use Rattle.partial_tree.specs.Relocs.{reloc_told};
 ghost use Rattle.partial_bytes.specs.Told.{PartFits, part_told};
 ghost use Rattle.partial_items.specs.Items.{given, part_given, parts_given};
 
-use partial_bytes::{Part, bytes_in};
+use partial_bytes::{Part, bytes_in, rows_are_windowed};
 use partial_tree::{Named, Program, Tables, Targets, part_at, reloc_of, relocs_are, row_at};
 use reloc_section::Reloc;
 use std::alloc::Global;
@@ -96,6 +96,7 @@ pub fn parts_of<'a>(
         → (map part_told ps ≡ map (partial.windowed p) (partial.kept p kind)) × All PartFits ps) }
 {
     relocs_are();
+    rows_are_windowed();
     let rows = parts_in(alloc, files, program.tables, relocs, parts)?;
     Ok(rows)
 }

@@ -43,7 +43,7 @@ fn put<'a>(
     symbols: &mut Seq<SymbolRow<'a>>,
     found: Option<SymbolRow<'a>>,
 ) -> Result<(), OutOfMemory>
-    ensures { OnOk result (symbols.new ≡ symbols.old ++ cons_option found []) }
+    ensures { OnOk result (symbols.new ≡ symbols.old ++ cons_option found.entry []) }
 {
     if let Some(symbol) = found {
         symbols.push(symbol)?;

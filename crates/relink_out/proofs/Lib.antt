@@ -1,3 +1,3 @@
 pub mod Chained
 pub mod Trees
-pub mod Judged
+pub mod Ends

@@ -1,7 +1,7 @@
 //! What of the object is held by its parts: groups, and the relocations of bodies and data segments.
-ghost use Rattle.std.specs.Prelude.{◌≡◌, IfOk};
+ghost use Rattle.std.specs.Prelude.{◌≡◌, map, IfOk};
 ghost use Rattle.partial_items.specs.link_program.name_entries.Fits.{FitsObjects};
-ghost use Rattle.relink_out.specs.Held.{AreHeld};
+ghost use Rattle.relink_out.specs.Held.{relocs_for, AreHeld};
 
 use crate::found::Found;
 use partial_items::{Entries, Places, Program, Targets, Won, groups_of, relocs_of};
@@ -18,6 +18,25 @@ pub struct Held {
     pub bodies: Lists<Reloc>,
     /// The relocations of each data segment.
     pub segments: Lists<Reloc>,
+}
+
+/// The relocations of kept parts, by the numbers of the parts.
+fn relocs_in(
+    alloc: Global,
+    program: Program<'_>,
+    found: &Found,
+    numbers: &[u32],
+    parts: &[u32],
+) -> Result<Lists<Reloc>, OutOfMemory>
+    ensures { IfOk result (λ rows. rows ≡ map (relocs_for program.entry found.now numbers.now) parts.now) }
+{
+    let targets = Targets {
+        standing: &found.standing,
+        symbols: program.tables.symbols.as_slice(),
+        types: numbers,
+    };
+    let rows = relocs_of(alloc, program.tables, targets, parts)?;
+    Ok(rows)
 }
 
 /// What is held by the parts of the object, by what was found and the numbers that the program's types have there. `entries` is the view of
@@ -40,18 +59,10 @@ pub fn held_of(
         functions: found.functions,
     };
     let groups = groups_of(alloc, places, entries)?;
-    let targets = Targets {
-        standing: &found.standing,
-        symbols: program.tables.symbols.as_slice(),
-        types: numbers,
-    };
-    let bodies = relocs_of(alloc, program.tables, targets, found.kept.functions())?;
-    let targets = Targets {
-        standing: &found.standing,
-        symbols: program.tables.symbols.as_slice(),
-        types: numbers,
-    };
-    let segments = relocs_of(alloc, program.tables, targets, found.kept.segments())?;
+    let functions = found.kept.functions();
+    let bodies = relocs_in(alloc, program, found, numbers, functions)?;
+    let segments = found.kept.segments();
+    let segments = relocs_in(alloc, program, found, numbers, segments)?;
     Ok(Held {
         groups,
         bodies,

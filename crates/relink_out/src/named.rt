@@ -44,7 +44,8 @@ pub fn named_of(
         functions: found.functions,
         globals: found.globals,
     };
-    let symbols = rows_of(alloc, look, entries, found.standing.symbols())?;
+    let standing = found.standing.symbols();
+    let symbols = rows_of(alloc, look, entries, standing)?;
     let exports = exports_of(alloc, program, &found.kept, found.functions)?;
     let inits = inits_of(alloc, &found.standing, entries)?;
     Ok(Named {

@@ -10,18 +10,20 @@ ghost use Rattle.partial_items.specs.link_program.Program.{IsProgram, IsProgramO
 ghost use Rattle.partial_items.specs.link_program.Stand.{PartsStand};
 ghost use Rattle.partial_items.specs.partial_rules.Relocatable.{relocatable_bytes};
 ghost use Rattle.partial_items.specs.partial_rules.Partial.{relocatable};
-ghost use Rattle.relink_out.specs.Made.{bytes_or, made_of};
+ghost use Rattle.relink_out.specs.Judged.{IsJudged};
+ghost use Rattle.relink_out.specs.Made.{made_of};
 
 use crate::found::found_of;
 use crate::held::held_of;
 use crate::named::named_of;
 use crate::typed::typed_of;
 use crate::whole::written_of;
-use partial_items::{Entries, LinkError, Program, refuse};
+use crate::writing::Judged;
+use partial_items::{Entries, LinkError, Program};
 use partial_open::open_local;
 use std::alloc::Global;
 use std::thread::Threads;
-use wl_base::Seq;
+use wl_base::{Fault, OutOfMemory, Seq};
 use wl_fan::Workers;
 
 /// The bytes of the object of a plain program, or how many there would be.
@@ -32,7 +34,7 @@ fn object<R: Threads + Sync>(
     entries: Entries<'_>,
     files: &[Seq<u8>],
     workers: Workers,
-) -> Result<Seq<u8>, LinkError>
+) -> Result<Judged, OutOfMemory>
     ghost p: { rules.Program }
     requires program { IsProgramOf Plain program p }
     requires strict { p.plan.loose_calls ≡ false }
@@ -42,17 +44,16 @@ fn object<R: Threads + Sync>(
     requires objects { entries.objects.now ≡ program.objects.now }
     requires names { entries.names.now ≡ program.names.now }
     requires files { files.now ≡ p.files }
-    ensures exact { Answers (λ bytes. bytes) result (bytes_or (relocatable_bytes (relocatable p))) }
-    ensures short { IfOk result (λ bytes. length bytes ≤ 2 ^ 30) }
+    ensures { IfOk result (IsJudged (relocatable_bytes (relocatable p))) }
 {
     let found = found_of(alloc, program, entries)?;
     let typed = typed_of(alloc, program, entries, &found)?;
     let named = named_of(alloc, program, entries, &found)?;
     let held = held_of(alloc, program, entries, &found, typed.numbers.as_slice())?;
-    let answer = written_of(
+    let judged = written_of(
         rt, alloc, program, entries, files, &found, &typed, &named, &held, workers,
-    );
-    answer
+    )?;
+    Ok(judged)
 }
 
 /// The object that a partial link makes of a program: all that is kept of the loaded objects, as one relocatable object of at most 2^30 bytes.
@@ -80,8 +81,17 @@ pub fn partial<R: Threads + Sync>(
     ensures exact { Answers (λ bytes. bytes) result (made_of p) }
     ensures short { IfOk result (λ bytes. length bytes ≤ 2 ^ 30) }
 {
-    let fault = open_local(alloc, entries)?;
-    refuse(fault)?;
-    let answer = object(rt, alloc, program, entries, files, workers);
-    answer
+    let Ok(fault) = open_local(alloc, entries) else {
+        return Err(LinkError::OutOfMemory);
+    };
+    if let Some(fault) = fault {
+        return Err(LinkError::Refused(fault));
+    }
+    let Ok(judged) = object(rt, alloc, program, entries, files, workers) else {
+        return Err(LinkError::OutOfMemory);
+    };
+    match judged {
+        Judged::Bytes(bytes) => Ok(bytes),
+        Judged::TooLong(needed) => Err(LinkError::Refused(Fault::PartialTooLong { needed })),
+    }
 }

@@ -39,17 +39,15 @@ pub fn typed_of(
         → AreFound p program.entry.names.now.names found.now → AreTyped program.entry p x) }
 {
     let functions = found.kept.functions();
-    let table = types_of(alloc, program, entries, found.opens.as_slice(), functions)?;
+    let opens = found.opens.as_slice();
+    let symbols = found.standing.symbols();
+    let all = program.tables.types.as_slice();
+    let table = types_of(alloc, program, entries, opens, functions)?;
     let mut types = TypeNumbers::new(table);
-    let numbers = type_numbers(alloc, &mut types, program.tables.types.as_slice())?;
-    let function_types = functions_of(alloc, program, numbers.as_slice(), functions)?;
-    let imports = imports_of(
-        alloc,
-        &mut types,
-        entries,
-        found.opens.as_slice(),
-        found.standing.symbols(),
-    )?;
+    let numbers = type_numbers(alloc, &mut types, all)?;
+    let own = numbers.as_slice();
+    let function_types = functions_of(alloc, program, own, functions)?;
+    let imports = imports_of(alloc, &mut types, entries, opens, symbols)?;
     Ok(Typed {
         types,
         numbers,

@@ -1,15 +1,14 @@
 //! The tree of the object, whose rows lend names and bytes.
-ghost use Rattle.std.specs.Prelude.{◌≡◌, ◌≤◌, ◌^◌, false, length, IfOk};
+ghost use Rattle.std.specs.Prelude.{◌≡◌, false, IfOk};
 ghost use Rattle.partial_items.specs.link_program.made_symbols.declared.mode.Mode.TheVariants.{Plain};
 ghost use Rattle.partial_items.specs.link_program.name_entries.View.{InputsRise};
 ghost use Rattle.partial_items.specs.link_program.name_entries.Fits.{FitsObjects};
 ghost use Rattle.partial_items.specs.link_program.link_rules.Program as rules;
-ghost use Rattle.partial_items.specs.link_program.Answers.{Answers};
 ghost use Rattle.partial_items.specs.link_program.Program.{IsProgramOf};
 ghost use Rattle.partial_items.specs.link_program.Stand.{PartsStand};
 ghost use Rattle.partial_items.specs.partial_rules.Relocatable.{relocatable_bytes};
 ghost use Rattle.partial_items.specs.partial_rules.Partial.{relocatable};
-ghost use Rattle.relink_out.specs.Made.{bytes_or};
+ghost use Rattle.relink_out.specs.Judged.{IsJudged};
 ghost use Rattle.relink_out.specs.Found.{AreFound};
 ghost use Rattle.relink_out.specs.Typed.{AreTyped};
 ghost use Rattle.relink_out.specs.Named.{AreNamed};
@@ -19,13 +18,13 @@ use crate::found::Found;
 use crate::held::Held;
 use crate::named::Named;
 use crate::typed::Typed;
-use crate::writing::write;
+use crate::writing::{Judged, write};
 use partial_items::{
-    Entries, LinkError, Program, Tree, globals_of, group_rows, infos_of, parts_of, symbols_of,
+    Entries, Program, Tree, globals_of, group_rows, infos_of, parts_of, symbols_of,
 };
 use std::alloc::Global;
 use std::thread::Threads;
-use wl_base::Seq;
+use wl_base::{OutOfMemory, Seq};
 use wl_fan::Workers;
 
 /// The bytes of the object, or how many there would be, by what was found and made. `entries` is the view of the program's objects, and these are
@@ -41,7 +40,7 @@ pub fn written_of<R: Threads + Sync>(
     named: &Named,
     held: &Held,
     workers: Workers,
-) -> Result<Seq<u8>, LinkError>
+) -> Result<Judged, OutOfMemory>
     ghost p: { rules.Program }
     requires program { IsProgramOf Plain program p }
     requires strict { p.plan.loose_calls ≡ false }
@@ -54,8 +53,7 @@ pub fn written_of<R: Threads + Sync>(
     requires typed { AreTyped program p typed.now }
     requires named { AreNamed p named.now }
     requires held { AreHeld program found.now typed.now.numbers held.now }
-    ensures exact { Answers (λ bytes. bytes) result (bytes_or (relocatable_bytes (relocatable p))) }
-    ensures short { IfOk result (λ bytes. length bytes ≤ 2 ^ 30) }
+    ensures { IfOk result (IsJudged (relocatable_bytes (relocatable p))) }
 {
     let globals = globals_of(alloc, program, files, found.kept.globals())?;
     let bodies = parts_of(alloc, program, files, &held.bodies, found.kept.functions())?;
@@ -76,6 +74,6 @@ pub fn written_of<R: Threads + Sync>(
         inits: named.inits.as_slice(),
         groups: groups.as_slice(),
     };
-    let answer = write(rt, alloc, &tree, workers);
-    answer
+    let judged = write(rt, alloc, &tree, workers)?;
+    Ok(judged)
 }
