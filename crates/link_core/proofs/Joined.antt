@@ -63,10 +63,10 @@ module _ (plan : Plan) (files : List (List ℕ)) where
         → Answers r (partial_program (program_of Plain plan files (the_candidates plan files) i.loaded)) → Answers r (joined plan files)
     goes_on_joined i r are said =
         let objects : load Plain [] (the_candidates plan files) ≡ Ok i.loaded
-            = ap (λ (asked : List (List ℕ)). load Plain asked (the_candidates plan files)) (sym bare.asked) ∙ given plan files i mode_is are in
+        = ap (λ (asked : List (List ℕ)). load Plain asked (the_candidates plan files)) (sym bare.asked) ∙ given plan files i mode_is are in
         let whole : joined plan files ≡ next (the_candidates plan files) i.loaded
-            = ap (λ (r : Result (List Candidate) Fault). r >>= λ all. load Plain [] all >>= λ objects. next all objects) are.candidates
-            ∙ ap (λ (r : Result (List Object) Fault). r >>= λ objects. next (the_candidates plan files) objects) objects in
+        = ap (λ (r : Result (List Candidate) Fault). r >>= λ all. load Plain [] all >>= λ objects. next all objects) are.candidates
+        ∙ ap (λ (r : Result (List Object) Fault). r >>= λ objects. next (the_candidates plan files) objects) objects in
         subst (Answers r) (sym whole) said
 
 -- ---- what is made of what is found

@@ -1,5 +1,6 @@
 use Rattle.std.proofs.Common.{sym, ap, ◌∙◌, map}
 use Rattle.partial_items.specs.partial_symbols.Known.{symbol_there}
+use Rattle.partial_items.specs.partial_imports.Opens.{open_seen}
 use Rattle.relink_out.proofs.found.found_of.Goals as goal
 
 pub returns : goal.returns
@@ -12,6 +13,6 @@ returns c = λ p is.
       standing = standing;
       kept = c.in_ok-kept.ensures p is;
       opens = opens;
-      functions = c.in_ok-functions.ensures p opens;
-      globals = c.in_ok-globals.ensures p opens;
+      functions = c.in_ok-functions.ensures p (ap (map (open_seen p.objects)) c.as_slice.ensures ∙ opens);
+      globals = c.in_ok-globals.ensures p (ap (map (open_seen p.objects)) c.as_slice-2.ensures ∙ opens);
     }
