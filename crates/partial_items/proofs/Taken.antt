@@ -1,5 +1,5 @@
 -- The imports that are made of open names are those of the definition.
-use Rattle.std.proofs.Common.{◌≡◌, ℕ, zero, suc, ◌+◌, ◌<◌, ◌≤◌, ◌==◌, Bool, true, false, ◌&&◌, cond, List, [], ◌∷◌, map, filter, filter_map, find, drop, length, get_or, slice_get, Option, Some, None, option_map, option_and_then, unwrap_or, refl, sym, ap, ◌∙◌, arith}
+use Rattle.std.proofs.Common.{◌≡◌, ℕ, zero, suc, ◌+◌, ◌<◌, ◌≤◌, ◌==◌, Bool, true, false, ◌&&◌, cond, List, [], ◌∷◌, ◌++◌, take, map, filter, filter_map, find, drop, length, get_or, slice_get, Option, Some, None, option_map, option_and_then, unwrap_or, refl, sym, ap, ◌∙◌, arith}
 use Rattle.std.specs.Prelude.{if◌then◌else◌, codes}
 use Rattle.std.specs.List.{cons_option}
 use Rattle.std.proofs.lemmas.Option.{slice_get-map, same_Some, none-some, get_or_from_slice_get}
@@ -24,6 +24,7 @@ use Rattle.partial_tree.specs.partial_symbols.Known.{entry_spot, symbol_there, i
 use Rattle.partial_types.specs.partial_imports.declared.opens.Open.{Open}
 use Rattle.partial_types.specs.partial_imports.Opens.{SeenOpen, open_seen, told_open}
 use Rattle.partial_types.specs.Added.{symbol_type}
+use Rattle.partial_items.proofs.Listed.{found_more}
 use Rattle.partial_items.specs.Imports.{kind_with, kind_there, import_with, own_import, import_by, import_told, spot_at, table_spot, table_at, first_table, same_spot, takes_import, import_if}
 
 -- ---- the first that is there, looked for from place to place
@@ -46,6 +47,13 @@ module _ {A B : Type 0} (f : A → Option B) where
 
   pub first_none : (xs : List A) (i : ℕ) (whole : Option B) → length xs ≤ i → first_some (map f (drop i xs)) ≡ whole → None ≡ whole
   first_none xs i whole past so_far = sym (ap (λ ys. first_some (map f ys)) (drop_of_length-le xs past)) ∙ so_far
+
+-- one import more that may be found
+pub imports_more : (types now : List FuncType) (objects : List Object) (table : Option Spot) (opens : List Open) (i : ℕ) (d : Open) → i < length opens → (old new : List Import) (found : Option Import) → now ≡ types
+    → new ≡ old ++ cons_option found [] → found ≡ import_if now objects table (get_or opens i d) → old ≡ memory_import ∷ filter_map (import_if types objects table) (take i opens)
+    → new ≡ memory_import ∷ filter_map (import_if types objects table) (take (i + 1) opens)
+imports_more types now objects table opens i d lt old new found same put is so_far =
+    found_more (import_if types objects table) opens i d lt (memory_import ∷ []) old new found put (is ∙ ap (λ ts. import_if ts objects table (get_or opens i d)) same) so_far
 
 -- ---- the type of an import is that of the symbol that stands on it
 
