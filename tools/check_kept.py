@@ -33,6 +33,7 @@ def unfolded(entry):
     with open(f"{entry}/made.json", encoding="utf-8") as text:
         made = json.load(text)
     room = f"{place}.{os.getpid()}"
+    os.makedirs(room, exist_ok=True)
     for number, (path, _) in enumerate(made["files"]):
         os.makedirs(os.path.dirname(f"{room}/{path}"), exist_ok=True)
         climb.linked(f"{entry}/{number}", f"{room}/{path}")
@@ -40,7 +41,7 @@ def unfolded(entry):
         os.rename(room, place)
     except OSError:
         # another check was quicker
-        shutil.rmtree(room)
+        shutil.rmtree(room, ignore_errors=True)
     return place
 
 
