@@ -149,6 +149,16 @@ libraries() {
   expect "a library without members is no fault" cc uses_library.o -lm -Ltwo -lsmall -Wl,--start-group -lc -Wl,--end-group -o group.wasm
 }
 
+# Objects that a driver joins into one, which is linked in their place.
+joined_objects() {
+  clang --target=wasm32-wasi -O2 -c "$real/order.c" "$real/order_other.c"
+  expect "clang -r joins objects" cc -r -nostdlib order.o order_other.o -o joined.o
+  expect "and links what is joined" cc joined.o -o by_part.wasm
+  expect "objects are linked" cc order.o order_other.o -o by_parts.wasm
+  expect "to the same module" cmp by_part.wasm by_parts.wasm
+  expect "an entry that is asked for is refused there" is_refused -r --entry=main order.o -o no.o
+}
+
 # So many objects that their names can stand in a file alone, and that clang puts them into one.
 many_objects() {
   mkdir many
@@ -377,6 +387,7 @@ by_rustc() {
 programs_of_c
 programs_of_cpp
 libraries
+joined_objects
 many_objects
 refusals
 other_types

@@ -127,6 +127,7 @@ expect "a bad number" ends 2 "wasmld: usage: BadNumber at word 0" --global-base=
 expect "a bad number of workers" ends 2 "wasmld: usage: BadThreads at word 1" a.o --threads=65 -o c.wasm
 expect "an open group" ends 2 "wasmld: usage: OpenGroup at word 0" --start-lib a.o -o c.wasm
 expect "a generated case and an input" ends 2 "wasmld: usage: CaseAndInput" --make-case=2 a.o
+expect "a partial link of a generated case" ends 2 "wasmld: usage: PartialClash" --make-case=2 -r
 expect "a word that isn't UTF-8" ends 2 "wasmld: usage: a word is not UTF-8" $'a\xff.o' -o c.wasm "${f[@]}"
 
 # Files.
