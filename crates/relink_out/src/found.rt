@@ -46,8 +46,9 @@ pub fn found_of(
     let standing = standing_of(alloc, program, entries, &sight)?;
     let kept = kept_of(alloc, program)?;
     let opens = opens_of(alloc, &sight, entries, standing.symbols())?;
-    let functions = count_of(opens.as_slice(), SymbolKind::Function)?;
-    let globals = count_of(opens.as_slice(), SymbolKind::GlobalVar)?;
+    let list = opens.as_slice();
+    let functions = count_of(list, SymbolKind::Function)?;
+    let globals = count_of(list, SymbolKind::GlobalVar)?;
     Ok(Found {
         sight,
         standing,

@@ -8,11 +8,12 @@ returns c = λ p is.
     let sight = c.in_ok-sight.ensures p is in
     let standing = c.in_ok-standing.ensures p is sight in
     let opens = c.in_ok-opens.ensures c.args.program p is (sym c.requires.objects) (sym c.requires.names) sight (ap (map (symbol_there p.objects)) c.symbols.ensures ∙ standing.symbols) in
+    let list = ap (map (open_seen p.objects)) c.as_slice-list.ensures ∙ opens in
     record {
       sight = sight;
       standing = standing;
       kept = c.in_ok-kept.ensures p is;
       opens = opens;
-      functions = c.in_ok-functions.ensures p (ap (map (open_seen p.objects)) c.as_slice.ensures ∙ opens);
-      globals = c.in_ok-globals.ensures p (ap (map (open_seen p.objects)) c.as_slice-2.ensures ∙ opens);
+      functions = c.in_ok-functions.ensures p list;
+      globals = c.in_ok-globals.ensures p list;
     }
