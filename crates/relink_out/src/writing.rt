@@ -1,7 +1,7 @@
 //! The bytes of the object, unless they are too many.
 ghost use Rattle.std.specs.Prelude.{◌≡◌, IfOk};
 ghost use Rattle.partial_items.specs.partial_rules.Relocatable.{relocatable_bytes};
-ghost use Rattle.partial_bytes.specs.Told.{tree_told, TreeFits};
+ghost use Rattle.partial_items.specs.partial_bytes.Told.{tree_told, TreeFits};
 ghost use Rattle.relink_out.specs.Judged.{IsJudged};
 
 use partial_items::{Tree, measure, written};
