@@ -6,12 +6,11 @@ use Rattle.link_output.specs.link_program.wl_base.declared.fault.Fault.{Fault}
 use Rattle.link_output.specs.link_program.object_file.declared.object.Object.{Object}
 use Rattle.link_output.specs.link_program.made_symbols.declared.mode.Mode.TheVariants.{Plain}
 use Rattle.link_output.specs.link_program.round_rules.Rounds.{Candidate, load}
-use Rattle.link_output.specs.link_program.name_rules.Cases.{clash_by, duplicate}
 use Rattle.link_output.specs.link_program.link_plan.declared.plan.Plan.{Plan}
 use Rattle.link_output.specs.link_program.link_rules.Candidates.{candidates_of}
 use Rattle.link_output.specs.link_program.link_rules.ModeOf.{mode_of, plain_mode, IsPlain}
 use Rattle.link_output.specs.link_program.link_rules.Program.{Program, program_of}
-use Rattle.link_output.specs.link_program.link_rules.LinkOf.{asked_names, the_readers, too_many_names}
+use Rattle.link_output.specs.link_program.link_rules.LinkOf.{asked_names, the_readers}
 use Rattle.link_output.specs.link_program.declared.error.LinkError.{LinkError}
 use Rattle.link_output.specs.link_program.declared.error.LinkError.TheVariants.{Refused, OutOfMemory}
 use Rattle.link_output.specs.link_program.Answers.{Fails, Answers as Told}
@@ -28,7 +27,6 @@ use Rattle.link_core.specs.Answers.{Answers, IsShort}
 use Rattle.link_core.specs.Loading.{Loading, program_in}
 use Rattle.link_core.proofs.Answering.{fails_by}
 use Rattle.link_core.proofs.Opened.{given, not_given}
-use Rattle.link_core.proofs.Steps.{named_by}
 
 -- ---- loading
 
@@ -36,7 +34,7 @@ module _ (plan : Plan) (files : List (List ℕ)) where
   abbrev next : List Candidate → List Object → Result (List ℕ) Fault
   next all objects = partial_program (program_of Plain plan files all objects)
 
-  failed : Result (List Object) Fault → Result (List ℕ) Fault
+  abbrev failed : Result (List Object) Fault → Result (List ℕ) Fault
   failed (Ok objects) = Ok []
   failed (Err g) = Err g
 
@@ -73,7 +71,7 @@ module _ (plan : Plan) (files : List (List ℕ)) where
 
 module _ (law : PartialIsMade) (p : Program) (strict : p.plan.loose_calls ≡ false) where
   made_by : (r : Result Program Fault) → found_of p ≡ r → partial_program p ≡ (r >>= made_of)
-  made_by r e = law p strict ∙ named_by p (λ p. clash_by p.plan.loose_calls p.entries) (λ p. duplicate p.entries) made_of r (too_many_names p) e
+  made_by r e = law p strict ∙ ap (λ (q : Result Program Fault). q >>= made_of) e
 
   by_find : (plan : Plan) (objects : List Object) (e : LinkError) → Finds Plain (Err e) plan objects p → Answers (Err e) (partial_program p)
   by_find plan objects (Refused f) finds = made_by (Err f) finds

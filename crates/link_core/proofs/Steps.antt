@@ -75,7 +75,7 @@ module _ (p : Program) (b c : Program → Option Fault) (next : Program → Resu
   second (Some f) e = ap (λ (r : Result Program Fault). r >>= next) e
   second None e = third (c p) e
 
-  pub named_by : (oa : Option Fault) → (unless oa p >>= λ p. unless (b p) p >>= λ p. unless (c p) p) ≡ r
+  named_by : (oa : Option Fault) → (unless oa p >>= λ p. unless (b p) p >>= λ p. unless (c p) p) ≡ r
       → (unless oa p >>= λ p. unless (b p) p >>= λ p. unless (c p) p >>= next) ≡ (r >>= next)
   named_by (Some f) e = ap (λ (r : Result Program Fault). r >>= next) e
   named_by None e = second (b p) e

@@ -4,6 +4,7 @@ use Rattle.link_output.specs.link_program.made_symbols.declared.mode.Mode.TheVar
 use Rattle.link_output.specs.link_program.link_rules.ModeOf.{plain_mode}
 use Rattle.link_output.specs.link_program.Loaded.{IsLoaded}
 use Rattle.program_build.specs.Found.{Finds}
+use Rattle.relink_out.specs.Made.{made_of}
 use Rattle.link_core.specs.Linking.{IsLinking}
 use Rattle.link_core.specs.Loading.{program_in}
 use Rattle.link_core.proofs.Joined.{strict_in, plainly_in, find_refuses, goes_on_made, answer_of, short_of}
@@ -55,7 +56,7 @@ returns-clause-exact g c =
     let same = c.requires.1.1.1.1.1.1.0 in
     let found = finds plan g.l.origin objects (Ok c.in_ok-found.found) (plain_mode plan bare.plain) c.in_ok-found.ensures in
     let all = all_found g.l plan c.args.inputs.now.loaded objects same c.requires.1.1.1.1.1.1.1.1.0 c.objects-objects.ensures found.0 in
-    goes_on_made c.partial_is_made.ensures (program_in g.l) (strict_in g.l plan same bare.strict) c.partial-answer.result all (answer_of c.partial-answer.result _ c.partial-answer.ensures.exact)
+    goes_on_made c.partial_is_made.ensures (program_in g.l) (strict_in g.l plan same bare.strict) c.partial-answer.result all (answer_of c.partial-answer.result (made_of (program_in g.l)) c.partial-answer.ensures.exact)
 
 pub returns-clause-short : goal.returns-clause-short
 returns-clause-short g c = short_of c.partial-answer.result c.partial-answer.ensures.short
