@@ -61,6 +61,7 @@ fn object<R: Threads + Sync>(
 /// The program is that of a plan that asks for a plain output without loose calls, as that of a partial link does. Its names are in order (`find` of
 /// program_build refuses others). `entries` is the view of its objects, and these are its files. It is refused by a reference of a kept part to a local
 /// symbol of one that isn't kept, or by its length.
+#[tactic(auto, using(crate::proofs::Ends::is_refused, crate::proofs::Ends::is_bytes, crate::proofs::Ends::is_long))]
 pub fn partial<R: Threads + Sync>(
     rt: &R,
     alloc: Global,

@@ -5,8 +5,8 @@ use Rattle.partial_items.specs.link_program.link_rules.ModeOf.{plain_mode}
 use Rattle.partial_items.specs.link_program.Program.{IsProgramOf}
 use Rattle.relink_out.proofs.relink.partial.Goals as goal
 
-pub object-answer-requires : goal.object-answer-requires
-object-answer-requires g c κs within =
+pub object-requires : goal.object-requires
+object-requires g c κs within =
     let is : IsProgramOf Plain c.args.program g.p = subst (λ m. IsProgramOf m c.args.program g.p) (plain_mode g.p.plan c.requires.1.1.1.0) c.requires.1.1.0 in
     let strict = c.requires.1.1.1.1.0 in
     let stand = c.requires.1.1.1.1.1.0 in
