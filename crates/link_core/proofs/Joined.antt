@@ -1,6 +1,6 @@
 -- The steps of a partial link.
-use Rattle.std.proofs.Common.{◌≡◌, ◌∙◌, ◌≤◌, ◌^◌, ℕ, List, [], false, sym, ap, subst, length, arith, Result, Ok, Err}
-use Rattle.std.specs.Prelude.{IfOk}
+use Rattle.std.proofs.Common.{◌≡◌, ◌∙◌, ◌≤◌, ◌^◌, ℕ, Bool, List, [], true, false, sym, ap, subst, length, arith, Result, Ok, Err}
+use Rattle.std.specs.Prelude.{IfOk, if◌then◌else◌}
 use Rattle.link_output.specs.link_program.wl_base.Choice.{◌>>=◌}
 use Rattle.link_output.specs.link_program.wl_base.declared.fault.Fault.{Fault}
 use Rattle.link_output.specs.link_program.object_file.declared.object.Object.{Object}
@@ -19,12 +19,16 @@ use Rattle.debug_links.specs.valid_links.link_runs.link_inputs.Inputs.{loaded_of
 use Rattle.debug_links.specs.valid_links.link_runs.link_inputs.Loaded.{AreInputs}
 use Rattle.debug_links.specs.valid_links.link_runs.link_inputs.declared.inputs.Inputs.{Inputs}
 use Rattle.program_build.specs.Found.{Finds, found_of}
-use Rattle.partial_rules.specs.PartialLink.{partial_program}
+use Rattle.mismatch_rules.specs.declared.mismatch.Mismatch.{Mismatch}
+use Rattle.called_variants.specs.Called.{calls_told_of}
+use Rattle.partial_rules.specs.PartialLink.{partial_program, partial_of}
 use Rattle.partial_inputs.specs.Refused.{IsBare, joined}
 use Rattle.relink_out.specs.Made.{made_of}
 use Rattle.relink_out.specs.Laws.{PartialIsMade}
 use Rattle.link_core.specs.Answers.{Answers, IsShort}
+use Rattle.link_core.specs.Linked.{linked}
 use Rattle.link_core.specs.Loading.{Loading, program_in}
+use Rattle.link_core.specs.Whole.{whole_link, told_calls}
 use Rattle.link_core.proofs.Answering.{fails_by}
 use Rattle.link_core.proofs.Opened.{given, not_given}
 
@@ -103,3 +107,22 @@ answer_of (Err e) said told = told
 pub short_of : (r : Result (List ℕ) LinkError) → IfOk r (λ bytes. length bytes ≤ 2 ^ 30) → IsShort r
 short_of (Ok bytes) few = omega (arith, few)
 short_of (Err e) few = tt
+
+-- ---- the whole link
+
+module _ (plan : Plan) (files : List (List ℕ)) where
+  pub whole_partial : plan.partial ≡ true → whole_link plan files ≡ partial_of plan files
+  unfolding whole_link
+  whole_partial asked = ap (λ asked. if asked then partial_of plan files else linked plan files) asked
+
+  pub whole_module : plan.partial ≡ false → whole_link plan files ≡ linked plan files
+  unfolding whole_link
+  whole_module not = ap (λ asked. if asked then partial_of plan files else linked plan files) not
+
+  pub told_partial : plan.partial ≡ true → told_calls plan files ≡ []
+  unfolding told_calls
+  told_partial asked = ap (λ (asked : Bool). let none : List Mismatch = [] in if asked then none else calls_told_of plan files) asked
+
+  pub told_module : plan.partial ≡ false → told_calls plan files ≡ calls_told_of plan files
+  unfolding told_calls
+  told_module not = ap (λ (asked : Bool). let none : List Mismatch = [] in if asked then none else calls_told_of plan files) not

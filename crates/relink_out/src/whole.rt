@@ -55,11 +55,14 @@ pub fn written_of<R: Threads + Sync>(
     requires held { AreHeld program found.now typed.now.numbers held.now }
     ensures { IfOk result (IsJudged (relocatable_bytes (relocatable p))) }
 {
+    let functions = found.kept.functions();
+    let segments = found.kept.segments();
     let globals = globals_of(alloc, program, files, found.kept.globals())?;
-    let bodies = parts_of(alloc, program, files, &held.bodies, found.kept.functions())?;
-    let segments = parts_of(alloc, program, files, &held.segments, found.kept.segments())?;
-    let infos = infos_of(alloc, program, found.kept.segments())?;
-    let symbols = symbols_of(alloc, entries, named.symbols.as_slice())?;
+    let bodies = parts_of(alloc, program, files, &held.bodies, functions)?;
+    let blocks = parts_of(alloc, program, files, &held.segments, segments)?;
+    let infos = infos_of(alloc, program, segments)?;
+    let rows = named.symbols.as_slice();
+    let symbols = symbols_of(alloc, entries, rows)?;
     let groups = group_rows(alloc, program.objects, &held.groups)?;
     let tree = Tree {
         types: typed.types.types(),
@@ -68,7 +71,7 @@ pub fn written_of<R: Threads + Sync>(
         globals: globals.as_slice(),
         exports: named.exports.as_slice(),
         bodies: bodies.as_slice(),
-        segments: segments.as_slice(),
+        segments: blocks.as_slice(),
         infos: infos.as_slice(),
         symbols: symbols.as_slice(),
         inits: named.inits.as_slice(),
