@@ -1,0 +1,12 @@
+pub mod Inputs
+pub mod Joined
+pub mod Joining
+pub mod Kept
+pub mod Loaded
+pub mod Names
+pub mod Opens
+pub mod PartialThenLink
+pub mod PremiseRows
+pub mod Premises
+pub mod Programs
+pub mod Standing
