@@ -111,19 +111,30 @@ fn spoiled(
 
 // ---- an object is written as it was read
 
-fn bytes_are_written<R: Threads + Sync>(
+fn rows_are_written<R: Threads + Sync>(
     rt: &R,
     alloc: Global,
     object: &Object,
     owned: &Owned,
-    bytes: &[u8],
+    rows: &Rows<'_>,
     made: &[u8],
 ) -> bool {
-    match rows_of(alloc, object, bytes, &owned.relocs) {
-        Ok(rows) => {
-            let tree = tree_of(object, owned, &rows);
-            is_written(rt, alloc, &tree, made)
-        }
+    let tree = tree_of(object, owned, rows);
+    is_written(rt, alloc, &tree, made)
+}
+
+fn bytes_are_written<'a, R: Threads + Sync>(
+    rt: &R,
+    alloc: Global,
+    object: &'a Object,
+    owned: &'a Owned,
+    bytes: &'a [u8],
+    made: &[u8],
+) -> bool {
+    let relocs = &owned.relocs;
+    let read = rows_of(alloc, object, bytes, relocs);
+    match read {
+        Ok(rows) => rows_are_written(rt, alloc, object, owned, &rows, made),
         Err(_) => false,
     }
 }
