@@ -4,7 +4,7 @@ use Rattle.leb_codec.specs.Shortest.{u32_padded, s32_padded}
 use Rattle.wl_base.specs.declared.fault.What.TheVariants.{Reference}
 use Rattle.wl_base.specs.declared.layout_error.LayoutError.TheVariants.{Overflow}
 use Rattle.reloc_apply.specs.declared.window.Form.TheVariants.{Unsigned5, Signed5, Word4}
-use Rattle.reloc_apply.specs.Windows.{bits32, filled, spelled, patches_of, value_overflow}
+use Rattle.reloc_apply.specs.Windows.{bits32, filled, spelled, patches_of, held_on, value_overflow}
 
 -- windows at 1 and 8 of twelve bytes
 two_windows : filled (record { place = 1; form = Unsigned5; value = 1 } ∷ record { place = 8; form = Word4; value = 258 } ∷ []) (replicate 12 0xFF)
@@ -36,3 +36,10 @@ below_0 : patches_of (record { place = 0; form = Unsigned5; target = pos 1; adde
     ≡ Err (Overflow Reference (negsuc 0))
 unfolding patches_of value_overflow
 below_0 = refl
+
+-- a window of data whose value is stored when the output is loaded holds 0 until then; the value is judged all the same
+held : held_on [] (record { place = 3; form = Word4; target = pos 1024; addend = pos 4 }) ≡ Ok (record { place = 3; form = Word4; value = 0 } ∷ [])
+held = refl
+
+held_out_of_range : held_on [] (record { place = 3; form = Word4; target = pos (2 ^ 32); addend = pos 0 }) ≡ Err (Overflow Reference (pos (2 ^ 32)))
+held_out_of_range = refl

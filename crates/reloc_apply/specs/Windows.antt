@@ -82,6 +82,14 @@ patches_from (w ∷ ws) = do
 abbrev pub patched_on : List Patch → List Window → Result (List Patch) LayoutError
 patched_on front ws = patches_from ws >>= λ xs. Ok (front ++ xs)
 
+-- what is written for a window whose value is stored when the output is loaded (DynamicLinking.md), or its value, if that is out of range
+abbrev pub held_at : Window → Result Patch LayoutError
+held_at w = if fits w then Ok (record { place = w.place; form = w.form; value = 0 }) else Err (Overflow Reference (value w))
+
+-- the same behind other patches
+abbrev pub held_on : List Patch → Window → Result (List Patch) LayoutError
+held_on front w = held_at w >>= λ x. Ok (front ++ x ∷ [])
+
 -- what is there behind a call that puts patches behind others
 abbrev pub Puts : {A : Type 0} → Result A LayoutError → List Patch → Result (List Patch) LayoutError → Type 0
 Puts (Ok a) now said = said ≡ Ok now

@@ -1,7 +1,7 @@
 //! The value of each window.
 ghost use Rattle.std.specs.Prelude.{◌≡◌, ◌-◌, ◌^◌, ◌≤ℤ◌, ◌<ℤ◌, ◌+ℤ◌, pos, negsuc, [], ◌∷◌, All, IfOk, OnErr};
 ghost use Rattle.wl_base.specs.Answers.{Answers};
-ghost use Rattle.reloc_apply.specs.Windows.{IsSum, patches_of, patches_from, patch_at, patched_on, Puts, bits32, fits_form};
+ghost use Rattle.reloc_apply.specs.Windows.{IsSum, patches_of, patches_from, patch_at, patched_on, held_at, held_on, Puts, bits32, fits_form};
 
 use crate::{Form, Patch, Patches, Window};
 use std::alloc::Global;
@@ -63,6 +63,41 @@ impl Patches {
         self.patches.push(patch)?;
         Ok(())
     }
+
+    /// Puts a 0 behind the others, for a window whose value is stored when the output is loaded (DynamicLinking.md). Where it is refused they
+    /// stay as they were.
+    ///
+    /// # Errors
+    ///
+    /// As of `push`: `Overflow` with `Reference` exactly where the value is out of the range of its form. `OutOfMemory`.
+    pub fn push_held(&mut self, window: &Window) -> Result<(), LayoutError>
+        requires { IsSum window.now }
+        ensures put { Puts result self.new.patches (held_on self.old.patches window.now) }
+        ensures refused { OnErr result (self.new ≡ self.old) }
+    {
+        let patch = held(window)?;
+        self.patches.push(patch)?;
+        Ok(())
+    }
+}
+
+// A 0 in the window, where its value is in range.
+fn held(window: &Window) -> Result<Patch, LayoutError>
+    requires { IsSum window.now }
+    ensures { Answers result (held_at window.now) }
+{
+    let value = sum(window.target, window.addend);
+    if !fits(window.form, value) {
+        return Err(LayoutError::Overflow {
+            what: What::Reference,
+            needed: value,
+        });
+    }
+    Ok(Patch {
+        place: window.place,
+        form: window.form,
+        value: 0,
+    })
 }
 
 fn patch(window: &Window) -> Result<Patch, LayoutError>
