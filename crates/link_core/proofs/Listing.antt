@@ -182,8 +182,10 @@ module _ (plan : Plan) (objects : List Object) (f : Found) (p : Program) (is : I
     pub view_resolved : p.resolved ≡ resolve Plain p.plan.allow_undefined (entries Plain view.objects.now) view.objects.now
     view_resolved = resolved_are ∙ ap (λ os. resolve Plain p.plan.allow_undefined (entries Plain os) os) (sym same)
 
-    pub view_resolution : IsResolution f.resolution (resolve Plain p.plan.allow_undefined (entries Plain view.objects.now) view.objects.now)
-    view_resolution = subst (IsResolution f.resolution) view_resolved is.resolution
+    pub view_resolution : IsResolution Plain (entries Plain view.objects.now) f.resolution (resolve Plain p.plan.allow_undefined (entries Plain view.objects.now) view.objects.now)
+    view_resolution =
+        subst (λ es. IsResolution Plain es f.resolution (resolve Plain p.plan.allow_undefined (entries Plain view.objects.now) view.objects.now)) view_entries
+        (subst (IsResolution Plain p.entries f.resolution) view_resolved is.resolution)
 
 pub finds_by : (plan : Plan) (objects : List Object) (p : Program) (e x : LinkError) → x ≡ e → Finds Plain (Err e) plan objects p → Finds Plain (Err x) plan objects p
 finds_by plan objects p e x is finds = subst (λ x. Finds Plain (Err x) plan objects p) (sym is) finds

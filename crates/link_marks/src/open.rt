@@ -135,7 +135,8 @@ fn first_open<R: Threads + Sync>(
     workers: Workers,
 ) -> Result<Option<Fault>, OutOfMemory>
     requires inputs { InputsRise 0 program.objects.now }
-    requires meant { IsResolution program.resolution.now (resolve (mode_of program.plan.now) program.plan.now.allow_undefined (entries (mode_of program.plan.now) program.objects.now) program.objects.now) }
+    requires meant { IsResolution (mode_of program.plan.now) (entries (mode_of program.plan.now) program.objects.now) program.resolution.now
+        (resolve (mode_of program.plan.now) program.plan.now.allow_undefined (entries (mode_of program.plan.now) program.objects.now) program.objects.now) }
     requires live { live.now.set.chunks ≡ length program.tables.now.chunks }
     ensures { IfOk result (λ f. f ≡ open_fault program.entry.objects.now (first_unresolved_of program.entry.objects.now program.entry.resolution.now.rows live.now.set.words program.entry.tables.now.chunks)) }
 {

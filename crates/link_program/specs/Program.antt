@@ -64,7 +64,7 @@ pub record IsProgramOf (mode : Mode) (d : Program) (p : rules.Program) : Type 0 
   pub order : d.names.now.names ≡ different_names mode (asked_names p.plan ++ p.plan.exports_if) p.objects ++ variant_names p.variants
   pub apart : All (λ v. list_any (bytes_eq (name_of v)) (different_names mode (asked_names p.plan ++ p.plan.exports_if) p.objects) ≡ false) p.variants
   pub ranks : WinnersAre d.names.now.names p.entries d.ranks.now
-  pub resolution : IsResolution d.resolution.now p.resolved
+  pub resolution : IsResolution mode p.entries d.resolution.now p.resolved
   pub imports : d.resolution.now.imports ≡ all_imports mode p
   -- what is looked up
   pub tables : AreTables d.names.now.names d.resolution.now.imports d.tables.now p

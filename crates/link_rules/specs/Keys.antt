@@ -13,11 +13,12 @@ use Rattle.made_symbols.specs.declared.mode.Mode.TheVariants.{Plain, Shared}
 use Rattle.name_rules.specs.Entries.{InputSymbol, ImportKey, SymbolType, of_function, of_global, untyped, is_kind, name_of, same_entry, same_import}
 use Rattle.name_rules.specs.Cases.{first_entry}
 use Rattle.name_rules.specs.Meanings.{Meaning, here, imported, null, nothing, cell_of}
+use Rattle.name_rules.specs.Further.{is_here, made_global_import, further_imports}
 use Rattle.mark_bits.specs.declared.kinds.TheConstants as chunks
 use Rattle.type_merge.specs.Types.{merged}
 use Rattle.index_layout.specs.Numbers.{number_by}
-use Rattle.link_rules.specs.Program.{Program, Part, Content, function, segment, global, linker_made, Ref, types_named, option_onto}
-use Rattle.link_rules.specs.Marks.{refs_of, is_here, is_foreign_symbol, is_foreign, reads_cell, by_mode}
+use Rattle.link_rules.specs.Program.{Program, Part, Content, function, segment, global, linker_made, Ref, types_named}
+use Rattle.link_rules.specs.Marks.{refs_of, is_foreign, reads_cell, by_mode}
 
 -- A function of the output: an import; one that the linker makes, by its number; the stub of a null name; or one that an object
 -- defines, by its input and its place among that object's definitions.
@@ -130,24 +131,9 @@ import_of nothing = None
 unfoldable pub imports_in_order : Program → List ImportKey
 imports_in_order p = distinct same_import (filter_map import_of (flat_map (λ r. r.meanings) p.resolved))
 
--- The import of a linker-made global.
-abbrev pub made_global_import : InputSymbol → Option ImportKey
-made_global_import e = given ((e.input == 0) && is_kind GlobalVar e) (record { module_name = codes "env"; field = name_of e; type = e.type })
-
--- The cells of the addresses of foreign functions; a foreign function that is called means its import, and not its cell.
-abbrev pub function_cells : List InputSymbol → List Meaning → List ImportKey
-function_cells [] ms = []
-function_cells (e ∷ es) [] = []
-function_cells (e ∷ es) (m ∷ ms) = option_onto (given (is_kind Function e && is_foreign_symbol e m) (cell_of e)) (function_cells es ms)
-
--- What a shared output may import that no symbol means: the linker's globals, and those cells.
-abbrev pub further_imports : Program → List ImportKey
-further_imports p = filter_map made_global_import p.entries ++ flat_map (λ r. function_cells r.symbols r.meanings) p.resolved
-
 -- All that may be imported, each once: what symbols mean, and behind that what a shared output may import besides.
 abbrev pub all_imports : Mode → Program → List ImportKey
-all_imports Plain p = imports_in_order p
-all_imports Shared p = distinct_onto same_import (imports_in_order p) (further_imports p)
+all_imports mode p = distinct_onto same_import (imports_in_order p) (further_imports mode p.entries p.resolved)
 
 abbrev pub has_import : List ImportKey → ImportKey → Bool
 has_import used k = list_any (same_import k) used

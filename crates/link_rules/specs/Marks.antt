@@ -5,14 +5,15 @@ use Rattle.name_rules.specs.object_file.wl_base.Choice.{first_some, given, has_n
 use Rattle.name_rules.specs.object_file.wl_base.declared.fault.Fault.{Fault}
 use Rattle.name_rules.specs.object_file.wl_base.declared.fault.Fault.TheVariants.{Duplicate, NotPic, Unresolved, Uncalled}
 use Rattle.name_rules.specs.object_file.linking_section.declared.symbol.SymbolKind.TheVariants.{Function, Datum, GlobalVar}
-use Rattle.name_rules.specs.object_file.linking_section.Flags.{is_exported, is_hidden, is_no_strip, is_local_definition, is_weak, has_bit}
+use Rattle.name_rules.specs.object_file.linking_section.Flags.{is_exported, is_hidden, is_no_strip, is_weak, has_bit}
 use Rattle.name_rules.specs.object_file.object_columns.declared.functions.FunctionDef.{FunctionDef}
 use Rattle.name_rules.specs.object_file.reloc_section.declared.kinds.TheConstants as relocs
 use Rattle.made_symbols.specs.declared.mode.Mode.{Mode}
 use Rattle.made_symbols.specs.declared.mode.Mode.TheVariants.{Plain, Shared}
 use Rattle.made_symbols.specs.Made.{call_ctors, apply_data_relocs}
 use Rattle.name_rules.specs.Entries.{InputSymbol, is_named, is_kind, name_of, same_entry}
-use Rattle.name_rules.specs.Meanings.{Meaning, here, imported, null, nothing, is_nothing, Resolved}
+use Rattle.name_rules.specs.Meanings.{is_nothing, Resolved}
+use Rattle.name_rules.specs.Further.{is_here, is_foreign_symbol}
 use Rattle.mark_bits.specs.declared.chunk.Chunk.{Chunk}
 use Rattle.mark_bits.specs.declared.kinds.TheConstants as chunks
 use Rattle.live_mark.specs.Live.{reached, is_among}
@@ -136,12 +137,6 @@ refs_of parts = flat_map refs parts
 -- ---- what a shared output exports besides: `__wasm_call_ctors` where there are init functions, and the function that makes addresses
 -- right where it has work
 
-abbrev pub is_here : Meaning → Bool
-is_here (here e) = true
-is_here (imported k) = false
-is_here null = false
-is_here nothing = false
-
 -- A window of GLOBAL_INDEX_LEB that takes the address of a function or datum from a cell.
 abbrev pub reads_cell : Ref → Bool
 reads_cell ref = (ref.kind == relocs.GLOBAL_INDEX_LEB) && not (is_kind GlobalVar ref.entry)
@@ -181,11 +176,6 @@ exported Shared p = exports_with p (has_calls p) (has_work p (exports_without p 
 -- ---- code that isn't position-independent
 
 -- In a shared output a function, datum or global that the link doesn't define is foreign.
-abbrev pub is_foreign_symbol : InputSymbol → Meaning → Bool
-is_foreign_symbol e m =
-    not (is_here m) && not (is_local_definition e.symbol)
-    && (is_kind Function e || is_kind Datum e || is_kind GlobalVar e)
-
 abbrev pub is_foreign : Ref → Bool
 is_foreign ref = is_foreign_symbol ref.entry ref.meaning
 

@@ -50,6 +50,6 @@ pub record AreCalls (allow : Bool) (objects : List Object) (c : Calls) : Type 0 
 -- Symbols can be asked about.
 pub record CanAsk (allow : Bool) (a : Asking) : Type 0 where
   pub fits : Fits Plain a.entries
-  pub resolution : IsResolution a.resolution.now (resolve Plain allow (entries Plain a.entries.objects.now) a.entries.objects.now)
+  pub resolution : IsResolution Plain (entries Plain a.entries.objects.now) a.resolution.now (resolve Plain allow (entries Plain a.entries.objects.now) a.entries.objects.now)
   pub judges : AreJudges Plain a.entries.objects.now a.entries.names.now.names a.judges.now
   pub count : a.count ≡ length (all_symbols a.entries.objects.now)

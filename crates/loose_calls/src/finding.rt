@@ -209,7 +209,7 @@ pub(crate) fn calls_in(
 ) -> Result<Calls, OutOfMemory>
     ghost allow: { Bool }
     requires fits { Fits modes.Plain entries }
-    requires resolution { IsResolution resolution.now (resolve modes.Plain allow (all_entries modes.Plain entries.objects.now) entries.objects.now) }
+    requires resolution { IsResolution modes.Plain (all_entries modes.Plain entries.objects.now) resolution.now (resolve modes.Plain allow (all_entries modes.Plain entries.objects.now) entries.objects.now) }
     ensures { IfOk result (λ calls. AreCalls allow entries.entry.objects.now calls) }
 {
     let judges = judges_of(alloc, entries, Mode::Plain)?;

@@ -32,7 +32,7 @@ pub fn loosened(
     requires numbers { AreNumbers modes.Plain objects.now names.old }
     requires rise { InputsRise 0 objects.now }
     requires table { IsTable objects.now names.old entries.now }
-    requires resolution { IsResolution resolution.now (resolve modes.Plain allow (all_entries modes.Plain objects.now) objects.now) }
+    requires resolution { IsResolution modes.Plain (all_entries modes.Plain objects.now) resolution.now (resolve modes.Plain allow (all_entries modes.Plain objects.now) objects.now) }
     ensures loose { IfOk result (IsLoose loose_calls allow names.new.names resolution.now.imports objects.now) }
     ensures names { OnOk result (names.new.names ≡ names.old.names ++ variant_names (variants_in loose_calls allow objects.now)) }
     ensures stays { OnOk result (Stays names.old names.new) }

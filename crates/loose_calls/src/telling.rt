@@ -203,7 +203,7 @@ pub fn mismatches(
 ) -> Result<Seq<Mismatch>, OutOfMemory>
     ghost allow: { Bool }
     requires fits { Fits modes.Plain entries }
-    requires resolution { IsResolution resolution.now (resolve modes.Plain allow (all_entries modes.Plain entries.objects.now) entries.objects.now) }
+    requires resolution { IsResolution modes.Plain (all_entries modes.Plain entries.objects.now) resolution.now (resolve modes.Plain allow (all_entries modes.Plain entries.objects.now) entries.objects.now) }
     ensures { IfOk result (λ told. (p : Program) → p.entries ≡ all_entries modes.Plain entries.entry.objects.now
         → p.resolved ≡ resolve modes.Plain allow (all_entries modes.Plain entries.entry.objects.now) entries.entry.objects.now → told ≡ mismatches_of p) }
 {

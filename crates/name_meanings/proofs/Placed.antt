@@ -12,7 +12,7 @@ use Rattle.name_entries.specs.linking_section.Flags.{is_weak}
 use Rattle.symbol_race.specs.Ranks.{IsParts}
 use Rattle.name_entries.specs.object_file.declared.object.Object.{Object}
 use Rattle.name_entries.specs.made_symbols.declared.mode.Mode.{Mode}
-use Rattle.name_entries.specs.made_symbols.declared.mode.Mode.TheVariants.{Plain}
+use Rattle.name_entries.specs.made_symbols.declared.mode.Mode.TheVariants.{Plain, Shared}
 use Rattle.name_entries.specs.made_symbols.Made.{MadeSymbol, made}
 use Rattle.name_entries.specs.link_names.Numbered.{Numbered, AreNumbers, is_entry_symbol, symbol_name, symbol_number, entry_names, Held, Short}
 use Rattle.name_entries.specs.name_rules.Entries.{InputSymbol, entries_from, made_from, is_entry, entries, name_of, is_named, symbols_of, named}
@@ -110,15 +110,19 @@ parts_made k (m ∷ ms) small short =
     let rest : (k + 1) + length ms ≤ 2 ^ 32 = omega arith in
     (record { class = ltb-true m.class 3 two.0; input = omega arith; symbol = below }, parts_made (k + 1) ms two.1 rest)
 
-pub winner_has_parts : (objects : List Object) (n : Numbered) (name : List ℕ) (d : InputSymbol) → AreNumbers Plain objects n → InputsRise 0 objects → winner (entries Plain objects) name ≡ Some d → HasParts d
+few_made : (mode : Mode) → Each HasParts (made_from 0 (made mode))
+few_made Plain = parts_made 0 (made Plain) refl (omega arith)
+few_made Shared = parts_made 0 (made Shared) refl (omega arith)
+
+pub winner_has_parts : (mode : Mode) (objects : List Object) (n : Numbered) (name : List ℕ) (d : InputSymbol) → AreNumbers mode objects n → InputsRise 0 objects → winner (entries mode objects) name ≡ Some d → HasParts d
 unfolding entries
-winner_has_parts objects n name d numbers rise wins =
+winner_has_parts mode objects n name d numbers rise wins =
     let all = flat_map (symbols_of objects) objects in
     let short = subst (All (λ (l : List (Option ℕ)). Short l)) numbers.symbols numbers.short in
     let objects_have = each_weaker Placed HasParts (λ e p. p.0) all (placed_in objects n.names 0 objects rise short) in
-    let have = each_append HasParts (made_from 0 (made Plain)) (filter is_entry all) (parts_made 0 (made Plain) refl (omega arith)) (each_filter HasParts is_entry all objects_have) in
-    each_least HasParts (definitions (entries Plain objects) name) d
-    (each_filter HasParts (λ (e : InputSymbol). e.defines) (named (entries Plain objects) name) (each_filter HasParts (is_named name) (entries Plain objects) have)) wins
+    let have = each_append HasParts (made_from 0 (made mode)) (filter is_entry all) (few_made mode) (each_filter HasParts is_entry all objects_have) in
+    each_least HasParts (definitions (entries mode objects) name) d
+    (each_filter HasParts (λ (e : InputSymbol). e.defines) (named (entries mode objects) name) (each_filter HasParts (is_named name) (entries mode objects) have)) wins
 
 pub entry_is_placed : (objects : List Object) (mode : Mode) (n : Numbered) (object place : ℕ) (e : InputSymbol) → AreNumbers mode objects n → InputsRise 0 objects → entry_at objects object place ≡ Some e → Placed e
 entry_is_placed objects mode n object place e numbers rise at =

@@ -56,7 +56,7 @@ zip_more imports [] (x ∷ xs) t m all means = absurd all
 zip_more imports (y ∷ ys) [] t m all means = absurd all
 zip_more imports (y ∷ ys) (x ∷ xs) t m all means = (all.0, zip_more imports ys xs t m all.1 means)
 
-onto_append : (seen xs ys : List ImportKey) → distinct_onto same_import (distinct_onto same_import seen xs) ys ≡ distinct_onto same_import seen (xs ++ ys)
+pub onto_append : (seen xs ys : List ImportKey) → distinct_onto same_import (distinct_onto same_import seen xs) ys ≡ distinct_onto same_import seen (xs ++ ys)
 onto_append seen [] ys = refl
 onto_append seen (x ∷ xs) ys = onto_append (if list_any (same_import x) seen then seen else seen ++ x ∷ []) xs ys
 

@@ -8,14 +8,13 @@ use Rattle.std.proofs.lemmas.Grind.{flat_map-append}
 use Rattle.std.proofs.lemmas.Option.{slice_get-map, get_or_from_slice_get, slice_get-get_or}
 use Rattle.name_entries.specs.object_file.declared.object.Object.{Object}
 use Rattle.name_entries.specs.name_rules.declared.meaning.Meaning.{Meaning as Told}
-use Rattle.name_entries.specs.name_rules.Entries.{ImportKey, entries, symbols_of}
-use Rattle.name_entries.specs.name_rules.Meanings.{Meaning, Resolved, resolve}
-use Rattle.name_entries.specs.made_symbols.declared.mode.Mode.TheVariants.{Plain}
+use Rattle.name_entries.specs.name_rules.Entries.{ImportKey, symbols_of}
+use Rattle.name_entries.specs.name_rules.Meanings.{Meaning, Resolved}
 use Rattle.name_entries.specs.View.{rows_of, InputsRise}
 use Rattle.name_meanings.specs.declared.naming.Known.{Known}
 use Rattle.name_meanings.specs.declared.naming.Found.{Found}
-use Rattle.name_meanings.specs.Means.{Means, import_meant, row_of, IsResolution, imports_meant}
-use Rattle.name_meanings.specs.Known.{meant, imports_with, IsRow, SoFar, Resolves, resolved_of}
+use Rattle.name_meanings.specs.Means.{Means, import_meant, row_of, imports_meant}
+use Rattle.name_meanings.specs.Known.{meant, imports_with, IsRow, AreAnswers, SoFar, Resolves, resolved_of}
 use Rattle.name_meanings.proofs.Finding.{get_onto}
 use Rattle.name_meanings.proofs.Rows.{Grow, zip_still, with_append}
 
@@ -54,7 +53,7 @@ one_more k rows padded row f g rs r before longer input same filled =
     record {
       answers = record {
         meanings = All-append told rs (r ∷ []) old_told (All-cons told r [] new_told (All-nil told));
-        imports = filled.imports ∙ ap (λ l. imports_with l r.meanings) before.answers.imports ∙ with_append [] (meanings_of rs) r.meanings ∙ ap imports_meant (sym (meanings_more rs r));
+        imports_are = filled.imports ∙ ap (λ l. imports_with l r.meanings) before.answers.imports_are ∙ with_append [] (meanings_of rs) r.meanings ∙ ap imports_meant (sym (meanings_more rs r));
       };
       below = All-append lower rs (r ∷ []) old_lower (All-cons lower r [] new_lower (All-nil lower));
       found = filled.found;
@@ -95,12 +94,6 @@ object_done k rows padded row f g i o before within is padded_to same filled =
     }
 
 pub all_done : (k : Known) (rows : List (List Told)) (f : Found) (i : ℕ) → Resolves k rows f i → length k.entries.objects.now ≤ i
-    → IsResolution (record { rows = rows; imports = f.imports }) (map (resolved_of k) k.entries.objects.now)
+    → AreAnswers rows f.imports (map (resolved_of k) k.entries.objects.now)
 all_done k rows f i before past =
-    subst (λ os. IsResolution (record { rows = rows; imports = f.imports }) (map (resolved_of k) os)) (take_all i k.entries.objects.now past) before.done.answers
-
-pub resolved_is : (k : Known) (rows : List (List Told)) (imports : List ImportKey)
-    → IsResolution (record { rows = rows; imports = imports }) (map (resolved_of k) k.entries.objects.now)
-    → IsResolution (record { rows = rows; imports = imports }) (resolve Plain k.allow_undefined (entries Plain k.entries.objects.now) k.entries.objects.now)
-unfolding resolve
-resolved_is k rows imports is = is
+    subst (λ os. AreAnswers rows f.imports (map (resolved_of k) os)) (take_all i k.entries.objects.now past) before.done.answers

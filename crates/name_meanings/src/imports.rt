@@ -1,9 +1,9 @@
 //! The imports that symbols mean, by number.
-ghost use Rattle.std.specs.Prelude.{◌≡◌, ◌<◌, [], Some, length, slice_get, IfOk, OnOk};
+ghost use Rattle.std.specs.Prelude.{◌≡◌, ◌<◌, [], Some, length, slice_get, codes, if◌then◌else◌, IfOk, OnOk};
 ghost use Rattle.name_entries.specs.object_columns.Seen.{import_seen};
 ghost use Rattle.name_entries.specs.name_rules.Entries.{key_of};
 ghost use Rattle.name_entries.specs.Shown.{type_seen};
-ghost use Rattle.name_meanings.specs.Kept.{type_kept, import_of, with_import};
+ghost use Rattle.name_meanings.specs.Kept.{type_kept, import_of, cell_key, made_key, with_import};
 
 use indexmap::IndexSet;
 use name_entries::{ImportRef, TypeRef};
@@ -11,6 +11,15 @@ use std::alloc::Global;
 use std::marker::Model;
 use wasm_types::{FuncType, ValType};
 use wl_base::{Name, OutOfMemory, Seq};
+
+/// The module from which a loader takes the cells of functions' addresses (DynamicLinking.md).
+const FUNCTION_CELLS: &str = "GOT.func";
+
+/// The same of the addresses of data.
+const DATA_CELLS: &str = "GOT.mem";
+
+/// The module from which it takes what the output shares with others: here the linker's globals.
+const ENVIRONMENT: &str = "env";
 
 /// The type of an import.
 #[derive(Debug, PartialEq, Eq, Hash, Drop)]
@@ -48,6 +57,17 @@ fn own_type(alloc: Global, kind: TypeRef<'_>) -> Result<ImportType, OutOfMemory>
     }
 }
 
+/// The module of a cell, in memory of its own.
+fn cell_module(alloc: Global, function: bool) -> Result<Name, OutOfMemory>
+    ensures { IfOk result (λ m. m ≡ (if function then codes "GOT.func" else codes "GOT.mem")) }
+{
+    if function {
+        Seq::from_slice(alloc, FUNCTION_CELLS.as_bytes())
+    } else {
+        Seq::from_slice(alloc, DATA_CELLS.as_bytes())
+    }
+}
+
 impl OutputImport {
     /// The import of this type, in memory of its own.
     pub(crate) fn of(
@@ -61,6 +81,40 @@ impl OutputImport {
             module: Seq::from_slice(alloc, import.module)?,
             field: Seq::from_slice(alloc, import.field)?,
             kind: own_type(alloc, kind)?,
+        })
+    }
+
+    /// The cell that holds the address of a function, or of a datum, of this name.
+    pub(crate) fn cell(
+        alloc: Global,
+        function: bool,
+        name: &[u8],
+    ) -> Result<OutputImport, OutOfMemory>
+        ensures { IfOk result (λ i. import_of i ≡ cell_key function name.now) }
+    {
+        let module = cell_module(alloc, function)?;
+        let field = Seq::from_slice(alloc, name)?;
+        Ok(OutputImport {
+            module,
+            field,
+            kind: ImportType::GlobalVar(ValType::I32, true),
+        })
+    }
+
+    /// The import of a linker's global of this name, which may change or not.
+    pub(crate) fn made(
+        alloc: Global,
+        name: &[u8],
+        changes: bool,
+    ) -> Result<OutputImport, OutOfMemory>
+        ensures { IfOk result (λ i. import_of i ≡ made_key name.now changes) }
+    {
+        let module = Seq::from_slice(alloc, ENVIRONMENT.as_bytes())?;
+        let field = Seq::from_slice(alloc, name)?;
+        Ok(OutputImport {
+            module,
+            field,
+            kind: ImportType::GlobalVar(ValType::I32, changes),
         })
     }
 }

@@ -1,7 +1,9 @@
 //! What each symbol means, by the rules in their order.
 #![tactic(auto)]
 
+mod cells;
 mod columns;
+mod further;
 mod imports;
 mod naming;
 mod resolution;

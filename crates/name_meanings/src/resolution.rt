@@ -1,5 +1,5 @@
 //! What all symbols mean.
-ghost use Rattle.std.specs.Prelude.{◌≡◌, ◌<◌, [], Some, length, slice_get, slice_index_or, option_map, IsSome};
+ghost use Rattle.std.specs.Prelude.{◌≡◌, ◌<◌, [], Some, None, length, slice_get, slice_index_or, option_map, IsSome};
 ghost use Rattle.name_meanings.specs.Kept.{type_kept};
 ghost use Rattle.std.specs.List.{list_all};
 ghost use Rattle.name_meanings.specs.Means.{row_of, answer_at, means_something};
@@ -8,7 +8,7 @@ use crate::imports::{ImportTable, ImportType};
 use name_entries::Meaning;
 use std::alloc::Global;
 use std::marker::Model;
-use wl_base::InputId;
+use wl_base::{InputId, Seq};
 use wl_lists::Lists;
 
 /// What the symbols of the loaded objects mean, with imports by number.
@@ -16,8 +16,12 @@ use wl_lists::Lists;
 pub struct Resolution {
     /// By input, the answers for its symbols. An input that isn't loaded has none.
     pub(crate) rows: Lists<Meaning>,
-    /// The imports that symbols mean.
+    /// The imports that symbols mean, and behind them what a shared output may import besides.
     pub(crate) imports: ImportTable,
+    /// Of a shared output the numbers of cells' imports, for all symbols, one object behind another.
+    pub(crate) cells: Seq<Option<u32>>,
+    /// Of a shared output the numbers of the imports of the linker's globals, in the order of its table.
+    pub(crate) made: Seq<u32>,
 }
 
 impl Model for Resolution {
@@ -25,7 +29,7 @@ impl Model for Resolution {
 
     ghost Value = { Answers };
 
-    ghost view = { λ r. record { rows = r.rows; imports = r.imports } };
+    ghost view = { λ r. record { rows = r.rows; imports = r.imports; cells = r.cells; made = r.made } };
 }
 
 /// The answers for the symbols of an input.
@@ -61,6 +65,16 @@ fn all_rows_mean(rows: &Lists<Meaning>) -> bool
     true
 }
 
+/// The number of a cell, if there is one.
+fn cell_at(cells: &[Option<u32>], symbol: u32) -> Option<u32>
+    ensures { result ≡ slice_index_or cells.now symbol None }
+{
+    match cells.get(symbol as usize) {
+        Some(cell) => *cell,
+        None => None,
+    }
+}
+
 impl Resolution {
     /// Whether each symbol means something. No reference is unresolved then.
     pub fn all_mean(&self) -> bool
@@ -77,6 +91,8 @@ impl Resolution {
         Resolution {
             rows,
             imports: ImportTable::new(alloc),
+            cells: Seq::new(alloc),
+            made: Seq::new(alloc),
         }
     }
 
@@ -99,7 +115,22 @@ impl Resolution {
         self.imports.len()
     }
 
-    /// The module and the field of an import that symbols mean.
+    /// The number of the import of the cell of a symbol's address, where a shared output has the symbol as a foreign function; by the
+    /// symbol's place among those of all objects, one object behind another.
+    pub fn cell(&self, symbol: u32) -> Option<u32>
+        ensures { result ≡ slice_index_or self.now.cells symbol None }
+    {
+        cell_at(self.cells.as_slice(), symbol)
+    }
+
+    /// The numbers of the imports of the linker's globals, in the order of its table. A plain output has none.
+    pub fn made(&self) -> &[u32]
+        ensures { result.now ≡ self.now.made }
+    {
+        self.made.as_slice()
+    }
+
+    /// The module and the field of an import.
     pub fn import(&self, number: u32) -> (&[u8], &[u8])
         requires { number < length self.now.imports }
         ensures place { option_map (λ key. key.module_name) (slice_get self.now.imports number) ≡ Some result.0.now }
@@ -109,7 +140,7 @@ impl Resolution {
         (import.module.as_slice(), import.field.as_slice())
     }
 
-    /// The type of an import that symbols mean.
+    /// The type of an import.
     pub fn import_type(&self, number: u32) -> &ImportType
         requires { number < length self.now.imports }
         ensures { option_map (λ key. key.type) (slice_get self.now.imports number) ≡ Some (type_kept result.now) }

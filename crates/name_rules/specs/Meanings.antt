@@ -78,7 +78,7 @@ uses_with objects o symbols =
     ++ filter (λ u. is_init_use u.entry) (filter_map (λ i. use_of relocs.FUNCTION_INDEX_LEB (slice_get symbols i.symbol)) o.inits)
 
 abbrev pub uses_in : List Object → Object → List Use
-uses_in objects o = filter (λ u. is_kind Function u.entry && not (is_local_definition u.entry.symbol)) (uses_with objects o (symbols_of objects o))
+uses_in objects o = filter (λ u. is_kind Function u.entry && is_entry u.entry) (uses_with objects o (symbols_of objects o))
 
 abbrev pub names_used : (Use → Bool) → List Use → List (List ℕ)
 names_used test us = map (λ u. name_of u.entry) (filter test us)

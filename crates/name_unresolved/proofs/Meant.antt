@@ -39,7 +39,7 @@ map_at f (x ∷ xs) zero d = refl
 map_at f (x ∷ xs) (suc k) d = map_at f xs k d
 
 pub are_meant : (mode : Mode) (allow : Bool) (all : List InputSymbol) (objects : List Object) (r : Answers)
-    → IsResolution r (resolve mode allow all objects) → AreMeant r.rows objects
+    → IsResolution mode all r (resolve mode allow all objects) → AreMeant r.rows objects
 unfolding resolve
 are_meant mode allow all objects r is k d below =
     let uses = uses_of mode objects in

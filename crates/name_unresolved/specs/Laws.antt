@@ -11,4 +11,4 @@ use Rattle.name_unresolved.specs.Unresolved.{AreMeant}
 abbrev pub ResolvedIsMeant : Type 0
 ResolvedIsMeant =
     (mode : Mode) (allow : Bool) (all : List InputSymbol) (objects : List Object) (r : Answers)
-    → IsResolution r (resolve mode allow all objects) → AreMeant r.rows objects
+    → IsResolution mode all r (resolve mode allow all objects) → AreMeant r.rows objects

@@ -45,7 +45,7 @@ pub record IsFound (mode : Mode) (asked : Plan) (loaded : List Object) (f : Foun
   pub apart : All (λ v. list_any (bytes_eq (name_of v)) (different_names mode (asked_names p.plan ++ p.plan.exports_if) p.objects) ≡ false) p.variants
   pub looked_up : IsTable p.objects f.names f.entries
   pub ranks : WinnersAre f.names.names p.entries f.ranks
-  pub resolution : IsResolution f.resolution p.resolved
+  pub resolution : IsResolution mode p.entries f.resolution p.resolved
   pub imports : f.resolution.imports ≡ all_imports mode p
   -- what is looked up
   pub tables : AreTables f.names.names f.resolution.imports f.tables p

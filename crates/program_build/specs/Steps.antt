@@ -44,7 +44,7 @@ case_of loose_calls es = first_some (clash_by loose_calls es ∷ duplicate es �
 -- The winners by number, and what symbols mean, are those of these objects.
 pub record AreMeanings (mode : Mode) (m : Meanings) (origin : Origin) (objects : List Object) (held : List (List ℕ)) : Type 0 where
   pub ranked : WinnersAre held (entries mode objects) m.ranks
-  pub resolved : IsResolution m.resolution (resolve mode origin.plan.allow_undefined (entries mode objects) objects)
+  pub resolved : IsResolution mode (entries mode objects) m.resolution (resolve mode origin.plan.allow_undefined (entries mode objects) objects)
   pub past : NonePast (length held) m.ranks
 
 abbrev pub MeansOrRefused : Mode → Result Meanings LinkError → Origin → List Object → List (List ℕ) → Type 0

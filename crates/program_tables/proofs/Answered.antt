@@ -90,7 +90,7 @@ abbrev pub resolved_of : List Object → Bool → Object → Resolved
 resolved_of objects allow o = resolved_in Plain no_uses allow (entries Plain objects) objects o
 
 abbrev pub IsMeant : List Object → Bool → Answers → Type 0
-IsMeant objects allow r = IsResolution r (resolve Plain allow (entries Plain objects) objects)
+IsMeant objects allow r = IsResolution Plain (entries Plain objects) r (resolve Plain allow (entries Plain objects) objects)
 
 row_means : (objects : List Object) (allow : Bool) (r : Answers) (i : ℕ) (o : Object) → IsMeant objects allow r → slice_get objects i ≡ Some o
     → AllZip (Means r.imports) (row_of r.rows o.input) (map (meant objects allow) (symbols_of objects o))

@@ -44,7 +44,7 @@ pub fn tables_of<R: Threads + Sync>(
     ghost origin: { Origin }
     requires fits { Fits modes.Plain entries }
     requires winners { WinnersAre entries.names.now.names (all_entries modes.Plain entries.objects.now) ranks.now }
-    requires resolution { IsResolution resolution.now
+    requires resolution { IsResolution modes.Plain (all_entries modes.Plain entries.objects.now) resolution.now
         (resolve modes.Plain origin.plan.allow_undefined (all_entries modes.Plain entries.objects.now) entries.objects.now) }
     requires loaded { IsLoaded origin.files origin.all entries.objects.now homes.now }
     requires loose { IsLoose origin.plan.loose_calls origin.plan.allow_undefined entries.names.now.names resolution.now.imports entries.objects.now loose.now }

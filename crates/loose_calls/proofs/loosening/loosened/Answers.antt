@@ -18,7 +18,7 @@ use Rattle.loose_calls.proofs.loosening.loosened.Goals as goal
 pub calls_in-requires : goal.calls_in-requires
 calls_in-requires g c =
     let fits = c.view.ensures.fits Plain c.requires.0 c.requires.1.0 c.requires.1.1.0 in
-    let meant = subst (λ os. IsResolution c.args.resolution.now (resolve Plain g.allow (all_entries Plain os) os)) (sym c.view.ensures.objects) c.requires.1.1.1 in
+    let meant = subst (λ os. IsResolution Plain (all_entries Plain os) c.args.resolution.now (resolve Plain g.allow (all_entries Plain os) os)) (sym c.view.ensures.objects) c.requires.1.1.1 in
     (fits, meant)
 
 -- ---- none

@@ -1,20 +1,14 @@
-use Rattle.std.proofs.Common.{subst, sym}
-use Rattle.std.specs.Prelude.{IfOk}
-use Rattle.name_entries.specs.name_rules.Entries.{entries}
-use Rattle.name_entries.specs.name_rules.Meanings.{resolve}
-use Rattle.name_entries.specs.View.{WinnersAre}
-use Rattle.name_entries.specs.Fits.{Fits}
-use Rattle.name_meanings.specs.Means.{IsResolution}
 use Rattle.name_meanings.proofs.resolving.resolve.Goals as goal
+use Rattle.name_meanings.proofs.Besides.{resolution_is}
 
-pub resolve_plain-requires-clause-fits : goal.resolve_plain-requires-clause-fits
-resolve_plain-requires-clause-fits c = subst (λ m. Fits m c.args.entries) c.in-Plain.is c.requires.fits
-
-pub resolve_plain-requires-clause-winners : goal.resolve_plain-requires-clause-winners
-resolve_plain-requires-clause-winners c =
-    subst (λ m. WinnersAre c.args.entries.names.now.names (entries m c.args.entries.objects.now) c.args.winners.now) c.in-Plain.is c.requires.winners
-
-pub returns-in-Plain : goal.returns-in-Plain
-returns-in-Plain c =
-    subst (λ m. IfOk c.resolve_plain.result (λ r. IsResolution r (resolve m c.args.allow_undefined (entries m c.args.entries.objects.now) c.args.entries.objects.now)))
-    (sym c.in-Plain.is) c.resolve_plain.ensures
+pub returns : goal.returns
+returns c =
+    resolution_is (record {
+      entries = c.args.entries;
+      winners = c.args.winners;
+      columns = c.as_slice.result;
+      allow_undefined = c.args.allow_undefined;
+      mode = c.args.mode;
+      uses = c.as_slice-2.result;
+    })
+    c.in_ok-rows.rows c.all_rows.new.found.imports c.add_further.new.found.imports c.in_ok-besides.besides.cells c.in_ok-besides.besides.made c.in_ok-rows.ensures.answers c.in_ok-besides.ensures

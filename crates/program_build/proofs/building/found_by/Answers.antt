@@ -53,8 +53,8 @@ tables_of-requires g c κs within =
     let won : WinnersAre c.view-view.result.names.now.names (entries Plain c.view-view.result.objects.now) ms.ranks =
     subst (λ (ns : Numbered). WinnersAre ns.names (entries Plain c.view-view.result.objects.now) ms.ranks) (sym of_names)
     (subst (λ (os : List Object). WinnersAre m.names (entries Plain os) ms.ranks) (sym of_objects) (ranks_are origin objects n m c.args.entries ms c.args.homes.now loaded meant stays few behind apart)) in
-    let resolved : IsResolution ms.resolution (resolve Plain origin.plan.allow_undefined (entries Plain c.view-view.result.objects.now) c.view-view.result.objects.now) =
-    subst (λ (os : List Object). IsResolution ms.resolution (resolve Plain origin.plan.allow_undefined (entries Plain os) os)) (sym of_objects) meant.meanings.resolved in
+    let resolved : IsResolution Plain (entries Plain c.view-view.result.objects.now) ms.resolution (resolve Plain origin.plan.allow_undefined (entries Plain c.view-view.result.objects.now) c.view-view.result.objects.now) =
+    subst (λ (os : List Object). IsResolution Plain (entries Plain os) ms.resolution (resolve Plain origin.plan.allow_undefined (entries Plain os) os)) (sym of_objects) meant.meanings.resolved in
     let homes : IsLoaded origin.files origin.all c.view-view.result.objects.now c.args.homes.now = subst (λ (os : List Object). IsLoaded origin.files origin.all os c.args.homes.now) (sym of_objects) loaded in
     let loose : IsLoose origin.plan.loose_calls origin.plan.allow_undefined c.view-view.result.names.now.names ms.resolution.imports c.view-view.result.objects.now c.in_ok-loose.loose =
     subst (λ (ns : Numbered). IsLoose origin.plan.loose_calls origin.plan.allow_undefined ns.names ms.resolution.imports c.view-view.result.objects.now c.in_ok-loose.loose) (sym of_names)

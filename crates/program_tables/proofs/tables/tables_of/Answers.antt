@@ -22,7 +22,7 @@ use Rattle.program_tables.proofs.tables.tables_of.Goals as goal
 pub all_symbols-requires : goal.all_symbols-requires
 all_symbols-requires g c =
     let fits : Fits Plain c.args.entries = search rules in
-    let meant : IsResolution c.args.resolution.now (resolve Plain g.origin.plan.allow_undefined (entries Plain c.args.entries.objects.now) c.args.entries.objects.now) = search rules in
+    let meant : IsResolution Plain (entries Plain c.args.entries.objects.now) c.args.resolution.now (resolve Plain g.origin.plan.allow_undefined (entries Plain c.args.entries.objects.now) c.args.entries.objects.now) = search rules in
     record {
       fits = fits.objects;
       places = subst (ArePlaces c.args.entries.objects.now) (sym c.as_slice.ensures) c.in_ok-places.ensures;
@@ -32,7 +32,7 @@ all_symbols-requires g c =
 pub returns : goal.returns
 returns g c =
     let fits : Fits Plain c.args.entries = search rules in
-    let meant : IsResolution c.args.resolution.now (resolve Plain g.origin.plan.allow_undefined (entries Plain c.args.entries.objects.now) c.args.entries.objects.now) = search rules in
+    let meant : IsResolution Plain (entries Plain c.args.entries.objects.now) c.args.resolution.now (resolve Plain g.origin.plan.allow_undefined (entries Plain c.args.entries.objects.now) c.args.entries.objects.now) = search rules in
     let ranked : WinnersAre c.args.entries.names.now.names (entries Plain c.args.entries.objects.now) c.args.ranks.now = search rules in
     let loaded : IsLoaded g.origin.files g.origin.all c.args.entries.objects.now c.args.homes.now = search rules in
     let lo : Loose = c.args.loose.now in

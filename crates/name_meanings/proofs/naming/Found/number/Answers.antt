@@ -10,6 +10,11 @@ returns-in-Some c =
 pub returns : goal.returns
 returns c =
     numbered_new c.args.known c.args.self.now
-    (record { imports = c.add.new.self; numbers = Rattle.std.specs.Vec.with_item c.args.self.now.numbers c.args.name (Some c.in_ok-number.number) })
+    (record {
+      imports = c.add.new.self;
+      numbers = Rattle.std.specs.Vec.with_item c.args.self.now.numbers c.args.name (Some c.in_ok-number.number);
+      function_cells = c.args.self.now.function_cells;
+      data_cells = c.args.self.now.data_cells;
+    })
     c.args.name c.in_ok-number.number c.args.at (import_of c.in_ok-import.import) c.requires.found c.requires.name c.requires.own
-    c.in_ok-import.ensures c.in_ok-number.ensures.imports c.in_ok-number.ensures.number refl
+    c.in_ok-import.ensures c.in_ok-number.ensures.imports c.in_ok-number.ensures.number refl refl refl
