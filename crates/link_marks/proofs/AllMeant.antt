@@ -34,7 +34,7 @@ find_none q x [] h k = absurd k
 find_none q x (y ∷ xs) h k = find_none_by q x y xs (find_none q x xs) (q y) refl h k
 
 -- parts by number are parts of the program
-parts_in : (P : Part → Type 0) (all : List Part) (numbers : List ℕ) (parts : List Part) → map (slice_get all) numbers ≡ map Some parts → AllByRecursion P all → AllByRecursion P parts
+pub parts_in : (P : Part → Type 0) (all : List Part) (numbers : List ℕ) (parts : List Part) → map (slice_get all) numbers ≡ map Some parts → AllByRecursion P all → AllByRecursion P parts
 parts_in P all numbers [] is h = tt
 parts_in P all [] (x ∷ parts) is h = absurd cc
 parts_in P all (n ∷ numbers) (x ∷ parts) is h =

@@ -10,6 +10,8 @@ mod Marked
 mod Leasts
 mod Known
 mod Opened
+mod Working
 mod Whole
 mod AllMeant
+mod Fixing
 pub use Rattle.link_program.proofs as link_program_lemmas

@@ -50,17 +50,17 @@ ref_open None = refl
 ref_open (Some r) = refl
 
 module _ (mode : Mode) (allow : Bool) (objects : List Object) (rows : List (List Told)) (imports : List ImportKey) where
-  abbrev means : InputSymbol → Meaning
+  abbrev pub means : InputSymbol → Meaning
   means e = meaning mode (uses_of mode objects) allow (entries mode objects) e
 
-  abbrev resolved : Object → Resolved
+  abbrev pub resolved : Object → Resolved
   resolved o = resolved_in mode (uses_of mode objects) allow (entries mode objects) objects o
 
   abbrev symbols : List InputSymbol
   symbols = flat_map (symbols_of objects) objects
 
   -- the answers for an object's symbols are there
-  abbrev IsAnswered : Object → Type 0
+  abbrev pub IsAnswered : Object → Type 0
   IsAnswered o = AllZip (Means imports) (row_of rows o.input) (map means (symbols_of objects o))
 
   pub record Fine (o : Object) : Type 0 where
@@ -71,23 +71,26 @@ module _ (mode : Mode) (allow : Bool) (objects : List Object) (rows : List (List
   -- ---- a symbol of an object
 
   -- There is no symbol of this place, or the answers tell what it means.
-  abbrev Nowhere : Object → ℕ → Type 0
+  abbrev pub Nowhere : Object → ℕ → Type 0
   Nowhere o s = (slice_get o.symbols s ≡ None) × (slice_get (symbols_of objects o) s ≡ None) × (slice_get (row_of rows o.input) s ≡ None)
 
-  record Somewhere (o : Object) (s : ℕ) : Type 0 where
-    symbol : Symbol
-    there : slice_get o.symbols s ≡ Some symbol
-    entry_there : slice_get (symbols_of objects o) s ≡ Some (entry_in objects o s symbol)
-    meant_there : slice_get (map means (symbols_of objects o)) s ≡ Some (means (entry_in objects o s symbol))
-    known : In (entry_in objects o s symbol) symbols
-    same : is_open rows (o.input, s) ≡ is_nothing (means (entry_in objects o s symbol))
+  pub record Somewhere (o : Object) (s : ℕ) : Type 0 where
+    pub symbol : Symbol
+    pub there : slice_get o.symbols s ≡ Some symbol
+    pub entry_there : slice_get (symbols_of objects o) s ≡ Some (entry_in objects o s symbol)
+    pub meant_there : slice_get (map means (symbols_of objects o)) s ≡ Some (means (entry_in objects o s symbol))
+    pub known : In (entry_in objects o s symbol) symbols
+    pub same : is_open rows (o.input, s) ≡ is_nothing (means (entry_in objects o s symbol))
+    pub told : Told
+    pub answer : slice_get (row_of rows o.input) s ≡ Some told
+    pub tells : Means imports told (means (entry_in objects o s symbol))
 
   map_get : {A B : Type 0} (f : A → B) (xs : List A) (i : ℕ) → slice_get (map f xs) i ≡ option_map f (slice_get xs i)
   map_get f [] i = refl
   map_get f (x ∷ xs) zero = refl
   map_get f (x ∷ xs) (suc i) = map_get f xs i
 
-  symbol_of : (o : Object) → Fine o → (s : ℕ) → Nowhere o s ⊎ Somewhere o s
+  pub symbol_of : (o : Object) → Fine o → (s : ℕ) → Nowhere o s ⊎ Somewhere o s
   symbol_of o fine s = by (slice_get o.symbols s) refl
     where
       by : (x : Option Symbol) → slice_get o.symbols s ≡ x → Nowhere o s ⊎ Somewhere o s
@@ -106,6 +109,9 @@ module _ (mode : Mode) (allow : Bool) (objects : List Object) (rows : List (List
             meant_there = meant;
             known = in_flat (symbols_of objects) o e objects fine.among (in_at (symbols_of objects o) s e here);
             same = ap open_answer t.1 ∙ same_nothing imports t.0 (means e) t.2;
+            told = t.0;
+            answer = t.1;
+            tells = t.2;
           })
 
   -- what a reference to it leaves open

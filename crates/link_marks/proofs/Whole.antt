@@ -140,11 +140,11 @@ flat_resolved : (mode : Mode) (allow : Bool) (all : List InputSymbol) (objects o
 flat_resolved mode allow all objects [] = refl
 flat_resolved mode allow all objects (o ∷ os) = ap (λ l. symbols_of objects o ++ l) (flat_resolved mode allow all objects os)
 
-resolved_are : (d : Data) (p : Program) → IsProgram d p → p.resolved ≡ map (resolved_in (mode_of p.plan) (uses_of (mode_of p.plan) p.objects) p.plan.allow_undefined (entries (mode_of p.plan) p.objects) p.objects) p.objects
+pub resolved_are : (d : Data) (p : Program) → IsProgram d p → p.resolved ≡ map (resolved_in (mode_of p.plan) (uses_of (mode_of p.plan) p.objects) p.plan.allow_undefined (entries (mode_of p.plan) p.objects) p.objects) p.objects
 unfolding resolve
 resolved_are d p is = is.resolved ∙ ap (λ all. map (resolved_in (mode_of p.plan) (uses_of (mode_of p.plan) p.objects) p.plan.allow_undefined all p.objects) p.objects) is.entries
 
-fine_from : (mode : Mode) (allow : Bool) (objects : List Object) (rows : _) (imports : _) (os : List Object) → ((o : Object) → In o os → In o objects) → AllByRecursion (IsObject objects) os
+pub fine_from : (mode : Mode) (allow : Bool) (objects : List Object) (rows : _) (imports : _) (os : List Object) → ((o : Object) → In o os → In o objects) → AllByRecursion (IsObject objects) os
     → AllByRecursion (λ (x : Resolved). AllZip (Means imports) (row_of rows x.object.input) x.meanings) (map (resolved_in mode (uses_of mode objects) allow (entries mode objects) objects) os)
     → AllByRecursion (Fine mode allow objects rows imports) os
 fine_from mode allow objects rows imports [] among are answered = tt

@@ -50,7 +50,7 @@ numbers_held names winners es ws held among told =
 
 -- ---- exports
 
-one_export : (names : List (List ℕ)) (asked : List Bool) (plan : _) (e : InputSymbol) → IsAsked names (demanded plan ++ plan.exports_if) asked → HeldOf names e
+pub one_export : (names : List (List ℕ)) (asked : List Bool) (plan : _) (e : InputSymbol) → IsAsked names (demanded plan ++ plan.exports_if) asked → HeldOf names e
     → is_export asked plan.export_dynamic (told_winner names e) ≡ is_exported_by plan e
 one_export names asked plan e is held =
     let n = numbered names (name_of e) held in

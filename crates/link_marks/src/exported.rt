@@ -8,18 +8,25 @@ ghost use Rattle.link_program.specs.name_rules.Entries.{InputSymbol};
 ghost use Rattle.link_program.specs.name_entries.View.{InputsRise};
 ghost use Rattle.link_program.specs.Told.{told_winner};
 ghost use Rattle.link_program.specs.Program.{IsProgram, IsProgramOfSome};
+ghost use Rattle.link_marks.specs.About.{Exporting};
 ghost use Rattle.link_marks.specs.Seen.{is_export};
 ghost use Rattle.link_marks.specs.Names.{own_name, name_seen, IsWinner};
 
 use crate::asked::asked_names;
+use crate::due::due;
+use crate::live::live_parts;
 use crate::objects::object_of;
+use crate::work::{any_work, has_calls};
 use link_program::{Definition, Mode, Names, Object, Program, Winner, mode_of};
 use linking_section::{EXPORTED, HIDDEN, SymbolKind};
 use std::alloc::Global;
+use std::thread::Threads;
 use wl_base::{OutOfMemory, Seq};
+use wl_fan::Workers;
+use wl_outside::Gate;
 
-/// Whether a winner is exported.
-fn is_export(asked: &[bool], dynamic: bool, winner: &Winner) -> bool
+/// Whether the words and flags ask that a winner is exported.
+pub(crate) fn is_export(asked: &[bool], dynamic: bool, winner: &Winner) -> bool
     ensures { result ≡ is_export asked.now dynamic winner.now }
 {
     let is_asked = match asked.get(winner.name as usize) {
@@ -61,17 +68,75 @@ fn plain_exports(alloc: Global, program: Program<'_>) -> Result<Seq<Winner>, Out
     Ok(exports)
 }
 
+/// The winners that a shared output exports, by whether the function that makes addresses right has work.
+fn due_exports(alloc: Global, program: Program<'_>, work: bool) -> Result<Seq<Winner>, OutOfMemory>
+    ghost p: { rules.Program }
+    requires { IsProgram program p }
+    ensures { IfOk result (λ es. es ≡ map (told_winner program.entry.names.now.names) (marks.exports_with p (marks.has_calls p) work)) }
+{
+    let asked = asked_names(alloc, program.names, program.plan)?;
+    let dynamic = program.plan.export_dynamic;
+    let calls = has_calls(program.tables);
+    let winners = program.tables.winners.as_slice();
+    let exports = due(alloc, &asked, dynamic, calls, work, winners)?;
+    Ok(exports)
+}
+
+/// Whether the function that makes addresses right has work, where these are exported.
+fn has_work<R: Threads + Sync, G: Gate>(
+    rt: &R,
+    alloc: Global,
+    program: Program<'_>,
+    exports: &[Winner],
+    workers: Workers,
+    gate: &G,
+) -> Result<bool, OutOfMemory>
+    ghost w: { Exporting }
+    requires program { IsProgram program w.program }
+    requires exports { exports.now ≡ map (told_winner program.names.now.names) w.exports }
+    ensures { IfOk result (λ work. work ≡ marks.has_work w.program w.exports) }
+{
+    let live = live_parts(rt, alloc, program, exports, workers, gate)?;
+    let work = any_work(program.tables, live.numbers.as_slice());
+    Ok(work)
+}
+
+/// The exported winners of a shared output. What lives without the function that makes addresses right tells whether it has work.
+fn shared_exports<R: Threads + Sync, G: Gate>(
+    rt: &R,
+    alloc: Global,
+    program: Program<'_>,
+    workers: Workers,
+    gate: &G,
+) -> Result<Seq<Winner>, OutOfMemory>
+    ghost p: { rules.Program }
+    requires { IsProgram program p }
+    ensures { IfOk result (λ es. es ≡ map (told_winner program.entry.names.now.names) (marks.exported modes.Shared p)) }
+{
+    let without = due_exports(alloc, program, false)?;
+    let work = has_work(rt, alloc, program, without.as_slice(), workers, gate)?;
+    let exports = due_exports(alloc, program, work)?;
+    Ok(exports)
+}
+
 /// The exported winners, by input and place: those that the words name, those of objects' symbols with EXPORTED, and with
-/// `--export-dynamic` those of objects' symbols that aren't HIDDEN (Linking.md, "Symbol Table Subsection"). Those of a shared output
-/// aren't told yet: that is answered as want of memory.
-pub fn exports(alloc: Global, program: Program<'_>) -> Result<Seq<Winner>, OutOfMemory>
+/// `--export-dynamic` those of objects' symbols that aren't HIDDEN (Linking.md, "Symbol Table Subsection"). A shared output exports
+/// `__wasm_call_ctors` besides, where there are init functions, and `__wasm_apply_data_relocs`, where live data have windows or live code
+/// takes an address of the link from a cell (DynamicLinking.md); what lives for that is marked by workers as [`live_parts`] does.
+pub fn exports<R: Threads + Sync, G: Gate>(
+    rt: &R,
+    alloc: Global,
+    program: Program<'_>,
+    workers: Workers,
+    gate: &G,
+) -> Result<Seq<Winner>, OutOfMemory>
     ghost p: { rules.Program }
     requires { IsProgram program p }
     ensures { IfOk result (λ es. es ≡ map (told_winner program.entry.names.now.names) (marks.exported (mode_of p.plan) p)) }
 {
     match mode_of(program.plan) {
         Mode::Plain => plain_exports(alloc, program),
-        Mode::Shared => Err(OutOfMemory),
+        Mode::Shared => shared_exports(rt, alloc, program, workers, gate),
     }
 }
 

@@ -7,11 +7,14 @@ ghost use Rattle.std.specs.List.{list_all};
 
 use crate::asked::asked_names;
 use crate::chunks::number_led;
+use crate::due::due;
 use crate::edges::PartEdges;
 use crate::exported::chosen;
 use crate::numbers::push_some;
 use crate::repeated::first_repeat;
 use crate::roots::roots_of;
+use crate::work::{any_work, has_calls};
+use body_windows::kinds as reloc_kinds;
 use link_plan::Plan;
 use link_program::{Content, Definition, Lead, Named, Names, Object, Part, Symbol, Tables, Winner};
 use linking_section::{EXPORTED, HIDDEN, NO_STRIP, RETAIN, SymbolKind};
@@ -172,6 +175,37 @@ fn winners_are_exported_by_name_and_flags(rt: HostRuntime) {
     assert!(rt; winners_are_chosen(rt.alloc()));
 }
 
+// ---- what a shared output exports besides
+
+/// `__wasm_call_ctors`, `__wasm_apply_data_relocs`, and a winner that no one asks for.
+fn made_and_hidden() -> [Winner; 3] {
+    [
+        winner(0, 0, 0, HIDDEN),
+        winner(0, 1, 1, HIDDEN),
+        winner(1, 0, 12, HIDDEN),
+    ]
+}
+
+fn are_due(alloc: Global, calls: bool, work: bool, expected: &[Winner]) -> bool {
+    match due(alloc, &[], false, calls, work, &made_and_hidden()) {
+        Ok(found) => found.as_slice() == expected,
+        Err(_) => false,
+    }
+}
+
+fn made_are_due(alloc: Global) -> bool {
+    let [ctors, relocs, _] = made_and_hidden();
+    are_due(alloc, false, false, &[])
+        && are_due(alloc, true, false, &[ctors])
+        && are_due(alloc, false, true, &[relocs])
+        && are_due(alloc, true, true, &[ctors, relocs])
+}
+
+#[test]
+fn the_linkers_functions_are_exported_where_they_do_something(rt: HostRuntime) {
+    assert!(rt; made_are_due(rt.alloc()));
+}
+
 // ---- tables
 
 fn chunk(input: u32, kind: u8, index: u32) -> Chunk {
@@ -277,13 +311,37 @@ fn rows(alloc: Global) -> Rows<Named> {
     Rows::of(alloc, named)
 }
 
-/// Tables with the rows of what parts name, and nothing else.
-fn bare_tables(alloc: Global) -> Tables {
+/// A window that reads the cell of a symbol.
+fn reads_cell(symbol: u32) -> Named {
+    Named::Symbol {
+        kind: reloc_kinds::GLOBAL_INDEX_LEB,
+        place: 0,
+        addend: 0,
+        symbol,
+    }
+}
+
+/// The linker's function calls one, the first function reads the cell of its own datum, and the second that of an import.
+fn add_cells(to: &mut Lists<Named>) -> bool {
+    to.push(&[names_symbol(0)]).is_ok()
+        && to.push(&[reads_cell(2)]).is_ok()
+        && to.push(&[reads_cell(4)]).is_ok()
+        && to.push(&[]).is_ok()
+}
+
+fn cells(alloc: Global) -> Rows<Named> {
+    let mut named = Lists::new(alloc);
+    add_cells(&mut named);
+    Rows::of(alloc, named)
+}
+
+/// Tables with these rows of what parts name, and nothing else.
+fn bare_tables(alloc: Global, named: Rows<Named>) -> Tables {
     Tables {
         symbols: Seq::new(alloc),
         winners: Seq::new(alloc),
         parts: Seq::new(alloc),
-        named: rows(alloc),
+        named,
         types: Seq::new(alloc),
         chunks: ChunkTable::new(alloc),
         variants: Seq::new(alloc),
@@ -315,7 +373,7 @@ fn look_at(alloc: Global, tables: &Tables, look: Look) -> bool {
 }
 
 fn holds(alloc: Global, look: Look) -> bool {
-    let mut tables = bare_tables(alloc);
+    let mut tables = bare_tables(alloc, rows(alloc));
     let holds = fill(&mut tables) && look_at(alloc, &tables, look);
     holds
 }
@@ -374,6 +432,23 @@ fn edges_are_told(alloc: Global, tables: &Tables) -> bool {
 #[test]
 fn parts_refer_to_chunks(rt: HostRuntime) {
     assert!(rt; holds(rt.alloc(), Look::Edges));
+}
+
+// ---- what needs work
+
+fn is_work(tables: &Tables) -> bool {
+    has_calls(tables) && any_work(tables, &[2, 1]) && !any_work(tables, &[0, 2, 3])
+}
+
+fn work_is_told(alloc: Global) -> bool {
+    let mut tables = bare_tables(alloc, cells(alloc));
+    let holds = fill(&mut tables) && is_work(&tables);
+    holds
+}
+
+#[test]
+fn cells_of_the_link_need_work(rt: HostRuntime) {
+    assert!(rt; work_is_told(rt.alloc()));
 }
 
 // ---- roots

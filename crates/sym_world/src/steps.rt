@@ -134,7 +134,7 @@ fn choose<R: Threads + Sync, G: Gate>(
     requires plain { mode_of p.plan ≡ modes.Plain }
     ensures { Chooses result program.entry p }
 {
-    let exports = exports(alloc, program)?;
+    let exports = exports(rt, alloc, program, workers, gate)?;
     repeated_export(alloc, program, exports.as_slice())?;
     let live = live_parts(rt, alloc, program, exports.as_slice(), workers, gate)?;
     unresolved(rt, alloc, program, &live, workers)?;

@@ -7,6 +7,11 @@ use Rattle.link_program.specs.Told.{told_winner}
 use Rattle.sym_world.proofs.SymAnswering.{exports_are_winners, export_repeats, name_left_open, ctors_lost, all_closed}
 use Rattle.sym_world.proofs.steps.choose.Goals as goal
 
+pub exports-requires : goal.exports-requires
+exports-requires g c κs within =
+    let program = c.requires.1.1.1.1.0 in
+    search (rules, program)
+
 pub repeated_export-requires : goal.repeated_export-requires
 repeated_export-requires g c =
     let plain = c.requires.1.1.1.1.1.1.1.1 in
