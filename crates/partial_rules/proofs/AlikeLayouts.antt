@@ -23,7 +23,7 @@ module _ (m : Moving) (C : Chunk → Type 0) (K : InputSymbol → Type 0) (is : 
   shape_alike : (x y : Part) → AlikePart m C K p q x y → shape_of q y ≡ shape_of p x
   shape_alike x y a =
       ap (λ (n : ℕ). shape n (content_align y.content) (is_zero q y)) a.len
-      ∙ (ap (λ c. shape x.source.span.len (content_align c) (is_zero q y)) a.content ∙ ap (shape x.source.span.len (content_align x.content)) a.zero)
+      ∙ (ap (λ (n : ℕ). shape x.source.span.len n (is_zero q y)) a.content.align ∙ ap (shape x.source.span.len (content_align x.content)) a.zero)
     where
       shape : ℕ → ℕ → Bool → SegmentShape
       shape len align zero = record { len = len; align = align; zero = zero }

@@ -151,7 +151,7 @@ module _ (m : Moving) (C : Chunk → Type 0) (K : InputSymbol → Type 0) (is : 
       let strip : filter is_no_strip_winner q.winners ≡ map m.entry (filter is_no_strip_winner p.winners) =
       ap (filter is_no_strip_winner) winners.are ∙ filter_moved m.entry is_no_strip_winner is_no_strip_winner K no_strip_alike p.winners winners.held in
       let second = of_entries (filter is_no_strip_winner p.winners) (filter is_no_strip_winner q.winners) strip (filter_all K is_no_strip_winner p.winners winners.held) in
-      let third = of_parts (λ part. is_retained part.content) (λ x y a. ap is_retained a.content) in
+      let third = of_parts (λ part. is_retained part.content) (λ x y a. a.content.retained) in
       let fourth = subst (λ g. AlikeChunks (if p.plan.gc then [] else map (λ part. part.chunk) (filter is_object_part p.parts)) (if g then [] else map (λ part. part.chunk) (filter is_object_part q.parts))) (sym gc) (by_gc p.plan.gc) in
       let a : List Chunk = filter_map chunk_of (exported Plain p) in
       let b : List Chunk = filter_map chunk_of (filter is_no_strip_winner p.winners) in

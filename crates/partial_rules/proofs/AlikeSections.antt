@@ -18,7 +18,7 @@ use Rattle.link_rules.specs.Program.{Program, Part, chunk_at}
 use Rattle.link_rules.specs.Marks.{export_name}
 use Rattle.link_rules.specs.Keys.{FunctionKey, outside, linker_function, stub, own, GlobalKey, outside_global, linker_global, own_global, got, GotKey, got_entry, got_import, got_null, exported_datum, type_of, type_place, function_of, global_of, function_number, global_number, slot_of, parts_of_kind}
 use Rattle.link_rules.specs.Values.{Layout, slot_count, address_of, got_value, made_global_value}
-use Rattle.link_rules.specs.Output.{imported_kind, import_for, function_import, global_import, memory, is_import, defined, content_global, i32_const, global_content, global_for, export_of}
+use Rattle.link_rules.specs.Output.{imported_kind, import_for, function_import, global_import, memory, is_import, defined, i32_const, global_content, global_for, export_of}
 use Rattle.object_file.specs.wasm_types.declared.import.ImportKind.TheVariants as kinds
 use Rattle.partial_rules.specs.Moving.{Moving, IsMoving, moved_function, moved_got, moved_global, AlikePart, AlikeStage}
 use Rattle.partial_rules.proofs.Lists.{filter_map_moved, filter_moved, map_map, map_where, find_of, zip_find}
@@ -170,7 +170,7 @@ module _ (m : Moving) (C : Chunk → Type 0) (K : InputSymbol → Type 0) (is : 
       let at_q : Part → Bool = λ part. (part.chunk.kind == 2) && (part.chunk.input == c.input) && (part.chunk.index == c.index) in
       let at_p : Part → Bool = λ part. (part.chunk.kind == 2) && (part.chunk.input == input) && (part.chunk.index == index) in
       ap (global_content Plain q ys eq o) (find_of at_q of_kind (λ y e. no_kind (y.chunk.kind == 2) (y.chunk.input == c.input) (y.chunk.index == c.index) e) ys)
-      ∙ (zip_find (AlikePart m C K p q) at_p at_q (global_content Plain p xs ep l) (global_content Plain q ys eq o) refl (λ x y a is. ap content_global a.content)
+      ∙ (zip_find (AlikePart m C K p q) at_p at_q (global_content Plain p xs ep l) (global_content Plain q ys eq o) refl (λ x y a is. a.content.global)
       (global_at_alike input index held) (parts_of_kind 2 xs) (parts_of_kind 2 ys) s.parts.globals
       ∙ (ap (global_content Plain p xs ep l) (sym (find_of at_p of_kind (λ x e. no_kind (x.chunk.kind == 2) (x.chunk.input == input) (x.chunk.index == index) e) xs))
       ∙ sym (same_option (global_content Plain p xs ep l (find at_p xs)))))

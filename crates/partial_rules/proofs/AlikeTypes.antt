@@ -10,7 +10,7 @@ use Rattle.mark_bits.specs.declared.chunk.Chunk.{Chunk}
 use Rattle.type_merge.specs.Types.{merged}
 use Rattle.link_rules.specs.Program.{Program, Part, Named, a_symbol, a_type, chunk_at, types_named, named_type}
 use Rattle.link_rules.specs.Marks.{refs_of}
-use Rattle.link_rules.specs.Keys.{callable, FunctionKey, outside, linker_function, stub, own, parts_of_kind, stub_names, content_type, part_type, type_of, is_function_at, window_types, function_type_of, entry_type, functions, types}
+use Rattle.link_rules.specs.Keys.{callable, FunctionKey, outside, linker_function, stub, own, parts_of_kind, stub_names, part_type, type_of, is_function_at, window_types, function_type_of, entry_type, functions, types}
 use Rattle.partial_rules.specs.Moving.{Moving, IsMoving, moved_function, AlikeNamed, AlikePart, AlikeParts, AlikeStage}
 use Rattle.partial_rules.proofs.Lists.{find_of, zip_find, zip_flat_map, flat_map_where, map_where, map_map}
 use Rattle.partial_rules.proofs.AlikeNumbers.{functions_all}
@@ -53,7 +53,7 @@ module _ (m : Moving) (C : Chunk → Type 0) (K : InputSymbol → Type 0) (is : 
       let c : Chunk = m.chunk (chunk_at input 0 index) in
       let code : Part → Bool = λ part. part.chunk.kind == 0 in
       ap part_type (find_of (is_function_at c.input c.index) code (λ y e. no_kind (y.chunk.kind == 0) (y.chunk.input == c.input) (y.chunk.index == c.index) e) ys)
-      ∙ (zip_find (AlikePart m C K p q) (is_function_at input index) (is_function_at c.input c.index) part_type part_type refl (λ x y a is. ap content_type a.content)
+      ∙ (zip_find (AlikePart m C K p q) (is_function_at input index) (is_function_at c.input c.index) part_type part_type refl (λ x y a is. a.content.type)
       (at_alike input index held) (parts_of_kind 0 xs) (parts_of_kind 0 ys) alike.functions
       ∙ ap part_type (sym (find_of (is_function_at input index) code (λ x e. no_kind (x.chunk.kind == 0) (x.chunk.input == input) (x.chunk.index == index) e) xs)))
 

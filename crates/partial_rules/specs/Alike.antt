@@ -54,8 +54,8 @@ pub record AlikePrograms (m : Moving) (C : Chunk → Type 0) (K : InputSymbol �
   pub imports : imports_in_order q ≡ imports_in_order p
   -- no constructors are lost that weren't
   pub kept_calls : (xs ys : List Part) → AlikeParts m C K p q xs ys → uncalled Plain p xs ≡ None → uncalled Plain q ys ≡ None
-  -- the names of null functions that are called, and their types
-  pub stubs : (xs ys : List Part) → AlikeParts m C K p q xs ys → stub_names q (refs_of ys) ≡ stub_names p (refs_of xs)
+  -- the names of null functions that parts of the first call, and their types
+  pub stubs : (xs ys : List Part) → All (λ x. In x p.parts) xs → AlikeParts m C K p q xs ys → stub_names q (refs_of ys) ≡ stub_names p (refs_of xs)
   pub stub_types : (xs : List Part) → All (λ name. entry_type (first_entry (callable q) name) ≡ entry_type (first_entry (callable p) name)) (stub_names p (refs_of xs))
 
 -- Something is meant by all that live parts refer to.

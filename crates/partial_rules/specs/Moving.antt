@@ -9,12 +9,13 @@ use Rattle.name_rules.specs.Meanings.{Meaning, here, imported, null, nothing}
 use Rattle.mark_bits.specs.declared.chunk.Chunk.{Chunk}
 use Rattle.reloc_apply.specs.declared.window.Patch.{Patch}
 use Rattle.reloc_apply.specs.Windows.{filled}
-use Rattle.link_rules.specs.Program.{Program, Part, Named, a_symbol, a_type, Ref, refs, chunk_at, chunk_of, same_chunk, types_named}
+use Rattle.link_rules.specs.Program.{Program, Part, Content, Named, a_symbol, a_type, Ref, refs, chunk_at, chunk_of, same_chunk, types_named}
 use Rattle.name_rules.specs.Cases.{first_entry}
-use Rattle.link_rules.specs.Marks.{refs_of, export_name}
-use Rattle.link_rules.specs.Keys.{callable, imports_in_order, stub_names, entry_type, FunctionKey, outside, linker_function, stub, own, GotKey, got_entry, got_import, got_null, GlobalKey, outside_global, linker_global, own_global, got, exported_datum, parts_of_kind}
+use Rattle.link_rules.specs.Marks.{refs_of, export_name, is_retained}
+use Rattle.link_rules.specs.Keys.{callable, imports_in_order, stub_names, entry_type, FunctionKey, outside, linker_function, stub, own, GotKey, got_entry, got_import, got_null, GlobalKey, outside_global, linker_global, own_global, got, exported_datum, parts_of_kind, content_type}
 use Rattle.partial_rules.specs.Partial.{empty_window}
-use Rattle.link_rules.specs.Values.{part_bytes, is_zero, rules_of}
+use Rattle.link_rules.specs.Values.{part_bytes, is_zero, rules_of, content_align}
+use Rattle.link_rules.specs.Output.{content_global}
 use Rattle.made_symbols.specs.declared.mode.Mode.TheVariants.{Plain}
 
 -- Windows of the same places and forms.
@@ -23,6 +24,13 @@ SameWindows [] [] = Unit {0}
 SameWindows [] (q ∷ qs) = ⊥
 SameWindows (p ∷ ps) [] = ⊥
 SameWindows (p ∷ ps) (q ∷ qs) = (p.place ≡ q.place) × (p.form ≡ q.form) × SameWindows ps qs
+
+-- What the output has of a part's content: of a global its type and first value, and not where the object spells that.
+pub record AlikeContent (c d : Content) : Type 0 where
+  pub type : content_type d ≡ content_type c
+  pub align : content_align d ≡ content_align c
+  pub retained : is_retained d ≡ is_retained c
+  pub global : content_global d ≡ content_global c
 
 -- Where a chunk stands in the other program, and which symbol stands for a definition.
 pub record Moving : Type 0 where
@@ -101,7 +109,7 @@ module _ (m : Moving) where
     pub record AlikePart (p q : Program) (x y : Part) : Type 0 where
       pub chunk : y.chunk ≡ m.chunk x.chunk
       pub held : C x.chunk
-      pub content : y.content ≡ x.content
+      pub content : AlikeContent x.content y.content
       pub named : AllZip AlikeNamed x.named y.named
       pub len : y.source.span.len ≡ x.source.span.len
       pub long : length (part_bytes q y) ≡ length (part_bytes p x)
