@@ -4,4 +4,6 @@
 #[cfg(test)]
 mod dylink;
 #[cfg(test)]
+mod meanings;
+#[cfg(test)]
 mod uses;
