@@ -1,6 +1,6 @@
 -- What a shared output can't have, by the objects and by the definition.
 use Rattle.std.proofs.Common.{◌≡◌, ℕ, zero, suc, ◌+◌, ◌<◌, ◌≤◌, ◌==◌, ◌&&◌, ◌||◌, not, Bool, true, false, cond, List, [], ◌∷◌, ◌++◌, length, get_or, drop, map, filter, filter_map, flat_map, find, slice_get, Option, Some, None, option_map, option_and_then, refl, sym, ap, ◌∙◌, subst, arith, inl, inr, pos, ℤ}
-use Rattle.std.specs.Prelude.{replicate}
+use Rattle.std.specs.Prelude.{replicate, is_some}
 use Rattle.std.specs.List.{AllByRecursion, AllZip, cons_option}
 use Rattle.std.specs.Option.{IsSome}
 use Rattle.std.proofs.lemmas.Bool.Decides.{nat_tests}
@@ -25,9 +25,10 @@ use Rattle.link_program.specs.name_rules.Meanings.{Meaning, here, imported, null
 use Rattle.link_program.specs.name_rules.declared.meaning.Meaning.{Meaning as Told}
 use Rattle.link_program.specs.name_rules.declared.meaning.Meaning.TheVariants as told
 use Rattle.link_program.specs.name_meanings.Means.{Means, row_of}
+use Rattle.link_program.specs.name_rules.Further.{is_here}
 use Rattle.link_program.specs.link_rules.ModeOf.{mode_of}
 use Rattle.link_program.specs.link_rules.Program.{Program, Part, Ref, Named, a_symbol, named_ref, refs, ref_in, ref_to, operand_named, init_call, init_calls_in, init_calls, by_priority, is_skipped, InitCall, loose_ref, loose_part, loose_parts, indexed, function_part, segment_part, global_part, parts_in, is_part_kept, parts_of, made_parts_from, made_kind, option_onto, linker_made, no_source}
-use Rattle.link_program.specs.link_rules.Marks.{is_here, is_foreign, is_absolute, is_relative, is_fixed, fixed_fault, pic_fault, refs_of}
+use Rattle.link_program.specs.link_rules.Marks.{is_foreign, is_absolute, is_relative, is_fixed, fixed_fault, pic_fault, refs_of}
 use Rattle.link_program.specs.made_symbols.declared.mode.Mode.TheVariants.{Plain, Shared}
 use Rattle.link_program.specs.declared.program.Program.{Program as Data}
 use Rattle.link_program.specs.declared.program.Tables.{Tables}
@@ -237,7 +238,7 @@ module _ (mode : Mode) (allow : Bool) (objects : List Object) (rows : List (List
       | inr y ↦
           let e : InputSymbol = entry_in objects o s y.symbol in
           (λ i. fixed_by o.input s kind (y.answer i) (y.there i))
-          ∙ ap (λ h. cond (is_absolute kind || (is_relative kind && (not h && not (is_local_definition y.symbol) && has_value y.symbol))) (Some (o.input, s, kind)) None)
+          ∙ ap (λ h. cond (is_absolute kind || (is_relative kind && (not h && (is_some y.symbol.name && not (is_local_definition y.symbol)) && has_value y.symbol))) (Some (o.input, s, kind)) None)
           (same_here imports y.told (means mode allow objects rows imports e) y.tells)
           ∙ sym (λ i. fixed_named (option_map a_symbol (ref_to place kind addend (y.entry_there i) (y.meant_there i))))
     ]

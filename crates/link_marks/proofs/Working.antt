@@ -12,10 +12,11 @@ use Rattle.link_program.specs.round_rules.Rounds.{Candidate}
 use Rattle.link_program.specs.object_file.declared.object.Object.{Object}
 use Rattle.link_program.specs.name_rules.Entries.{InputSymbol, ImportKey, is_kind}
 use Rattle.link_program.specs.name_rules.Meanings.{Meaning, here, imported, null, nothing, Resolved}
+use Rattle.link_program.specs.name_rules.Further.{is_here}
 use Rattle.link_program.specs.link_rules.ModeOf.{mode_of}
 use Rattle.link_program.specs.link_rules.Program as rules
 use Rattle.link_program.specs.link_rules.Program.{a_symbol, a_type, named_ref, refs, init_calls, parts_of, loose_named, loose_parts}
-use Rattle.link_program.specs.link_rules.Marks.{demanded, is_exported_by, is_here, reads_cell, needs_work, has_calls, has_work, is_made, exports_without, exports_with, exported}
+use Rattle.link_program.specs.link_rules.Marks.{demanded, is_exported_by, reads_cell, needs_work, has_calls, has_work, is_made, exports_without, exports_with, exported}
 use Rattle.link_program.specs.declared.program.Program.{Program as Data}
 use Rattle.link_program.specs.declared.program.Tables.{Tables}
 use Rattle.link_program.specs.declared.symbol.Symbol.{Symbol}

@@ -1,5 +1,5 @@
 -- Which relocation of live code a shared output can't have, by the objects and what their symbols mean.
-use Rattle.std.specs.Prelude.{ℕ, ◌==◌, Bool, true, false, not, ◌&&◌, ◌||◌, List, map, slice_get, if◌then◌else◌, Option, Some, None}
+use Rattle.std.specs.Prelude.{ℕ, ◌==◌, Bool, true, false, not, ◌&&◌, ◌||◌, List, map, slice_get, if◌then◌else◌, is_some, Option, Some, None}
 use Rattle.std.specs.List.{find}
 use Rattle.link_program.specs.wl_base.Choice.{first_some}
 use Rattle.link_program.specs.wl_base.declared.fault.Fault.{Fault}
@@ -42,7 +42,7 @@ has_value s = (kind_code s.kind == kind_code Function) || (kind_code s.kind == k
 
 -- A function, datum or global that the link doesn't define.
 abbrev pub is_foreign_told : Symbol → Option Meaning → Bool
-is_foreign_told s m = not (is_told_here m) && not (is_local_definition s) && has_value s
+is_foreign_told s m = not (is_told_here m) && (is_some s.name && not (is_local_definition s)) && has_value s
 
 -- ---- operands
 

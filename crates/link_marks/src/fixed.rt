@@ -64,7 +64,8 @@ fn is_foreign(symbol: SymbolRef<'_>, meaning: Meaning) -> bool
     let has_value = symbol.kind == SymbolKind::Function
         || symbol.kind == SymbolKind::Datum
         || symbol.kind == SymbolKind::GlobalVar;
-    !is_here(meaning) && !symbol.is_local_definition() && has_value
+    let is_entry = symbol.name.is_some() && !symbol.is_local_definition();
+    !is_here(meaning) && is_entry && has_value
 }
 
 /// The relocation of a type with a symbol of the object, if a shared output can't have it.
@@ -190,7 +191,8 @@ fn told_fault(fixed: Option<Fixed>) -> Option<Fault>
 /// The fault of the first of the live parts.
 fn shared_fault(program: Program<'_>, live: &Live) -> Option<Fault>
     requires inputs { InputsRise 0 program.objects.now }
-    requires meant { IsResolution program.resolution.now (resolve (mode_of program.plan.now) program.plan.now.allow_undefined (entries (mode_of program.plan.now) program.objects.now) program.objects.now) }
+    requires meant { IsResolution (mode_of program.plan.now) (entries (mode_of program.plan.now) program.objects.now) program.resolution.now
+        (resolve (mode_of program.plan.now) program.plan.now.allow_undefined (entries (mode_of program.plan.now) program.objects.now) program.objects.now) }
     ensures { result ≡ option_map told_fault (first_fixed program.entry.objects.now program.entry.resolution.now.rows program.entry.tables.now live.now.numbers) }
 {
     resolved_is_meant();
