@@ -90,7 +90,7 @@ misses i name os all = by_found (find (has_group name) os) refl
     by_found (Some w) some = found_all (λ (o : Object). (i == o.input) ≡ false) (has_group name) os w all some
 
 -- numbers that were equal are so where both are lowered
-lowered : (n a b : ℕ) → n ≤ a → n ≤ b → ((a - n) == (b - n)) ≡ (a == b)
+pub lowered : (n a b : ℕ) → n ≤ a → n ≤ b → ((a - n) == (b - n)) ≡ (a == b)
 lowered n a b low low_too = ⊎_elim
     (λ same. eq-eqb (a - n) (b - n) (ap (λ k. k - n) same.1) ∙ sym same.0)
     (λ other. ne_eqb (a - n) (b - n) (λ e. other.1 (omega (arith, low, low_too, e))) ∙ sym other.0)

@@ -40,7 +40,7 @@ eqb_turned a b = ⊎_elim
 entry_turned : (a b : InputSymbol) → same_entry a b ≡ same_entry b a
 entry_turned a b = ap (λ (t : Bool). t && (a.place == b.place)) (eqb_turned a.input b.input) ∙ ap (λ (t : Bool). (b.input == a.input) && t) (eqb_turned a.place b.place)
 
-map_has : {A B : Type 0} (f g : A → B) (xs : List A) → ((x : A) → Has xs x → f x ≡ g x) → map f xs ≡ map g xs
+pub map_has : {A B : Type 0} (f g : A → B) (xs : List A) → ((x : A) → Has xs x → f x ≡ g x) → map f xs ≡ map g xs
 map_has f g [] same = refl
 map_has f g (x ∷ xs) same = rw (same x (inl refl), map_has f g xs (λ y has. same y (inr has))) refl
 
@@ -174,7 +174,7 @@ module _ (run : Run) (os : Objects) (p : Program) (cut : AreCut run os) (stand :
   map_kept [] all = refl
   map_kept (x ∷ xs) all = rw ((All-head Inside x xs all).1, map_kept xs (All-tail Inside x xs all)) refl
 
-  joined_middle : joined j (flat_map (symbols_of W) os.middle) ≡ symbols_of L os.joined
+  pub joined_middle : joined j (flat_map (symbols_of W) os.middle) ≡ symbols_of L os.joined
   joined_middle =
       let kept : List InputSymbol = filter j.keep (flat_map (symbols_of W) os.middle) in
       map_kept kept (filter_all Inside j.keep (flat_map (symbols_of W) os.middle) all_inside)

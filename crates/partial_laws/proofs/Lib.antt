@@ -1,26 +1,26 @@
-mod Cases
-mod Clashing
-mod Earliest
-mod Fields
-mod Flags
-mod Groups
-mod Imports
-mod Instance
-mod Joins
-mod Leasts
-mod Lists
-mod Loading
-mod Meant
-mod Members
-mod Opened
-mod Opens
-mod Order
-mod Programs
-mod Regions
-mod Same
-mod Stated
-mod Symbols
-mod Taken
-mod Thinned
-mod Winners
-mod Won
+pub mod Cases
+pub mod Clashing
+pub mod Earliest
+pub mod Fields
+pub mod Flags
+pub mod Groups
+pub mod Imports
+pub mod Instance
+pub mod Joins
+pub mod Leasts
+pub mod Lists
+pub mod Loading
+pub mod Meant
+pub mod Members
+pub mod Opened
+pub mod Opens
+pub mod Order
+pub mod Programs
+pub mod Regions
+pub mod Same
+pub mod Stated
+pub mod Symbols
+pub mod Taken
+pub mod Thinned
+pub mod Winners
+pub mod Won

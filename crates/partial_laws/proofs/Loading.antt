@@ -28,7 +28,7 @@ use Rattle.partial_laws.proofs.Instance.{all_from_has}
 
 -- ---- inputs that rise
 
-rise_above : (last : ℕ) (os : List Object) → Rise last os → All (λ (o : Object). last < o.input) os
+pub rise_above : (last : ℕ) (os : List Object) → Rise last os → All (λ (o : Object). last < o.input) os
 rise_above last [] r = none_asked (λ (o : Object). last < o.input)
 rise_above last (o ∷ os) r =
     All-cons (λ (x : Object). last < x.input) o os r.0
@@ -39,11 +39,11 @@ rise_above last (o ∷ os) r =
     weaker (x ∷ xs) all =
         All-cons (λ (y : Object). last < y.input) x xs (omega (arith, r.0, All-head (λ (y : Object). o.input < y.input) x xs all)) (weaker xs (All-tail (λ (y : Object). o.input < y.input) x xs all))
 
-rise_behind : (last : ℕ) (xs ys : List Object) → Rise last (xs ++ ys) → (l : ℕ) × Rise l ys
+pub rise_behind : (last : ℕ) (xs ys : List Object) → Rise last (xs ++ ys) → (l : ℕ) × Rise l ys
 rise_behind last [] ys r = (last, r)
 rise_behind last (x ∷ xs) ys r = rise_behind x.input xs ys r.1
 
-rise_front : (last : ℕ) (xs ys : List Object) → Rise last (xs ++ ys) → Rise last xs
+pub rise_front : (last : ℕ) (xs ys : List Object) → Rise last (xs ++ ys) → Rise last xs
 rise_front last [] ys r = tt
 rise_front last (x ∷ xs) ys r = (r.0, rise_front x.input xs ys r.1)
 
@@ -181,7 +181,7 @@ module _ (run : Run) (os : Objects) (cut : AreCut run os) (rise : Rise 0 (whole_
   alone_rise last [] r le = tt
   alone_rise last (x ∷ xs) r le = (omega (arith, r.0, le), alone_rise x.input xs r.1 (omega (arith, r.0, le)))
 
-  run_rise : Rise 0 (run_objects run os)
+  pub run_rise : Rise 0 (run_objects run os)
   run_rise =
       let zero_is : run.first - run.first ≡ 0 = omega arith in
       subst (λ n. Rise n (run_objects run os)) zero_is (alone_rise run.first os.middle (rebase middle_rise.0 run.first os.middle middle_rise.1 cut.from) (omega arith))

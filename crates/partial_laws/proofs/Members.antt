@@ -28,7 +28,7 @@ no_true e = absurd cc
 
 -- ---- numbers of chunks
 
-chunk_itself : (c : Chunk) → same_chunk c c ≡ true
+pub chunk_itself : (c : Chunk) → same_chunk c c ≡ true
 chunk_itself c =
     and_from ((c.input == c.input) && (c.kind == c.kind)) (c.index == c.index)
     (and_from (c.input == c.input) (c.kind == c.kind) (eq-eqb c.input c.input refl) (eq-eqb c.kind c.kind refl)) (eq-eqb c.index c.index refl)
@@ -44,7 +44,7 @@ chunk_parts c d e =
     let b = and_parts (c.input == d.input) (c.kind == d.kind) a.0 in
     record { input = eqb-true c.input d.input b.0; kind = eqb-true c.kind d.kind b.1; index = eqb-true c.index d.index a.1 }
 
-chunk_equal : (c d : Chunk) → same_chunk c d ≡ true → c ≡ d
+pub chunk_equal : (c d : Chunk) → same_chunk c d ≡ true → c ≡ d
 chunk_equal c d e =
     let a = chunk_parts c d e in
     ap (λ n. chunk_at n c.kind c.index) a.input ∙ (ap (λ n. chunk_at d.input n c.index) a.kind ∙ ap (λ n. chunk_at d.input d.kind n) a.index)
@@ -74,7 +74,7 @@ any_flat : {A C : Type 0} (t : C → Bool) (f : A → List C) (xs : List A) → 
 any_flat t f [] = refl
 any_flat t f (x ∷ xs) = ap (list_any t) (flat_map-cons f x xs) ∙ (list_any-append t (f x) (flat_map f xs) ∙ ap (λ b. list_any t (f x) || b) (any_flat t f xs))
 
-abbrev opt_any : {A : Type 0} → (A → Bool) → Option A → Bool
+abbrev pub opt_any : {A : Type 0} → (A → Bool) → Option A → Bool
 opt_any t None = false
 opt_any t (Some x) = t x
 
@@ -140,7 +140,7 @@ module _ (run : Run) (os : Objects) (p : Program) (cut : AreCut run os) (loaded 
   in_whole : (o : Object) → Has os.middle o → Has W o
   in_whole o has = has_right os.before (os.middle ++ os.behind) o (has_left os.middle os.behind o has)
 
-  one_input : (o x : Object) → Has os.middle o → Has os.middle x → (x.input == o.input) ≡ true → x ≡ o
+  pub one_input : (o x : Object) → Has os.middle o → Has os.middle x → (x.input == o.input) ≡ true → x ≡ o
   one_input o x ho hx same =
       let fx = (is_in run os cut loaded.rise x hx).found in
       let fo = (is_in run os cut loaded.rise o ho).found in
@@ -197,7 +197,7 @@ module _ (run : Run) (os : Objects) (p : Program) (cut : AreCut run os) (loaded 
           each m hm = member_is x m (T o i) ∙ by_kind m hm (m.kind == k) refl
 
       -- The one object's part is taken away where the run's is.
-      taken_alike : list_any (λ g. has_member k (T o i) g && is_taken run os cut g.name) (flat_map groups_won os.middle) ≡ is_taken_away run os cut o k i
+      pub taken_alike : list_any (λ g. has_member k (T o i) g && is_taken run os cut g.name) (flat_map groups_won os.middle) ≡ is_taken_away run os cut o k i
       taken_alike =
           any_flat (λ g. has_member k (T o i) g && is_taken run os cut g.name) groups_won os.middle
           ∙ (any_has_same (λ x. list_any (λ g. has_member k (T o i) g && is_taken run os cut g.name) (groups_won x))

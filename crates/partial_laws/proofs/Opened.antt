@@ -111,6 +111,18 @@ some_import (x ∷ xs) r has some e = by_import x.import refl e (some_import xs 
     by_import None is found rest =
         ⊎_elim (λ (it : x ≡ r). no_true (sym (ap is_some (ap (λ (y : InputSymbol). y.import) (sym it) ∙ is)) ∙ some)) (λ below. rest below some found) has
 
+-- where all or none are, all are as each
+weak_told : (xs : List InputSymbol) (u : InputSymbol) → Has xs u → (list_all (λ r. is_weak r.symbol) xs || not (list_any (λ r. is_weak r.symbol) xs)) ≡ true → list_all (λ r. is_weak r.symbol) xs ≡ is_weak u.symbol
+weak_told xs u there told = choose (list_all (λ r. is_weak r.symbol) xs) refl told
+  where
+    choose : (b : Bool) → list_all (λ r. is_weak r.symbol) xs ≡ b → (b || not (list_any (λ r. is_weak r.symbol) xs)) ≡ true → b ≡ is_weak u.symbol
+    choose true all t = sym (all_true (λ r. is_weak r.symbol) xs all u there)
+    choose false all t = none_weak (is_weak u.symbol) refl
+      where
+        none_weak : (w : Bool) → is_weak u.symbol ≡ w → false ≡ w
+        none_weak false is = refl
+        none_weak true is = absurd (no_true (sym (ap not (any_has (λ r. is_weak r.symbol) xs u there is)) ∙ t))
+
 module _ (run : Run) (os : Objects) (p : Program) (cut : AreCut run os) (stand : SymbolsStand run os p) (names : NamesStand run os p) (read : SymbolsRead run os p) (open_ : OpensStand run os p) where
   abbrev W : List Object
   W = whole_objects os
@@ -460,3 +472,18 @@ module _ (run : Run) (os : Objects) (p : Program) (cut : AreCut run os) (stand :
             (sym (ap (λ (b : Bool). b || not (list_any (λ r. is_weak r.symbol) (named E name))) (all_of_map al (λ r. is_weak r.symbol) (named E name)))
             ∙ (sym (ap (λ (b : Bool). list_all (λ r. is_weak r.symbol) (map al (named E name)) || not b) (any_of_map al (λ r. is_weak r.symbol) (named E name)))
             ∙ (sym (ap are_alike (refs_named v rest are)) ∙ told))))
+
+    -- So all of them are, or none.
+    pub weak_all : (u : InputSymbol) → Has (named E name) u → list_all (λ r. is_weak r.symbol) (named E name) ≡ is_weak u.symbol
+    weak_all u has = by_refs (named E name) refl
+      where
+        by_refs : (xs : List InputSymbol) → named E name ≡ xs → list_all (λ r. is_weak r.symbol) (named E name) ≡ is_weak u.symbol
+        by_refs [] none_there = absurd (subst (λ ys. Has ys u) none_there has)
+        by_refs (v ∷ rest) are =
+            let told : are_alike (name_references p (name_of v)) ≡ true =
+            all_true (λ e. are_alike (name_references p (name_of e))) (open_symbols p) open_.uniform (al v)
+            (filter_has (is_open p) (standing p) (al v) (standing_there v rest are) (ref_open v (first_has v rest are))) in
+            weak_told (named E name) u has
+            (sym (ap (λ (b : Bool). b || not (list_any (λ r. is_weak r.symbol) (named E name))) (all_of_map al (λ r. is_weak r.symbol) (named E name)))
+            ∙ (sym (ap (λ (b : Bool). list_all (λ r. is_weak r.symbol) (map al (named E name)) || not b) (any_of_map al (λ r. is_weak r.symbol) (named E name)))
+            ∙ (sym (ap are_alike (refs_named v rest are)) ∙ told)))

@@ -46,7 +46,7 @@ module _ (plan : Plan) (files : List (List ℕ)) (all : List Candidate) (objects
   unfolding imports_in_order
   imports_are = ap (λ ms. distinct same_import (filter_map import_of ms)) meanings_are
 
-  callable_are : plan.loose_calls ≡ false → callable (program_of Plain plan files all objects) ≡ entries Plain objects
+  pub callable_are : plan.loose_calls ≡ false → callable (program_of Plain plan files all objects) ≡ entries Plain objects
   unfolding program_of
   callable_are strict =
       ap (λ (b : Bool). entries Plain objects ++ loose_variants b (entries Plain objects) (resolve Plain plan.allow_undefined (entries Plain objects) objects)) strict

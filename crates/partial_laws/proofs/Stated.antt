@@ -53,7 +53,7 @@ module _ (run : Run) (os : Objects) (p : Program) (s : StandsForRun run os p) wh
 
   -- ---- what stands
 
-  stand : SymbolsStand run os p
+  pub stand : SymbolsStand run os p
   stand = record {
     program = s.program.symbols_are;
     symbols = s.read.symbols;
@@ -61,7 +61,7 @@ module _ (run : Run) (os : Objects) (p : Program) (s : StandsForRun run os p) wh
     found = middle_found run os s.cut s.loaded.rise;
   }
 
-  names : NamesStand run os p
+  pub names : NamesStand run os p
   names = record {
     entries_are = s.program.entries_are;
     winners_are = s.program.winners_are;
@@ -71,7 +71,7 @@ module _ (run : Run) (os : Objects) (p : Program) (s : StandsForRun run os p) wh
     taken = taken run os p s.cut s.loaded;
   }
 
-  opens : OpensStand run os p
+  pub opens : OpensStand run os p
   opens = record {
     on_import = s.refer.on_import;
     no_import = s.refer.no_import;
@@ -82,7 +82,7 @@ module _ (run : Run) (os : Objects) (p : Program) (s : StandsForRun run os p) wh
     no_clash = s.no_clash;
   }
 
-  apart : Apart same_entry (linked_symbols (whole_objects os))
+  pub apart : Apart same_entry (linked_symbols (whole_objects os))
   apart = apart_linked (whole_objects os) s.loaded.rise
 
   -- ---- so what is kept
@@ -93,16 +93,16 @@ module _ (run : Run) (os : Objects) (p : Program) (s : StandsForRun run os p) wh
   symbols_is : flat_map (symbols_of (later_objects run os)) (later_objects run os) ≡ joined (joining run os p) (flat_map (symbols_of (whole_objects os)) (whole_objects os))
   symbols_is = symbols_joined run os p s.cut stand
 
-  is : IsJoining (joining run os p) K (entries Plain (whole_objects os))
+  pub is : IsJoining (joining run os p) K (entries Plain (whole_objects os))
   is = is_joining run os p s.cut stand names s.read.read opens apart
 
-  all : All K (entries Plain (whole_objects os))
+  pub all : All K (entries Plain (whole_objects os))
   all = all_known run os p s.cut stand names s.read.read opens apart
 
   all_syms : All K (flat_map (symbols_of (whole_objects os)) (whole_objects os))
   all_syms = all_from_has K (flat_map (symbols_of (whole_objects os)) (whole_objects os)) (λ e has. has_right (made_from 0 (made Plain)) (flat_map (symbols_of (whole_objects os)) (whole_objects os)) e has)
 
-  kept_names : NamesKept run os p
+  pub kept_names : NamesKept run os p
   kept_names = record {
     symbols = (entries_is, symbols_is);
     winners = ap winners_of entries_is ∙ winners_move j K es is all;
