@@ -15,7 +15,8 @@ use wl_fan::Workers;
 use wl_outside::OpenGate;
 
 /// An object that needs the function `env.f`.
-const NEEDS_F: [u8; 42] = *b"\0asm\x01\0\0\0\x01\x04\x01`\0\0\x02\x09\x01\x03env\x01f\0\0\0\x0f\x07linking\x02\x08\x04\x01\0\x10\0";
+const NEEDS_F: [u8; 42] =
+    *b"\0asm\x01\0\0\0\x01\x04\x01`\0\0\x02\x09\x01\x03env\x01f\0\0\0\x0f\x07linking\x02\x08\x04\x01\0\x10\0";
 
 /// How many imports there are, the numbers of the linker's globals among them, and the cell of the first symbol.
 type Besides = (u32, [u32; 3], Option<u32>);
