@@ -4,6 +4,4 @@
 #[cfg(test)]
 mod dylink;
 #[cfg(test)]
-mod meanings;
-#[cfg(test)]
 mod uses;

@@ -15,7 +15,7 @@ use wl_fan::Workers;
 use wl_outside::OpenGate;
 
 /// Whether the object is input 1.
-pub fn is_first(objects: &[Object]) -> bool
+fn is_first(objects: &[Object]) -> bool
     ensures { IsTrue result → InputsRise 0 objects.now }
 {
     match objects {
