@@ -7,14 +7,14 @@ use Rattle.std.proofs.lemmas.Option.{slice_get_within}
 use Rattle.wasm_types.specs.declared.value.ValType.{ValType}
 use Rattle.wasm_instr.specs.declared.body.LocalRun.{LocalRun}
 use Rattle.valid_bodies.specs.Shapes.{run_type, local_type}
-use Rattle.body_check.specs.Table.{spread, IsTable}
+use Rattle.body_check.specs.Table.{spread, TellsFirst}
 
-front : {A : Type 0} (xs ys : List A) (x : ℕ) → x < length xs → slice_get (xs ++ ys) x ≡ slice_get xs x
+pub front : {A : Type 0} (xs ys : List A) (x : ℕ) → x < length xs → slice_get (xs ++ ys) x ≡ slice_get xs x
 front [] ys x lt = absurd (omega (arith, lt))
 front (a ∷ xs) ys zero lt = refl
 front (a ∷ xs) ys (suc x) lt = front xs ys x (omega (arith, lt))
 
-behind : {A : Type 0} (xs ys : List A) (x : ℕ) → length xs ≤ x → slice_get (xs ++ ys) x ≡ slice_get ys (x - length xs)
+pub behind : {A : Type 0} (xs ys : List A) (x : ℕ) → length xs ≤ x → slice_get (xs ++ ys) x ≡ slice_get ys (x - length xs)
 behind [] ys x le = let same : x ≡ x - 0 = omega arith in ap (slice_get ys) same
 behind (a ∷ xs) ys zero le = absurd (omega (arith, le))
 behind (a ∷ xs) ys (suc x) le =
@@ -46,10 +46,10 @@ runs_get (run ∷ runs) x = of (runs_get runs (x - run.count)) (nat_lt x run.cou
         others
         ∙ sym (behind (replicate run.count run.kind) (spread runs) x (omega (arith, le, long)) ∙ ap (slice_get (spread runs)) same)
 
-pub params_table : (params : List ValType) (runs : List LocalRun) → IsTable params runs params
+pub params_table : (params : List ValType) (runs : List LocalRun) → TellsFirst params runs params
 params_table params runs = λ x t e. let within = slice_get_within params x t e in rw (lt-ltb x (length params) within) e
 
-pub whole_table : (params : List ValType) (runs : List LocalRun) (table : List ValType) → table ≡ params ++ spread runs → IsTable params runs table
+pub whole_table : (params : List ValType) (runs : List LocalRun) (table : List ValType) → table ≡ params ++ spread runs → TellsFirst params runs table
 whole_table params runs table is = λ x t e. of x t (ap (λ ts. slice_get ts x) (sym is) ∙ e) (nat_lt x (length params)) refl
   where
     of : (x : ℕ) (t : ValType) → slice_get (params ++ spread runs) x ≡ Some t → (b : Bool) → nat_lt x (length params) ≡ b → local_type params runs x ≡ Some t

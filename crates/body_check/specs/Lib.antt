@@ -1,3 +1,4 @@
 pub mod Judging
+pub mod Labels
 pub mod Passing
 pub mod Table

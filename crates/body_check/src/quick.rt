@@ -10,13 +10,14 @@ ghost use Rattle.body_check.specs.Table.{IsTable};
 ghost use Rattle.body_check.specs.Passing.{Does, Passes, IsUnfit};
 
 use crate::opcodes::{is_access, is_constant, is_global, is_local, is_long_constant, is_numeric};
-use valid_bodies::{Context, Effect, access_effect, effect_at, numeric_effect, reads_effect};
-use valid_rules::Frame;
+use crate::table::{Table, kind_at};
+use valid_bodies::{
+    Blocks, Context, Effect, access_effect, effect_at, numeric_effect, reads_effect,
+};
 use wasm_grammar::{byte_at, s32_at, s64_at, u32_at};
 use wasm_instr::{Instr, LocalRun};
-use wasm_types::{FuncType, ValType};
-use wl_base::{OutOfMemory, Seq};
-use wl_stack::Stack;
+use wasm_types::{FuncType, ValType, plain_val_type_at};
+use wl_base::OutOfMemory;
 
 /// The effect of an instruction of a local of this type.
 #[inline(always)]
@@ -37,7 +38,7 @@ fn local_next<'a>(
     _context: &Context,
     _kind: &FuncType,
     _locals: &[LocalRun],
-    table: &Seq<ValType>,
+    table: &Table,
     end: usize,
     opcode: u8,
     behind: &'a [u8],
@@ -49,9 +50,9 @@ fn local_next<'a>(
     let Ok((local, rest)) = u32_at(end, behind) else {
         return None
     };
-    match table.get(local as usize) {
+    match kind_at(table, local as usize) {
         None => None,
-        Some(of) => Some((local_effect(opcode, *of), rest)),
+        Some(of) => Some((local_effect(opcode, of), rest)),
     }
 }
 
@@ -101,6 +102,31 @@ fn access_next<'a>(
     Some((access_effect(context.memory, opcode, align), rest))
 }
 
+/// The effect of a `select` of one type, behind its opcode, and the bytes after it.
+#[tactic(auto, using(crate::proofs::Doing::does_select))]
+fn select_next<'a>(
+    _context: &Context,
+    _kind: &FuncType,
+    _locals: &[LocalRun],
+    end: usize,
+    opcode: u8,
+    behind: &'a [u8],
+) -> Option<(Effect, &'a [u8])>
+    requires { opcode ≡ 0x1c }
+    ensures { (bytes : List ℕ) → byte_at end bytes ≡ Ok (opcode, behind.now) → IfSome result (λ x. Does _context.now _kind.now _locals.now end bytes (shape_of x.0) x.1.now) }
+{
+    let Ok((count, mid)) = u32_at(end, behind) else {
+        return None
+    };
+    if count != 1 {
+        return None;
+    }
+    match plain_val_type_at(end, mid) {
+        Err(_) => None,
+        Ok((of, rest)) => Some((Effect::Chooses(of), rest)),
+    }
+}
+
 /// The effect of the instruction at the front, and the bytes after it, where it is quick to tell.
 #[inline(always)]
 #[tactic(auto, using(crate::proofs::Doing::does_numeric, crate::proofs::Doing::does_constant, crate::proofs::Doing::does_long_constant))]
@@ -108,7 +134,7 @@ fn effect_next<'a>(
     context: &Context,
     kind: &FuncType,
     locals: &[LocalRun],
-    table: &Seq<ValType>,
+    table: &Table,
     end: usize,
     bytes: &'a [u8],
 ) -> Option<(Effect, &'a [u8])>
@@ -142,29 +168,31 @@ fn effect_next<'a>(
         };
         return Some((Effect::Gives(ValType::I64), rest));
     }
+    if opcode == 0x1c {
+        return select_next(context, kind, locals, end, opcode, behind);
+    }
     None
 }
 
-/// Types what is quick to type at the front of the code, in the innermost frame: the bytes from the first instruction
+/// Types what is quick to type at the front of the code, in the innermost block: the bytes from the first instruction
 /// on that isn't; none where one has no typing.
 #[tactic(auto, using(crate::proofs::Doing::passes_none, crate::proofs::Doing::passes_on, crate::proofs::Doing::unfit_here))]
 pub fn types_quickly<'a>(
     context: &Context,
     kind: &FuncType,
     locals: &[LocalRun],
-    table: &Seq<ValType>,
-    around: &Stack<Frame>,
-    frame: &mut Frame,
+    table: &Table,
+    blocks: &mut Blocks,
     end: usize,
     bytes: &'a [u8],
 ) -> Result<Option<&'a [u8]>, OutOfMemory>
     requires { IsTable kind.now.params locals.now table.now }
-    ensures { IfOk result (λ found. MatchOption found (IsUnfit context.now kind.now locals.now end around.now frame.old bytes.now)
-        (λ rest. Passes context.now kind.now locals.now end around.now frame.old bytes.now frame.new rest.now)) }
+    ensures { IfOk result (λ found. MatchOption found (IsUnfit context.now kind.now locals.now end blocks.old bytes.now)
+        (λ rest. Passes context.now kind.now locals.now end blocks.old bytes.now blocks.new rest.now)) }
 {
     let mut rest = bytes;
     while let Some((effect, after)) = effect_next(context, kind, locals, table, end, rest) {
-        if !reads_effect(around, frame, effect)? {
+        if !reads_effect(blocks, effect)? {
             return Ok(None);
         }
         rest = after;

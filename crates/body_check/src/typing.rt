@@ -2,24 +2,23 @@
 ghost use Rattle.std.specs.Prelude.{◌≡◌, [], ◌∷◌, false, length, Some, None, IfOk, MatchOption};
 ghost use Rattle.wasm_instr.specs.Bodies.{code_at, body_at};
 ghost use Rattle.wasm_instr.specs.Skimming.{outline_of};
-ghost use Rattle.valid_rules.specs.Reading.{whole, step};
+ghost use Rattle.valid_rules.specs.Reading.{whole};
 ghost use Rattle.valid_bodies.specs.Shapes.{shape};
+ghost use Rattle.valid_bodies.specs.Steps.{step_on};
 ghost use Rattle.body_check.specs.Table.{IsTable};
 ghost use Rattle.body_check.specs.Judging.{judged, verdict};
 
+use crate::branching::types_plainly;
 use crate::locals::locals_at;
-use crate::quick::types_quickly;
 use crate::skimming::{turns, unfit};
-use crate::table::table_of;
+use crate::table::{Table, table_of};
 use crate::verdict::Verdict;
 use std::alloc::Global;
-use valid_bodies::{Context, begin, reads_at};
-use valid_rules::Frame;
+use valid_bodies::{Blocks, Context, reads_one};
 use wasm_grammar::ReadFault;
 use wasm_instr::{Instr, LocalRun, Outline, instr_at};
-use wasm_types::{FuncType, ValType};
+use wasm_types::FuncType;
 use wl_base::{OutOfMemory, Seq};
-use wl_stack::Stack;
 
 /// What the bytes behind the instruction that closed the last block are, where these blocks are open by the grammar.
 fn closed(
@@ -41,21 +40,20 @@ fn closed(
     }
 }
 
-/// Types an instruction in the innermost frame, which is taken off `frames` before: its outline, where it has a typing.
+/// Types an instruction in the innermost block: its outline, where it has a typing.
 fn types(
     alloc: Global,
     context: &Context,
     kind: &FuncType,
     locals: &[LocalRun],
-    frames: &mut Stack<Frame>,
-    frame: Frame,
+    blocks: &mut Blocks,
     instr: Instr,
 ) -> Result<Option<Outline>, OutOfMemory>
-    ensures { IfOk result (λ found. MatchOption found (step frames.old frame (shape context.now kind.now locals.now instr) ≡ None)
-        (λ outline. (step frames.old frame (shape context.now kind.now locals.now instr) ≡ Some frames.new) × (outline ≡ outline_of instr))) }
+    ensures { IfOk result (λ found. MatchOption found (step_on blocks.old (shape context.now kind.now locals.now instr) ≡ None)
+        (λ outline. (step_on blocks.old (shape context.now kind.now locals.now instr) ≡ Some blocks.new) × (outline ≡ outline_of instr))) }
 {
     let outline = instr.outline();
-    if reads_at(alloc, context, kind, locals, frames, frame, &instr)? {
+    if reads_one(alloc, context, kind, locals, blocks, &instr)? {
         Ok(Some(outline))
     } else {
         Ok(None)
@@ -68,7 +66,7 @@ fn judge_code(
     context: &Context,
     kind: &FuncType,
     locals: &[LocalRun],
-    table: &Seq<ValType>,
+    table: &Table,
     end: usize,
     bytes: &[u8],
 ) -> Result<Verdict, OutOfMemory>
@@ -77,16 +75,14 @@ fn judge_code(
 {
     let mut opens = Seq::new(alloc);
     opens.push(false)?;
-    let mut around = begin(alloc, kind.results.as_slice())?;
+    let mut blocks = Blocks::new(alloc);
+    blocks.begin(kind.results.as_slice())?;
     let mut rest = bytes;
-    while let Some(inner) = around.pop() {
-        let mut frame = inner;
+    while blocks.is_open() {
         if opens.len() == 0 {
             return unfit(opens, end, rest);
         }
-        let Some(there) = types_quickly(
-            context, kind, locals, table, &around, &mut frame, end, rest,
-        )?
+        let Some(there) = types_plainly(context, kind, locals, table, &mut blocks, end, rest)?
         else {
             return unfit(opens, end, rest);
         };
@@ -94,8 +90,7 @@ fn judge_code(
             Err(ReadFault::OutOfMemory) => return Err(OutOfMemory),
             Err(ReadFault::Stopped(_)) => return Ok(Verdict::Unread),
             Ok((instr, _, after)) => {
-                let Some(outline) = types(alloc, context, kind, locals, &mut around, frame, instr)?
-                else {
+                let Some(outline) = types(alloc, context, kind, locals, &mut blocks, instr)? else {
                     return unfit(opens, end, there);
                 };
                 if !turns(&mut opens, outline)? {
@@ -125,8 +120,8 @@ fn judge_behind(
 
 /// What the bytes are, as the body of a function of this type in its context: read whole, and typed as it is read.
 ///
-/// Each byte is gone over once, or twice where there is no typing; memory is taken for the runs of locals, the open
-/// blocks and their operands.
+/// Each byte is gone over once, or twice in a `br_table` and where there is no typing; memory is taken for the locals, the
+/// open blocks and their operands, and not for an instruction.
 ///
 /// # Errors
 /// Want of memory.

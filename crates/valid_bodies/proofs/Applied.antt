@@ -5,6 +5,7 @@ use Rattle.wasm_types.specs.declared.value.ValType.TheVariants.{I32}
 use Rattle.wasm_types.specs.declared.function.FuncType.{FuncType}
 use Rattle.valid_rules.specs.declared.types.Operand.{Operand}
 use Rattle.valid_rules.specs.declared.types.Frame.{Frame}
+use Rattle.valid_rules.specs.declared.types.Shape.TheVariants.{Typed}
 use Rattle.valid_rules.specs.Reading.{step, with_operands, put, take_all}
 use Rattle.valid_rules.proofs.Fitting.{no_some}
 use Rattle.valid_bodies.specs.declared.effects.Effect.{Effect}
@@ -23,6 +24,10 @@ went_by fs f t (Some ws) false new h = absurd (no_some (put t.results ws) (sym h
 typed_went : (fs : List Frame) (f : Frame) (t : FuncType) (so : Bool) (new : List Operand)
     → Went (typed_on f.unreachable f.operands t) so new → Went (option_and_then (λ vs. Some (with_operands f (put t.results vs) ∷ fs)) (take_all f.unreachable (reverse t.params) f.operands)) so (with_operands f new ∷ fs)
 typed_went fs f t so new h = went_by fs f t (take_all f.unreachable (reverse t.params) f.operands) so new h
+
+pub typed : (fs : List Frame) (f : Frame) (t : FuncType) (so : Bool) (new : List Operand) → Went (typed_on f.unreachable f.operands t) so new → Went (step fs f (Typed t)) so (with_operands f new ∷ fs)
+unfolding step
+typed fs f t so new h = typed_went fs f t so new h
 
 pub steps : (fs : List Frame) (f : Frame) (e : Effect) (so : Bool) (new : List Operand) → Went (shaped f.unreachable f.operands (shape_of e)) so new → Went (step fs f (shape_of e)) so (with_operands f new ∷ fs)
 unfolding step

@@ -1,4 +1,7 @@
 pub mod Went
+pub mod Layer
+pub mod Blocks
+pub mod Steps
 pub mod Numeric
 pub mod Effects
 pub mod Accesses

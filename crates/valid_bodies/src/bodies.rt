@@ -1,77 +1,61 @@
 //! The bodies of functions in their context.
-ghost use Rattle.std.specs.Prelude.{◌≡◌, [], ◌∷◌, IfOk};
-ghost use Rattle.valid_rules.specs.Reading.{whole};
-ghost use Rattle.valid_bodies.specs.Went.{accepts, Decides};
-ghost use Rattle.valid_bodies.specs.Shapes.{shapes_in, BodyIsTyped};
+ghost use Rattle.std.specs.Prelude.{◌≡◌, IfOk};
+ghost use Rattle.valid_bodies.specs.Steps.{step_on};
+ghost use Rattle.valid_bodies.specs.Went.{Went, accepts, Decides};
+ghost use Rattle.valid_bodies.specs.Shapes.{shape, shapes_in, BodyIsTyped};
 ghost use Rattle.valid_bodies.specs.First.{IsFirst, IsFirstIn, TypedAt};
 
-use crate::frames::enter;
-use crate::reading::{reads_at, reads_effect};
+use crate::blocks::Blocks;
+use crate::frames::reads_effect;
+use crate::reading::reads_at;
 use crate::shapes::effect_at;
 use crate::types::Context;
 use std::alloc::Global;
-use valid_rules::{Frame, Opener};
-use wasm_instr::Body;
-use wasm_types::{FuncType, ValType};
-use wl_base::{OutOfMemory, Seq};
-use wl_stack::Stack;
+use wasm_instr::{Body, Instr, LocalRun};
+use wasm_types::FuncType;
+use wl_base::OutOfMemory;
 
-/// The frame of a body with these results.
-fn whole_frame(alloc: Global, results: &[ValType]) -> Result<Frame, OutOfMemory>
-    ensures { IfOk result (λ frame. frame ≡ whole results.now) }
-{
-    let kind = FuncType {
-        params: Seq::new(alloc),
-        results: Seq::from_slice(alloc, results)?,
-    };
-    enter(alloc, Opener::Block, kind)
-}
-
-/// What is open at the start of a body with these results: the body itself.
+/// One instruction of a function of this type with these locals, in its context: whether it has a typing in the innermost
+/// block. Then `blocks` holds what is open behind it; else its contents are of no use. It takes memory for an open block
+/// and for operands alone.
 ///
 /// # Errors
 /// Want of memory.
-pub fn begin(alloc: Global, results: &[ValType]) -> Result<Stack<Frame>, OutOfMemory>
-    ensures { IfOk result (λ frames. frames ≡ whole results.now ∷ []) }
+pub fn reads_one(
+    alloc: Global,
+    context: &Context,
+    kind: &FuncType,
+    locals: &[LocalRun],
+    blocks: &mut Blocks,
+    instr: &Instr,
+) -> Result<bool, OutOfMemory>
+    ensures { IfOk result (λ went. Went (step_on blocks.old (shape context.now kind.now locals.now instr.now)) went blocks.new) }
 {
-    let mut frames = Stack::new(alloc);
-    frames.push(whole_frame(alloc, results)?)?;
-    Ok(frames)
+    match effect_at(context, kind, locals, instr) {
+        Some(effect) => reads_effect(blocks, effect),
+        None => reads_at(alloc, context, kind, locals, blocks, instr),
+    }
 }
 
-/// Whether the reading of a body ends well. The innermost frame stands by itself, so that most instructions find its
-/// operands in place.
-#[tactic(auto, unfolding(valid_rules::specs::Reading::read))]
+/// Whether the reading of a body ends well. The room of the blocks that were open before is used again.
 fn reads_body(
     alloc: Global,
     context: &Context,
     kind: &FuncType,
+    blocks: &mut Blocks,
     body: &Body,
 ) -> Result<bool, OutOfMemory>
     ensures { IfOk result (λ so. so ≡ accepts kind.now.results (shapes_in context.now kind.now body.now)) }
 {
-    let code = body.code.as_slice();
     let locals = body.locals.as_slice();
-    let mut around = Stack::new(alloc);
-    let mut frame = whole_frame(alloc, kind.results.as_slice())?;
-    for at in 0..code.len() {
-        let instr = &code[at].instr;
-        match effect_at(context, kind, locals, instr) {
-            Some(effect) => if !reads_effect(&around, &mut frame, effect)? {
-                return Ok(false);
-            },
-            None => {
-                if !reads_at(alloc, context, kind, locals, &mut around, frame, instr)? {
-                    return Ok(false);
-                }
-                let Some(inner) = around.pop() else {
-                    return Ok(at + 1 == code.len());
-                };
-                frame = inner;
-            }
+    blocks.begin(kind.results.as_slice())?;
+    for placed in body.code.as_slice() {
+        let went = reads_one(alloc, context, kind, locals, blocks, &placed.instr)?;
+        if !went {
+            return Ok(false);
         }
     }
-    Ok(false)
+    Ok(!blocks.is_open())
 }
 
 /// Whether a body of this type has a typing.
@@ -80,11 +64,12 @@ fn is_typed(
     alloc: Global,
     context: &Context,
     kind: &FuncType,
+    blocks: &mut Blocks,
     body: &Body,
 ) -> Result<bool, OutOfMemory>
     ensures { IfOk result (λ so. Decides so (BodyIsTyped context.now kind.now body.now)) }
 {
-    reads_body(alloc, context, kind, body)
+    reads_body(alloc, context, kind, blocks, body)
 }
 
 /// Whether the body at a place has a typing, by the type of the function at that place.
@@ -93,6 +78,7 @@ fn is_typed_at(
     context: &Context,
     functions: &[u32],
     bodies: &[Body],
+    blocks: &mut Blocks,
     at: usize,
 ) -> Result<bool, OutOfMemory>
     ensures { IfOk result (λ so. Decides so (TypedAt context.now functions.now bodies.now at)) }
@@ -105,7 +91,7 @@ fn is_typed_at(
     };
     match bodies.get(at) {
         None => Ok(false),
-        Some(body) => is_typed(alloc, context, kind, body),
+        Some(body) => is_typed(alloc, context, kind, blocks, body),
     }
 }
 
@@ -120,8 +106,9 @@ pub fn first_untyped_in(
 ) -> Result<Option<usize>, OutOfMemory>
     ensures { IfOk result (λ found. IsFirstIn context.now functions.now bodies.now from to found) }
 {
+    let mut blocks = Blocks::new(alloc);
     for at in from..to {
-        if !is_typed_at(alloc, context, functions, bodies, at)? {
+        if !is_typed_at(alloc, context, functions, bodies, &mut blocks, at)? {
             return Ok(Some(at));
         }
     }
@@ -131,7 +118,7 @@ pub fn first_untyped_in(
 /// The place of the first body that has no typing in its context; `functions` has, for each body,
 /// the index of its type among the context's (Core 3.4.1). `None` exactly where all have a typing.
 ///
-/// Each body is read once; memory is taken for its open blocks and their operands.
+/// Each body is read once. Memory is taken for the blocks that are open at once and their operands; the next body uses it again.
 ///
 /// # Errors
 /// Want of memory.

@@ -6,12 +6,12 @@ ghost use Rattle.valid_bodies.specs.Effects.{shape_of, shaped};
 ghost use Rattle.valid_bodies.specs.Numeric.{to};
 ghost use Rattle.valid_bodies.specs.Went.{Went};
 
+use crate::layer::Operands;
 use crate::operands::{gives, takes_one};
 use std::alloc::Global;
-use valid_rules::{Operand, Shape};
+use valid_rules::Shape;
 use wasm_types::{FuncType, ValType};
 use wl_base::{OutOfMemory, Seq};
-use wl_stack::Stack;
 
 /// What an instruction takes and gives.
 #[derive(Clone, Copy)]
@@ -63,13 +63,14 @@ pub fn with_effect(alloc: Global, effect: Effect) -> Result<Shape, OutOfMemory>
     }
 }
 
-/// An instruction of this effect on a frame's operands: whether it found what it takes.
+/// An instruction of this effect on the operands of the innermost block: whether it found what it takes.
 pub fn applies(
-    operands: &mut Stack<Operand>,
+    operands: &mut Operands,
     unreachable: bool,
     effect: Effect,
 ) -> Result<bool, OutOfMemory>
-    ensures { IfOk result (λ went. Went (shaped unreachable operands.old (shape_of effect)) went operands.new) }
+    ensures own { IfOk result (λ went. Went (shaped unreachable operands.old.own (shape_of effect)) went operands.new.own) }
+    ensures below { operands.new.below ≡ operands.old.below }
 {
     match effect {
         Effect::Untyped => Ok(false),

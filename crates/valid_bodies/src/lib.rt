@@ -5,17 +5,21 @@
 //! algorithm of Core, appendix A.3 (`frames`, `operands`).
 //!
 //! A module's shapes are never made, but for some of control: most instructions say by themselves what
-//! they take and give (`effects`), and calls and blocks have it in the context (`reading`). So a common
-//! instruction takes no memory. Bodies are read by one worker (`bodies`) or several (`sharing`).
+//! they take and give (`effects`), and calls and blocks have it in the context (`reading`). The blocks that are open lie on
+//! one stack of operands (`blocks`, `layer`), which a worker uses for all its bodies. So no instruction takes memory of its own.
+//! Bodies are read by one worker (`bodies`) or several (`sharing`).
 //!
 //! An instruction whose references aren't its indices, as in an object, has its shape by what it names
-//! (`shape_by`), and is read like any other (`begin`, `reads`).
+//! (`shape_by`), and is read like any other (`reads`).
 #![tactic(auto)]
 
 mod accesses;
+mod blocks;
 mod bodies;
 mod effects;
 mod frames;
+mod labels;
+mod layer;
 mod meanings;
 mod numeric;
 mod opcodes;
@@ -26,13 +30,13 @@ mod sharing;
 mod types;
 
 pub use accesses::access_effect;
-pub use bodies::{begin, first_untyped};
-pub use effects::{Effect, applies};
-pub use frames::{reads, uses};
+pub use blocks::Blocks;
+pub use bodies::{first_untyped, reads_one};
+pub use effects::Effect;
+pub use frames::{cuts, reads, reads_effect};
+pub use labels::{label_arity, label_fits};
 pub use meanings::type_at;
 pub use numeric::numeric_effect;
-pub use operands::{gives, takes_one};
-pub use reading::{reads_at, reads_effect};
-pub use shapes::{effect_at, shape_by};
+pub use shapes::{effect_at, effect_by, shape_by};
 pub use sharing::first_untyped_by;
 pub use types::{Context, Meaning};

@@ -4,15 +4,24 @@ ghost use Rattle.std.specs.Prelude.{◌≡◌, slice_get, IfOk, MatchOption, Som
 ghost use Rattle.valid_bodies.specs.declared.types.Meaning.TheVariants.{Nothing, OfType};
 ghost use Rattle.valid_bodies.specs.Meanings.{block_type, in_table, meaning, type_at, typed_as};
 
-use crate::frames::copied;
 use crate::types::{Context, Meaning};
 use std::alloc::Global;
 use wasm_instr::{BlockKind, Instr};
 use wasm_types::FuncType;
 use wl_base::{OutOfMemory, Seq};
 
+/// The same type once more.
+fn copied(alloc: Global, kind: &FuncType) -> Result<FuncType, OutOfMemory>
+    ensures { IfOk result (λ copy. copy ≡ kind.now) }
+{
+    Ok(FuncType {
+        params: Seq::from_slice(alloc, kind.params.as_slice())?,
+        results: Seq::from_slice(alloc, kind.results.as_slice())?,
+    })
+}
+
 /// The type of a block, where it is there (Core 3.2.2).
-pub fn block_kind(
+fn block_kind(
     alloc: Global,
     types: &Seq<FuncType>,
     kind: &BlockKind,

@@ -1,17 +1,27 @@
 -- The steps of loops over an object's lists.
 use Rattle.std.proofs.Common.{◌≡◌, ℕ, ◌+◌, ◌≤◌, true, false, cond, List, [], ◌∷◌, ◌++◌, map, drop, length, Option, Some, None, ap, sym, ◌∙◌, subst, arith, append_assoc}
-use Rattle.std.specs.Prelude.{filter_map, slice_get}
+use Rattle.std.specs.Prelude.{filter_map, slice_get, option_and_then, not}
 use Rattle.std.specs.List.{All, cons_option}
 use Rattle.std.proofs.lemmas.Option.{slice_get_within, get_or_from_slice_get}
 use Rattle.std.proofs.lemmas.List.{drop_more, drop_all}
 use Rattle.std.proofs.lemmas.List.Elements.{All-get_or}
+use Rattle.wasm_types.specs.declared.function.FuncType.{FuncType}
+use Rattle.object_file.specs.body_windows.declared.operands.Reference.{Reference}
 use Rattle.object_file.specs.body_windows.Operands.{StandIn}
 use Rattle.object_file.specs.object_parts.Spans.{LiesIn}
 use Rattle.object_file.specs.object_columns.declared.functions.FunctionDef.{FunctionDef}
 use Rattle.object_file.specs.declared.object.Object.{Object}
 use Rattle.object_file.specs.Sound.{Sound}
+use Rattle.wasm_instr.specs.declared.body.LocalRun.{LocalRun}
+use Rattle.wasm_instr.specs.declared.body.Placed.{Placed}
 use Rattle.wasm_instr.specs.Bodies.{body_at}
+use Rattle.valid_rules.specs.declared.types.Frame.{Frame}
+use Rattle.valid_rules.specs.Reading.{Read, read}
+use Rattle.valid_bodies.specs.Steps.{step_on, is_open}
+use Rattle.valid_bodies.specs.Went.{ended}
+use Rattle.valid_bodies.proofs.Ending.{read_next, is_over}
 use Rattle.valid_objects.specs.Objects.{body_bytes, accepted, first_refused}
+use Rattle.valid_objects.specs.Merging.{named_place, left_at, merged_shape, merged}
 
 drop_at : {A : Type 0} (xs : List A) (i : ℕ) (x : A) → slice_get xs i ≡ Some x → drop i xs ≡ x ∷ drop (i + 1) xs
 drop_at xs i x at = drop_more xs i x (slice_get_within xs i x at) ∙ ap (λ y. y ∷ drop (i + 1) xs) (get_or_from_slice_get xs i x x at)
@@ -55,6 +65,29 @@ module _ (o : Object) (bytes : List ℕ) (n i : ℕ) (fs : List FunctionDef) (to
 
   pub none_refused : length fs ≤ i → None ≡ total
   none_refused past = sym (ap (first_refused o bytes (n + i)) (drop_all i fs past)) ∙ rest
+
+-- ---- a body beside its references
+
+module _ (o : Object) (t : FuncType) (locals : List LocalRun) (left now : List Reference) (code : List Placed) (x : Placed) (at : ℕ) (fs : List Frame) (total : Read)
+    (here : slice_get code at ≡ Some x) (same : now ≡ left_at (named_place x x.instr) left) (so_far : read fs (merged o t locals left (drop at code)) ≡ total) where
+  abbrev behind_it : List Frame → Read
+  behind_it gs = read gs (merged o t locals now (drop (at + 1) code))
+
+  by_step : read fs (merged o t locals left (drop at code)) ≡ option_and_then behind_it (step_on fs (merged_shape o t locals now x))
+  by_step =
+      ap (λ xs. read fs (merged o t locals left xs)) (drop_at code at x here)
+      ∙ ap (λ rs. read fs (merged_shape o t locals rs x ∷ merged o t locals rs (drop (at + 1) code))) (sym same)
+      ∙ read_next (merged_shape o t locals now x) (merged o t locals now (drop (at + 1) code)) fs
+
+  pub reads_on : (gs : List Frame) → step_on fs (merged_shape o t locals now x) ≡ Some gs → read gs (merged o t locals now (drop (at + 1) code)) ≡ total
+  reads_on gs went = sym (ap (option_and_then behind_it) went) ∙ sym by_step ∙ so_far
+
+  pub reads_not : step_on fs (merged_shape o t locals now x) ≡ None → false ≡ ended total
+  reads_not went = sym (ap (λ r. ended (option_and_then behind_it r)) went) ∙ sym (ap ended by_step) ∙ ap ended so_far
+
+pub is_read : (o : Object) (t : FuncType) (locals : List LocalRun) (left : List Reference) (code : List Placed) (at : ℕ) (fs : List Frame) (total : Read) → length code ≤ at
+    → read fs (merged o t locals left (drop at code)) ≡ total → not (is_open fs) ≡ ended total
+is_read o t locals left code at fs total past so_far = is_over fs ∙ ap (λ xs. ended (read fs (merged o t locals left xs))) (sym (drop_all at code past)) ∙ ap ended so_far
 
 -- ---- what a sound object has
 

@@ -3,7 +3,8 @@ ghost use Rattle.std.specs.Prelude.{◌≡◌, ◌≤◌, ◌+◌, ◌^◌, leng
 ghost use Rattle.object_file.specs.body_windows.Operands.{StandIn, operands_seen};
 ghost use Rattle.object_file.specs.object_columns.Seen.{function_seen};
 ghost use Rattle.wasm_instr.specs.Bodies.{body_at};
-ghost use Rattle.valid_bodies.specs.Went.{accepts};
+ghost use Rattle.valid_bodies.specs.Steps.{step_on};
+ghost use Rattle.valid_bodies.specs.Went.{Went, accepts};
 ghost use Rattle.valid_objects.specs.Objects.{accepted, body_bytes};
 ghost use Rattle.valid_objects.specs.Merging.{AreNames, merged, merged_shape};
 
@@ -12,7 +13,7 @@ use crate::names::{Names, written_type};
 use crate::references::{left_at, operand_in};
 use object_file::{FunctionRef, Object, Reference};
 use std::alloc::Global;
-use valid_bodies::{begin, reads, shape_by};
+use valid_bodies::{Blocks, effect_by, reads, reads_effect, shape_by};
 use valid_rules::Shape;
 use wasm_instr::{Body, BodyFault, LocalRun, Placed, read_body};
 use wasm_types::FuncType;
@@ -36,8 +37,31 @@ fn shape_at(
     shape_by(alloc, true, kind, locals, meaning, &placed.instr)
 }
 
+/// One instruction, where these references are left: whether it has a typing in the innermost block. Its shape is made
+/// only where its effect isn't known without what it names.
+fn reads_one(
+    alloc: Global,
+    o: &Object,
+    names: &Names,
+    kind: &FuncType,
+    locals: &[LocalRun],
+    left: &[Reference],
+    blocks: &mut Blocks,
+    placed: &Placed,
+) -> Result<bool, OutOfMemory>
+    requires { AreNames names.now o.now }
+    ensures { IfOk result (λ went. Went (step_on blocks.old (merged_shape o.now kind.now locals.now left.now placed.now)) went blocks.new) }
+{
+    match effect_by(true, kind, locals, &placed.instr) {
+        Some(effect) => reads_effect(blocks, effect),
+        None => {
+            let shape = shape_at(alloc, o, names, kind, locals, left, placed)?;
+            reads(blocks, &shape)
+        }
+    }
+}
+
 /// Whether the reading of a body ends well, beside its references.
-#[tactic(auto, unfolding(valid_rules::specs::Reading::read))]
 fn reads_body(
     alloc: Global,
     o: &Object,
@@ -49,19 +73,18 @@ fn reads_body(
     requires { AreNames names.now o.now }
     ensures { IfOk result (λ so. so ≡ accepts kind.now.results (merged o.now kind.now body.now.locals references.now body.now.code)) }
 {
-    let mut frames = begin(alloc, kind.results.as_slice())?;
+    let locals = body.locals.as_slice();
+    let mut blocks = Blocks::new(alloc);
+    blocks.begin(kind.results.as_slice())?;
     let mut left = references;
     for placed in body.code.as_slice() {
-        let Some(frame) = frames.pop() else {
-            return Ok(false);
-        };
         left = left_at(left, placed);
-        let shape = shape_at(alloc, o, names, kind, body.locals.as_slice(), left, placed)?;
-        if !reads(alloc, &mut frames, frame, &shape)? {
+        let went = reads_one(alloc, o, names, kind, locals, left, &mut blocks, placed)?;
+        if !went {
             return Ok(false);
         }
     }
-    Ok(frames.len() == 0)
+    Ok(!blocks.is_open())
 }
 
 /// The bytes of a body.

@@ -4,10 +4,10 @@ use Rattle.valid_rules.specs.Reading.{whole}
 use Rattle.body_check.specs.Judging.{judged}
 use Rattle.body_check.proofs.typing.judge_code.Given as goal
 
-abbrev pub invariant-loop-inner : goal.invariant-loop-inner
-invariant-loop-inner l =
-    judged l.context l.kind l.locals l.around (code_at (length l.rest) l.end l.opens l.rest)
+abbrev pub invariant-loop-alloc : goal.invariant-loop-alloc
+invariant-loop-alloc l =
+    judged l.context l.kind l.locals l.blocks (code_at (length l.rest) l.end l.opens l.rest)
     ≡ judged l.context l.kind l.locals (whole l.kind.results ∷ []) (code_at (length l.bytes) l.end (false ∷ []) l.bytes)
 
-abbrev pub decreases-loop-inner : goal.decreases-loop-inner
-decreases-loop-inner l = length l.rest
+abbrev pub decreases-loop-alloc : goal.decreases-loop-alloc
+decreases-loop-alloc l = length l.rest

@@ -1,21 +1,34 @@
-use Rattle.std.proofs.Common.{◌≡◌, ◌<◌, ◌∷◌, [], Some, length, get_or, refl, ap, ◌∙◌, rules}
+use Rattle.std.proofs.Common.{◌≡◌, ◌<◌, Some, None, length, get_or, refl, ap, ◌∙◌, rules}
+use Rattle.std.specs.Prelude.{not}
 use Rattle.std.proofs.lemmas.Option.{slice_get_read}
-use Rattle.valid_rules.specs.Reading.{read, step, whole}
-use Rattle.valid_bodies.specs.Shapes.{shape, shapes_in}
-use Rattle.valid_bodies.proofs.Ending.{is_last}
+use Rattle.valid_bodies.specs.Shapes.{shape}
+use Rattle.valid_bodies.specs.Steps.{step_on}
+use Rattle.valid_bodies.proofs.Ending.{goes_on, stops, at_end}
 use Rattle.valid_bodies.proofs.bodies.reads_body.Goals as goal
 
-pub returns-in_default : goal.returns-in_default
-returns-in_default c =
-    let l = c.loop-at in
+pub returns-then-not-went : goal.returns-then-not-went
+returns-then-not-went c =
+    let l = c.loop-placed in
     let body = c.args.body.now in
-    let x = c.index-code-at.result in
-    let within : l.at < length body.code = search rules in
-    let here = slice_get_read body.code (length body.code) l.at x refl within (c.index-code-at.is ∙ ap (λ xs. get_or xs l.at x) c.as_slice-code.ensures) in
-    let went : step l.around l.frame (shape c.args.context.now c.args.kind.now body.locals c.index-code-at.result.instr) ≡ Some c.reads_at.new.frames = search rules in
-    let none : c.reads_at.new.frames ≡ [] = search rules in
-    search (
-      rules,
-      is_last (λ p. shape c.args.context.now c.args.kind.now body.locals p.instr) body.code c.index-code-at.result l.at l.frame l.around c.reads_at.new.frames
-          (read (whole c.args.kind.now.results ∷ []) (shapes_in c.args.context.now c.args.kind.now body)) here l.invariant went none,
-    )
+    let x = c.placed-item.result in
+    let within : l.placed-index < length body.code = search rules in
+    let here = slice_get_read body.code (length body.code) l.placed-index x refl within (c.placed-item.is ∙ ap (λ xs. get_or xs l.placed-index x) c.as_slice-placed-items.ensures) in
+    let none : step_on l.blocks (shape c.args.context.now c.args.kind.now body.locals x.instr) ≡ None = search rules in
+    stops (λ p. shape c.args.context.now c.args.kind.now body.locals p.instr) body.code x l.placed-index l.blocks _ here l.invariant none
+
+pub loop-placed-preserved : goal.loop-placed-preserved
+loop-placed-preserved c =
+    let l = c.loop-placed in
+    let body = c.args.body.now in
+    let x = c.placed-item.result in
+    let within : l.placed-index < length body.code = search rules in
+    let here = slice_get_read body.code (length body.code) l.placed-index x refl within (c.placed-item.is ∙ ap (λ xs. get_or xs l.placed-index x) c.as_slice-placed-items.ensures) in
+    let went : step_on l.blocks (shape c.args.context.now c.args.kind.now body.locals x.instr) ≡ Some c.reads_one.new.blocks = search rules in
+    goes_on (λ p. shape c.args.context.now c.args.kind.now body.locals p.instr) body.code x l.placed-index l.blocks _ here l.invariant c.reads_one.new.blocks went
+
+pub returns : goal.returns
+returns c =
+    let l = c.loop-placed in
+    let body = c.args.body.now in
+    ap not c.is_open.ensures
+    ∙ at_end (λ p. shape c.args.context.now c.args.kind.now body.locals p.instr) body.code l.placed-index l.blocks _ (search rules) l.invariant

@@ -5,5 +5,5 @@ use Rattle.valid_objects.proofs.bodies.reads_body.Given as goal
 
 abbrev pub invariant-loop-placed : goal.invariant-loop-placed
 invariant-loop-placed l =
-    read l.frames (merged l.o l.kind l.body.locals l.left (drop l.placed-index l.body.code))
+    read l.blocks (merged l.o l.kind l.body.locals l.left (drop l.placed-index l.body.code))
     ≡ read (whole l.kind.results ∷ []) (merged l.o l.kind l.body.locals l.references l.body.code)
