@@ -17,11 +17,10 @@ ghost use Rattle.relink_out.specs.Held.{AreHeld};
 use crate::found::Found;
 use crate::held::Held;
 use crate::named::Named;
+use crate::rows::{name_rows, part_rows};
 use crate::typed::Typed;
 use crate::writing::{Judged, write};
-use partial_items::{
-    Entries, Program, Tree, globals_of, group_rows, infos_of, parts_of, symbols_of,
-};
+use partial_items::{Entries, Program, Tree};
 use std::alloc::Global;
 use std::thread::Threads;
 use wl_base::{OutOfMemory, Seq};
@@ -55,27 +54,20 @@ pub fn written_of<R: Threads + Sync>(
     requires held { AreHeld program found.now typed.now.numbers held.now }
     ensures { IfOk result (IsJudged (relocatable_bytes (relocatable p))) }
 {
-    let functions = found.kept.functions();
-    let segments = found.kept.segments();
-    let globals = globals_of(alloc, program, files, found.kept.globals())?;
-    let bodies = parts_of(alloc, program, files, &held.bodies, functions)?;
-    let blocks = parts_of(alloc, program, files, &held.segments, segments)?;
-    let infos = infos_of(alloc, program, segments)?;
-    let rows = named.symbols.as_slice();
-    let symbols = symbols_of(alloc, entries, rows)?;
-    let groups = group_rows(alloc, program.objects, &held.groups)?;
+    let parts = part_rows(alloc, program, files, found, held)?;
+    let names = name_rows(alloc, program, entries, found, named, held)?;
     let tree = Tree {
         types: typed.types.types(),
         imports: typed.imports.as_slice(),
         functions: typed.functions.as_slice(),
-        globals: globals.as_slice(),
+        globals: parts.globals.as_slice(),
         exports: named.exports.as_slice(),
-        bodies: bodies.as_slice(),
-        segments: blocks.as_slice(),
-        infos: infos.as_slice(),
-        symbols: symbols.as_slice(),
+        bodies: parts.bodies.as_slice(),
+        segments: parts.segments.as_slice(),
+        infos: names.infos.as_slice(),
+        symbols: names.symbols.as_slice(),
         inits: named.inits.as_slice(),
-        groups: groups.as_slice(),
+        groups: names.groups.as_slice(),
     };
     let judged = write(rt, alloc, &tree, workers)?;
     Ok(judged)
