@@ -64,7 +64,6 @@ fn words_at_fault_have_no_plan(rt: HostRuntime) {
         ("a.o", Usage::NoOutput),
         ("a.o --threads=65 -o b", Usage::BadThreads { at: 1 }),
         ("a.o --frob -o b", Usage::UnknownOption { at: 1 }),
-        ("a.o -shared -o b", Usage::UnknownOption { at: 1 }),
         ("a.o -z stack-size=8", Usage::BadNumber { at: 1 }),
         ("a.o -o b --threads", Usage::MissingValue { at: 3 }),
         ("--start-lib a.o -o b", Usage::OpenGroup { at: 0 }),
@@ -77,6 +76,7 @@ fn words_at_fault_have_no_plan(rt: HostRuntime) {
         ("--make-case=2 -r a.o", Usage::CaseAndInput),
         ("--make-case=2 -r", Usage::PartialClash),
         ("-r --make-case=2 -o b", Usage::PartialClash),
+        ("a.o -o r -r -shared", Usage::PartialClash),
     ] {
         assert!(rt; usage_of(rt.alloc(), line) == Some(usage));
     }

@@ -10,10 +10,9 @@ use Rattle.link_program.specs.link_rules.Program as rules
 use Rattle.link_program.specs.link_rules.Output.{layout, image}
 use Rattle.link_program.specs.Live.{AreLive}
 use Rattle.link_layout.specs.declared.values.Layout.{Layout}
-use Rattle.link_layout.specs.Layout.{IsLayout}
+use Rattle.link_layout.specs.Layout.{IsLayoutIn}
 use Rattle.link_layout.proofs.Told.{IsTold, told_by}
-use Rattle.link_layout.proofs.link_numbers_lemmas.Begun.{given_of}
-use Rattle.link_layout.proofs.link_numbers_lemmas.Whole.{tells_numbers, knows_refs}
+use Rattle.link_layout.proofs.link_numbers_lemmas.Begun.{numbers_told, refs_known}
 use Rattle.link_debug.specs.Places.{link_places}
 use Rattle.debug_places.specs.Found.{AreMarked, AreMade}
 use Rattle.debug_out.specs.declared.places.DebugPlaces.{DebugPlaces}
@@ -24,11 +23,9 @@ use Rattle.debug_places.specs.Seen.{sight_of, place_meant, address_meant, slot_m
 use Rattle.debug_places.proofs.Starts.{bodies_told}
 use Rattle.debug_places.proofs.Meanings.{addresses_told, slots_told, globals_told}
 
-module _ (p : rules.Program) (parts : List rules.Part) (es : List InputSymbol) (d : Layout) (is : IsLayout p parts es d) (live : List ℕ) (are : AreLive p live parts) where
-  told : IsTold p parts es d
-  told =
-      told_by (λ e q ns xs fs program stand are meant. tells_numbers (given_of e q ns xs program stand are meant) fs)
-      (λ e q ns xs program stand are meant. knows_refs (given_of e q ns xs program stand are meant)) p parts es d is
+module _ (p : rules.Program) (parts : List rules.Part) (es : List InputSymbol) (d : Layout) (is : IsLayoutIn Plain p parts es d) (live : List ℕ) (are : AreLive p live parts) where
+  told : IsTold Plain p parts es d
+  told = told_by Plain numbers_told refs_known p parts es d is
 
   pub all_told : (made : List ℕ) → AreMade made d.placed.now.places → (flags : List Bool) → AreMarked flags live → (m : Measured)
       → m.places ≡ source_places (tree_of p.files (image Plain p parts es (layout Plain p parts es)))

@@ -14,7 +14,7 @@ use Rattle.link_program.specs.link_rules.Keys.{same_function, functions, slots, 
 use Rattle.link_program.specs.link_rules.Output.{layout}
 use Rattle.link_program.specs.Keys.{told_function, told_global, same_function_key, same_global_key}
 use Rattle.link_layout.specs.declared.values.Layout.{Layout}
-use Rattle.link_layout.specs.Layout.{IsLayout}
+use Rattle.link_layout.specs.Layout.{IsLayoutIn}
 use Rattle.link_layout.specs.link_numbers.Knows.{KnowsFunction}
 use Rattle.link_layout.proofs.link_numbers_lemmas.Knows.{tells_function, tells_global}
 use Rattle.link_layout.proofs.link_numbers_lemmas.Begun.{given_of}
@@ -119,7 +119,7 @@ module _ (imports : List ImportKey) (p : rules.Program) (parts : List rules.Part
 
 -- ---- all keys of a layout
 
-module _ (p : rules.Program) (parts : List rules.Part) (es : List InputSymbol) (d : Layout) (is : IsLayout p parts es d) where
+module _ (p : rules.Program) (parts : List rules.Part) (es : List InputSymbol) (d : Layout) (is : IsLayoutIn Plain p parts es d) where
   abbrev names : List (List ℕ)
   names = d.program.names.now.names
 

@@ -16,6 +16,7 @@ use Rattle.link_program.specs.name_rules.Entries.{InputSymbol, ImportKey, same_i
 use Rattle.link_program.specs.name_rules.Meanings.{Meaning, here, imported, null, nothing, Resolved, resolve, resolved_in, uses_of, meaning}
 use Rattle.link_program.specs.link_rules.Program as rules
 use Rattle.link_program.specs.link_rules.Program.{same_chunk, chunk_at}
+use Rattle.link_program.specs.link_rules.Marks.{by_mode}
 use Rattle.link_program.specs.link_rules.Keys as keys
 use Rattle.link_program.specs.link_rules.Keys.{outside, linker_global, own_global, outside_global, import_of, imports_in_order, global_of}
 use Rattle.link_program.specs.link_rules.Values as values
@@ -30,7 +31,7 @@ use Rattle.link_program.specs.Look.{chunk_number}
 use Rattle.link_program.specs.Meant.{index_of, function_of}
 use Rattle.link_program.specs.Live.{AreLive}
 use Rattle.link_layout.specs.declared.values.Layout.{Layout}
-use Rattle.link_layout.specs.Layout.{IsLayout}
+use Rattle.link_layout.specs.Layout.{looked, IsLayoutIn}
 use Rattle.link_layout.specs.Placed.{chunks_of}
 use Rattle.link_layout.specs.Seen.{address_of, column_at}
 use Rattle.link_layout.proofs.KeysTold.{function_told, function_known}
@@ -127,7 +128,7 @@ module _ (names : List (List ℕ)) (imports : List ImportKey) (f : Lead → Opti
 
 -- ---- a layout
 
-module _ (p : rules.Program) (parts : List rules.Part) (es : List InputSymbol) (d : Layout) (is : IsLayout p parts es d) where
+module _ (p : rules.Program) (parts : List rules.Part) (es : List InputSymbol) (d : Layout) (is : IsLayoutIn Plain p parts es d) where
   abbrev names : List (List ℕ)
   names = d.program.names.now.names
 
@@ -171,7 +172,7 @@ module _ (p : rules.Program) (parts : List rules.Part) (es : List InputSymbol) (
 
   -- ---- addresses
 
-  module _ (live : List ℕ) (are : AreLive p live parts) (told : IsTold p parts es d) (made : List ℕ) (is_made : AreMade made d.placed.now.places) (flags : List Bool) (marked : AreMarked flags live) where
+  module _ (live : List ℕ) (are : AreLive p live parts) (told : IsTold Plain p parts es d) (made : List ℕ) (is_made : AreMade made d.placed.now.places) (flags : List Bool) (marked : AreMarked flags live) where
     abbrev k : Sight
     k = record { numbers = d.numbering.now; chunks = d.program.tables.now.chunks; addresses = d.placed.now.addresses; made = made; live = flags }
 
@@ -222,15 +223,17 @@ module _ (p : rules.Program) (parts : List rules.Part) (es : List InputSymbol) (
         ap (λ b. if b then Some (slice_index_or d.placed.now.addresses n 0 + offset) else None) flag
         ∙ ap (λ v. if list_any (same_chunk c) (chunks_of (segments parts)) then Some v else None) is_a
 
-    by_input : (e : InputSymbol) (a : ℕ) (r : Bool) → (if r then slice_index_or (made_data d.placed.now.places) e.place 0 else column_at d.placed.now (chunk_number d.program.tables.now.chunks (chunk_at e.input 1 e.index)) + e.symbol.offset) ≡ a
+    by_input : (e : InputSymbol) (a : ℕ) (r : Bool) → (if r then slice_index_or (by_mode (looked d).mode (made_data d.placed.now.places) []) e.place 0 else column_at d.placed.now (chunk_number d.program.tables.now.chunks (chunk_at e.input 1 e.index)) + e.symbol.offset) ≡ a
         → (if r then Some (slice_index_or made e.place 0) else segment_address k e.symbol.offset (chunk_number d.program.tables.now.chunks (chunk_at e.input 1 e.index)))
         ≡ (if (r || list_any (same_chunk (chunk_at e.input 1 e.index)) (chunks_of (segments parts))) then Some a else None)
-    by_input e a true at = ap Some (is_made e.place ∙ at)
+    by_input e a true at =
+        let plain = ap (λ m. slice_index_or (by_mode m (made_data d.placed.now.places) []) e.place 0) (sym told.asked) in
+        ap Some (is_made e.place ∙ (plain ∙ at))
     by_input e a false at = by_number (chunk_at e.input 1 e.index) refl e.symbol.offset a (chunk_number d.program.tables.now.chunks (chunk_at e.input 1 e.index)) refl at
 
     by_datum : (e : InputSymbol) (r : Bool) → (if r then address_at k (told_definition e) else None) ≡ (if r && is_placed l e then Some (values.address_of Plain l e) else None)
     unfolding layout
-    by_datum e true = by_input e (values.address_of Plain l e) (e.input == 0) (address_told p parts es d told e)
+    by_datum e true = by_input e (values.address_of Plain l e) (e.input == 0) (address_told Plain p parts es d told e)
     by_datum e false = refl
 
     address_each : (m : Meaning) → KnowsMeaning imports m → address_meant k (told_lead imports m) ≡ address_place Plain l m
@@ -284,7 +287,7 @@ module _ (p : rules.Program) (parts : List rules.Part) (es : List InputSymbol) (
   pub globals_told : rows_by (global_meant d.numbering.now) p.objects d.program.tables.now.symbols ≡ map (λ (r : Resolved). map (meant_global Plain l) r.meanings) p.resolved
   globals_told = rows_are (global_meant d.numbering.now) (meant_global Plain l) global_each
 
-  pub addresses_told : (live : List ℕ) → AreLive p live parts → IsTold p parts es d → (made : List ℕ) → AreMade made d.placed.now.places → (flags : List Bool) → AreMarked flags live
+  pub addresses_told : (live : List ℕ) → AreLive p live parts → IsTold Plain p parts es d → (made : List ℕ) → AreMade made d.placed.now.places → (flags : List Bool) → AreMarked flags live
       → rows_by (address_meant (record { numbers = d.numbering.now; chunks = d.program.tables.now.chunks; addresses = d.placed.now.addresses; made = made; live = flags })) p.objects d.program.tables.now.symbols
       ≡ map (λ (r : Resolved). map (address_place Plain l) r.meanings) p.resolved
   addresses_told live are told made is_made flags marked =

@@ -38,7 +38,7 @@ use Rattle.link_program.specs.Live.{AreLive}
 use Rattle.link_output.proofs.Apart.{all_lie}
 use Rattle.link_output.proofs.Sources.{windows_stand}
 use Rattle.link_layout.specs.declared.values.Layout.{Layout}
-use Rattle.link_layout.specs.Layout.{IsLayout}
+use Rattle.link_layout.specs.Layout.{IsLayoutIn}
 use Rattle.link_layout.specs.link_numbers.Numbered.{is_import}
 use Rattle.link_layout.proofs.link_numbers_lemmas.link_keys_lemmas.Positions.{position_next}
 use Rattle.link_debug.specs.Places.{place_in, place_of, tree, function_place, body_place}
@@ -122,7 +122,7 @@ behind i x (k ∷ ks) fs = position_next (same_function (own i x)) (outside k) (
 
 -- ---- the bodies of a layout
 
-module _ (p : rules.Program) (parts : List rules.Part) (es : List InputSymbol) (d : Layout) (is : IsLayout p parts es d) (live : List ℕ) (are : AreLive p live parts) where
+module _ (p : rules.Program) (parts : List rules.Part) (es : List InputSymbol) (d : Layout) (is : IsLayoutIn Plain p parts es d) (live : List ℕ) (are : AreLive p live parts) where
   abbrev names : List (List ℕ)
   names = d.program.names.now.names
 
@@ -162,7 +162,7 @@ module _ (p : rules.Program) (parts : List rules.Part) (es : List InputSymbol) (
   pss = map (map patch_of) wss
 
   lie : AllLieIn pss (sources bare)
-  lie = all_lie bare wss (windows_stand p live parts es is.stand are)
+  lie = all_lie bare wss (windows_stand Plain p live parts es is.stand are)
 
   own_placed : (i x : ℕ) → (i == 0) ≡ false → position (same_function_key (function_keys.Own i x)) d.numbering.now.functions ≡ option_map (λ n. length outer + n) (position (same_function (own i x)) inner)
   unfolding functions

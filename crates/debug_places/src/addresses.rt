@@ -1,8 +1,9 @@
 //! Addresses of live data.
 ghost use Rattle.std.specs.Prelude.{◌≡◌, slice_index_or, IfOk};
+ghost use Rattle.link_program.specs.made_symbols.declared.mode.Mode.TheVariants as modes;
 ghost use Rattle.link_program.specs.link_rules.Values.{made_data};
 ghost use Rattle.link_program.specs.Live.{Stage};
-ghost use Rattle.link_layout.specs.Layout.{IsLayout};
+ghost use Rattle.link_layout.specs.Layout.{IsLayoutIn};
 ghost use Rattle.debug_places.specs.Found.{AreMade};
 ghost use Rattle.debug_places.specs.Seen.{seen, address_at, segment_address};
 
@@ -19,7 +20,7 @@ use wl_base::{OutOfMemory, Seq};
 /// The address of the linker's datum of a number.
 fn made_address(layout: Layout<'_>, number: u32) -> u64
     ghost s: { Stage }
-    requires { IsLayout s.program s.parts s.exports layout }
+    requires { IsLayoutIn modes.Plain s.program s.parts s.exports layout }
     ensures { result ≡ slice_index_or (made_data layout.entry.placed.now.places) number 0 }
 {
     layout.address(Definition {
@@ -34,7 +35,7 @@ fn made_address(layout: Layout<'_>, number: u32) -> u64
 /// The addresses of the linker's own data, by their numbers.
 pub(crate) fn made_addresses(alloc: Global, layout: Layout<'_>) -> Result<Seq<u64>, OutOfMemory>
     ghost s: { Stage }
-    requires { IsLayout s.program s.parts s.exports layout }
+    requires { IsLayoutIn modes.Plain s.program s.parts s.exports layout }
     ensures { IfOk result (λ made. AreMade made layout.entry.placed.now.places) }
 {
     let mut made = Seq::new(alloc);

@@ -1,11 +1,11 @@
 -- What items say together: each field is a filter of the items.
-use Rattle.std.specs.Prelude.{ℕ, min, Bool, true, false, not, ◌||◌, ◌==◌, List, [], codes, fold, if◌then◌else◌, unwrap_or, Option, Some, None}
+use Rattle.std.specs.Prelude.{ℕ, min, Bool, true, false, not, ◌&&◌, ◌||◌, ◌==◌, List, [], codes, fold, if◌then◌else◌, unwrap_or, Option, Some, None}
 use Rattle.std.specs.List.{list_any}
 use Rattle.std.specs.Option.{option_or}
 use Rattle.std.specs.Str.{bytes_eq}
 use Rattle.wl_base.specs.Choice.{given}
 use Rattle.driver_table.specs.declared.meaning.Meaning.{Meaning}
-use Rattle.driver_table.specs.declared.meaning.Meaning.TheVariants.{Input, Library, Entry, NoEntry, ImportMemory, ImportMemoryAs, ExportMemory, ExportMemoryAs, AllowUndefined, ImportUndefined, Unresolved, StackFirst, NoStackFirst, GlobalBase, StackSize, InitialMemory, MaxMemory, NoGrowableMemory, Threads, FatalWarnings, NoFatalWarnings, Relocatable, Strip}
+use Rattle.driver_table.specs.declared.meaning.Meaning.TheVariants.{Input, Library, Entry, NoEntry, ImportMemory, ImportMemoryAs, ExportMemory, ExportMemoryAs, AllowUndefined, ImportUndefined, Unresolved, StackFirst, NoStackFirst, GlobalBase, StackSize, InitialMemory, MaxMemory, NoGrowableMemory, Threads, FatalWarnings, NoFatalWarnings, Relocatable, Shared, Strip}
 use Rattle.driver_table.specs.Meanings.{same}
 use Rattle.driver_table.specs.Items.{Said}
 use Rattle.driver_table.specs.Texts.{line}
@@ -87,9 +87,13 @@ has_input items = has Input items || has Library items
 abbrev pub is_partial : List Said → Bool
 is_partial items = has Relocatable items
 
--- debug sections are kept, as LLVM's wasm-ld keeps them, unless a word strips them
+-- a shared output is written in place of a plain module
+abbrev pub is_shared : List Said → Bool
+is_shared items = has Shared items
+
+-- debug sections are kept, as LLVM's wasm-ld keeps them, unless a word strips them; but none yet in a shared output
 abbrev pub keeps_debug : List Said → Bool
-keeps_debug items = not (has Strip items)
+keeps_debug items = not (has Strip items) && not (is_shared items)
 
 -- warnings are errors
 abbrev pub fatal : List Said → Bool

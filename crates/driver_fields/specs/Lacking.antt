@@ -7,7 +7,7 @@ use Rattle.driver_table.specs.declared.meaning.Meaning.TheVariants.{Output, Glob
 use Rattle.driver_table.specs.Items.{Said}
 use Rattle.driver_table.specs.Texts.{line}
 use Rattle.driver_table.specs.Numbers.{amount}
-use Rattle.driver_fields.specs.Fields.{has, is_on, text, number, imported, exported, stack_first, stack_size, has_input, is_partial}
+use Rattle.driver_fields.specs.Fields.{has, is_on, text, number, imported, exported, stack_first, stack_size, has_input, is_partial, is_shared}
 
 abbrev pub output_fault : Option (List ℕ) → Option (List ℕ)
 output_fault None = Some (line (codes "no output file specified") [] [] [])
@@ -16,13 +16,14 @@ output_fault (Some name) =
     (given (bytes_eq name (codes "-")) (line (codes "-o - is not supported") [] [] []))
 
 -- What an object in place of a module can't have, as wasm-ld has it: an entry, or what is given to a module alone. No entry, and all parts, are
--- what it has anyway.
+-- what it has anyway. Nor is it a shared output.
 unfoldable pub beside_partial : List Said → Option (List ℕ)
 beside_partial items = first_some (
     given (has ExportTable items) (line (codes "--relocatable is incompatible with --export-table") [] [] [])
     ∷ given (is_on Entry NoEntry false items) (line (codes "entry point specified for relocatable output file") [] [] [])
     ∷ given (is_on GcSections NoGcSections false items) (line (codes "-r and --gc-sections may not be used together") [] [] [])
     ∷ given (has Undefined items) (line (codes "-r and --undefined may not be used together") [] [] [])
+    ∷ given (is_shared items) (line (codes "-r and -shared may not be used together") [] [] [])
     ∷ [])
 
 unfoldable pub partial_fault : List Said → Option (List ℕ)

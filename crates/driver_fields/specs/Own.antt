@@ -1,13 +1,13 @@
--- The linker's own words, but for the inputs: the output, the entry, names, switches, numbers, and what is written: an object or a module,
--- and whether with debug sections, in this order.
-use Rattle.std.specs.Prelude.{ℕ, Bool, true, false, not, ◌&&◌, ◌==◌, List, [], ◌∷◌, ◌++◌, if◌then◌else◌, is_some, Option, Some, None, codes, decimal, option_to_list}
+-- The linker's own words, but for the inputs: the output, the entry, names, switches, numbers, and what is written: an object, a shared output or
+-- a plain module, and whether with debug sections, in this order.
+use Rattle.std.specs.Prelude.{ℕ, Bool, true, not, ◌&&◌, ◌==◌, List, [], ◌∷◌, ◌++◌, if◌then◌else◌, is_some, Option, Some, None, codes, decimal, option_to_list}
 use Rattle.std.specs.List.{flat_map, filter_map}
 use Rattle.std.specs.Str.{bytes_eq}
 use Rattle.driver_table.specs.declared.meaning.Meaning.TheVariants.{Output, Export, ExportIfDefined, Undefined, ExportDynamic, NoExportDynamic, ExportTable, GcSections, NoGcSections, GlobalBase, InitialMemory, Warn, Z, Unresolved}
 use Rattle.driver_table.specs.Meanings.{same}
 use Rattle.driver_table.specs.Items.{Said}
 use Rattle.driver_table.specs.Texts.{line}
-use Rattle.driver_fields.specs.Fields.{has, is_on, text, number, entry, imported, allows_undefined, lenient, stack_first, stack_size, max_memory, threads, is_partial, keeps_debug}
+use Rattle.driver_fields.specs.Fields.{has, is_on, text, number, entry, imported, allows_undefined, lenient, stack_first, stack_size, max_memory, threads, is_partial, is_shared, keeps_debug}
 
 -- the words that are there only where the test holds
 abbrev pub when : Bool → List (List ℕ) → List (List ℕ)
@@ -36,10 +36,10 @@ export_if_words said = when (same said.meaning ExportIfDefined) (exported_if sai
 unfoldable pub name_words : List Said → List (List ℕ)
 name_words items = (flat_map undefined_words items ++ flat_map (export_words (lenient items)) items) ++ flat_map export_if_words items
 
--- switches that concern names
+-- switches that concern names. A shared output exports all definitions that aren't hidden, unless the words say otherwise.
 unfoldable pub name_switches : List Said → List (List ℕ)
 name_switches items =
-    (when (is_on ExportDynamic NoExportDynamic false items) (codes "--export-dynamic" ∷ [])
+    (when (is_on ExportDynamic NoExportDynamic (is_shared items) items) (codes "--export-dynamic" ∷ [])
     ++ when (has ExportTable items) (codes "--export-table" ∷ []))
     ++ when (allows_undefined items) (codes "--allow-undefined" ∷ [])
 
@@ -79,12 +79,16 @@ output_words (Some name) = codes "-o" ∷ name ∷ []
 abbrev pub partial_words : List Said → List (List ℕ)
 partial_words items = when (is_partial items) (codes "-r" ∷ [])
 
+-- the word of a shared output
+abbrev pub shared_words : List Said → List (List ℕ)
+shared_words items = when (is_shared items) (codes "-shared" ∷ [])
+
 -- the word that keeps debug sections
 abbrev pub debug_words : List Said → List (List ℕ)
 debug_words items = when (keeps_debug items) (codes "--keep-debug" ∷ [])
 
 unfoldable pub own_words : List Said → List (List ℕ)
-own_words items = (((((output_words (text Output items) ++ option_to_list (entry items)) ++ name_words items) ++ switch_words items) ++ number_words items) ++ partial_words items) ++ debug_words items
+own_words items = ((((((output_words (text Output items) ++ option_to_list (entry items)) ++ name_words items) ++ switch_words items) ++ number_words items) ++ partial_words items) ++ shared_words items) ++ debug_words items
 
 -- what is told of items that ask for something that isn't made
 abbrev pub warning : Said → Option (List ℕ)

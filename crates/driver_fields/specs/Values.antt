@@ -4,7 +4,7 @@ use Rattle.std.specs.Option.{option_or}
 use Rattle.std.specs.Str.{bytes_eq}
 use Rattle.wl_base.specs.Choice.{given}
 use Rattle.driver_table.specs.declared.meaning.Meaning.{Meaning}
-use Rattle.driver_table.specs.declared.meaning.Meaning.TheVariants.{Refuse, Shared, GlobalBase, InitialMemory, MaxMemory, StackSize, Threads, Quoting, TableBase, PageSize, InitialHeap, Machine, Unresolved}
+use Rattle.driver_table.specs.declared.meaning.Meaning.TheVariants.{Refuse, GlobalBase, InitialMemory, MaxMemory, StackSize, Threads, Quoting, TableBase, PageSize, InitialHeap, Machine, Unresolved}
 use Rattle.driver_table.specs.Items.{Said}
 use Rattle.driver_table.specs.Texts.{line}
 use Rattle.driver_table.specs.Numbers.{is_decimal, amount}
@@ -30,7 +30,6 @@ is_unresolved value = bytes_eq value (codes "report-all") || bytes_eq value (cod
 
 abbrev pub fault_of : Meaning → List ℕ → List ℕ → Option (List ℕ)
 fault_of Refuse value spelling = Some (line spelling (codes " is not supported") [] [])
-fault_of Shared value spelling = Some (line (codes "--shared is not supported") [] [] [])
 fault_of GlobalBase value spelling = number_fault value spelling
 fault_of InitialMemory value spelling = number_fault value spelling
 fault_of MaxMemory value spelling = number_fault value spelling

@@ -3,7 +3,7 @@
 ghost use Rattle.std.specs.Prelude.{◌≡◌, ◌≤◌, None, is_some};
 ghost use Rattle.std.specs.Option.{option_map};
 ghost use Rattle.driver_table.specs.Numbers.{too_much};
-ghost use Rattle.driver_fields.specs.Fields.{has as has_of, is_on as is_on_of, text as text_of, number as number_of, entry as entry_of, latest, memory_said, imported as imported_of, exported as exported_of, allows_undefined as allows_undefined_of, ignored as ignored_of, lenient as lenient_of, stack_first as stack_first_of, stack_size as stack_size_of, max_memory as max_memory_of, threads as threads_of, has_input as has_input_of, is_partial as is_partial_of, keeps_debug as keeps_debug_of, fatal as fatal_of};
+ghost use Rattle.driver_fields.specs.Fields.{has as has_of, is_on as is_on_of, text as text_of, number as number_of, entry as entry_of, latest, memory_said, imported as imported_of, exported as exported_of, allows_undefined as allows_undefined_of, ignored as ignored_of, lenient as lenient_of, stack_first as stack_first_of, stack_size as stack_size_of, max_memory as max_memory_of, threads as threads_of, has_input as has_input_of, is_partial as is_partial_of, is_shared as is_shared_of, keeps_debug as keeps_debug_of, fatal as fatal_of};
 
 use driver_table::{Item, Line, Meaning, amount};
 
@@ -186,11 +186,18 @@ pub fn is_partial(items: &[Item<'_>]) -> bool
     has(items, Meaning::Relocatable)
 }
 
-/// Whether debug sections are kept.
+/// Whether a shared output is written in place of a plain module.
+pub fn is_shared(items: &[Item<'_>]) -> bool
+    ensures { result ≡ is_shared_of items.now }
+{
+    has(items, Meaning::Shared)
+}
+
+/// Whether debug sections are kept: none are yet in a shared output.
 pub fn keeps_debug(items: &[Item<'_>]) -> bool
     ensures { result ≡ keeps_debug_of items.now }
 {
-    !has(items, Meaning::Strip)
+    !has(items, Meaning::Strip) && !is_shared(items)
 }
 
 /// Whether warnings are errors.

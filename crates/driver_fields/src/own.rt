@@ -2,11 +2,11 @@
 ghost use Rattle.std.specs.Prelude.{◌≡◌, ◌++◌, ◌∷◌, [], OnOk, IfOk, option_to_list};
 ghost use Rattle.std.specs.Option.{option_map};
 ghost use Rattle.std.specs.List.{flat_map};
-ghost use Rattle.driver_fields.specs.Own.{when, wanted, exported_if, undefined_words, export_of, export_words, export_if_words, name_words, name_switches as name_switches_of, memory_switches as memory_switches_of, switch_words, numbered, stack_words as stack_words_of, memory_numbers as memory_numbers_of, number_words, partial_words, debug_words, output_words, own_words as own_words_of, warning as warning_of, warnings as warnings_of};
+ghost use Rattle.driver_fields.specs.Own.{when, wanted, exported_if, undefined_words, export_of, export_words, export_if_words, name_words, name_switches as name_switches_of, memory_switches as memory_switches_of, switch_words, numbered, stack_words as stack_words_of, memory_numbers as memory_numbers_of, number_words, partial_words, shared_words, debug_words, output_words, own_words as own_words_of, warning as warning_of, warnings as warnings_of};
 
 use crate::fields::{
-    allows_undefined, entry, has, imports_memory, is_on, is_partial, keeps_debug, lenient,
-    max_memory, number, stack_first, stack_size, text, threads,
+    allows_undefined, entry, has, imports_memory, is_on, is_partial, is_shared, keeps_debug,
+    lenient, max_memory, number, stack_first, stack_size, text, threads,
 };
 use driver_table::{Item, Line, Meaning};
 use std::alloc::Global;
@@ -29,6 +29,7 @@ pub fn own_words(alloc: Global, items: &[Item<'_>]) -> Result<Seq<Text>, OutOfMe
     add_switches(alloc, items, &mut words)?;
     add_numbers(alloc, items, &mut words)?;
     add_partial(alloc, items, &mut words)?;
+    add_shared(alloc, items, &mut words)?;
     add_debug(alloc, items, &mut words)?;
     Ok(words)
 }
@@ -152,11 +153,12 @@ fn add_name_switches(
 ) -> Result<(), OutOfMemory>
     ensures { OnOk result (words.new ≡ words.old ++ name_switches_of items.now) }
 {
+    let shared = is_shared(items);
     let dynamic = is_on(
         items,
         Meaning::ExportDynamic,
         Meaning::NoExportDynamic,
-        false,
+        shared,
     );
     add_when(alloc, dynamic, "--export-dynamic", words)?;
     let table = has(items, Meaning::ExportTable);
@@ -244,6 +246,13 @@ fn add_partial(alloc: Global, items: &[Item<'_>], words: &mut Seq<Text>) -> Resu
     ensures { OnOk result (words.new ≡ words.old ++ partial_words items.now) }
 {
     add_when(alloc, is_partial(items), "-r", words)
+}
+
+// The word of a shared output.
+fn add_shared(alloc: Global, items: &[Item<'_>], words: &mut Seq<Text>) -> Result<(), OutOfMemory>
+    ensures { OnOk result (words.new ≡ words.old ++ shared_words items.now) }
+{
+    add_when(alloc, is_shared(items), "-shared", words)
 }
 
 // The word that keeps debug sections.

@@ -4,7 +4,8 @@ ghost use Rattle.std.specs.Option.{option_map};
 ghost use Rattle.driver_fields.specs.Lacking.{output_fault as output_fault_of, beside_partial as beside_partial_of, partial_fault as partial_fault_of, import_fault as import_fault_of, export_fault as export_fault_of, memory_fault as memory_fault_of, range_fault as range_fault_of, ranges_fault as ranges_fault_of, within_stack as within_stack_of, lacking as lacking_of};
 
 use crate::fields::{
-    exported, has, has_input, imported, is_on, is_partial, number, stack_first, stack_size, text,
+    exported, has, has_input, imported, is_on, is_partial, is_shared, number, stack_first,
+    stack_size, text,
 };
 use driver_table::{Item, Line, Meaning, amount};
 
@@ -80,6 +81,9 @@ fn beside_partial<'a>(items: &[Item<'a>]) -> Option<Line<'a>>
     }
     if has(items, Meaning::Undefined) {
         return Some(Line::new("-r and --undefined may not be used together", "", "", ""));
+    }
+    if is_shared(items) {
+        return Some(Line::new("-r and -shared may not be used together", "", "", ""));
     }
     None
 }

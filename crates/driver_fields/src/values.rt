@@ -23,7 +23,6 @@ fn value_fault<'a>(item: &Item<'a>) -> Option<Line<'a>>
     let spelling = item.spelling();
     match item.meaning() {
         Meaning::Refuse => Some(Line::new(spelling, " is not supported", "", "")),
-        Meaning::Shared => Some(Line::new("--shared is not supported", "", "", "")),
         Meaning::GlobalBase | Meaning::InitialMemory | Meaning::MaxMemory | Meaning::StackSize =>
             number_fault(value, spelling),
         Meaning::Threads => threads_fault(value),

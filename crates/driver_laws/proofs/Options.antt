@@ -19,9 +19,9 @@ use Rattle.driver_table.specs.Meanings.{same}
 use Rattle.driver_table.specs.Items.{Said}
 use Rattle.driver_table.specs.Texts.{line}
 use Rattle.driver_table.specs.Numbers.{amount}
-use Rattle.driver_fields.specs.Fields.{has, is_on, saying, latest, text, number, entry_said, entry, imported, allows_undefined, lenient, stack_first, stack_size, max_memory, threads, has_input, is_partial, keeps_debug}
+use Rattle.driver_fields.specs.Fields.{has, is_on, saying, latest, text, number, entry_said, entry, imported, allows_undefined, lenient, stack_first, stack_size, max_memory, threads, has_input, is_partial, is_shared, keeps_debug}
 use Rattle.driver_fields.specs.Own.{wanted, exported_if, undefined_words, export_of, export_words, export_if_words, name_words, name_switches, memory_switches, switch_words, numbered, stack_words, memory_numbers, number_words, output_words, own_words}
-use Rattle.driver_fields.specs.Lacking.{output_fault, partial_fault, memory_fault, range_fault, ranges_fault, within_stack, lacking}
+use Rattle.driver_fields.specs.Lacking.{output_fault, beside_partial, partial_fault, memory_fault, range_fault, ranges_fault, within_stack, lacking}
 use Rattle.driver_laws.proofs.Pieces.{is_quiet, AreOptions, none, both, when_so, each, flag, next_text, next_text_has, long_text, long_number, next_size, HaveKind, and_more, Ask, and_ask}
 use Rattle.driver_laws.proofs.Numbers.{number_in_range}
 
@@ -137,11 +137,11 @@ unfolding switch_words name_switches memory_switches
 switches_are items =
     both (name_switches items) (memory_switches items)
     (
-    both (cond (is_on ExportDynamic NoExportDynamic false items) (codes "--export-dynamic" ∷ []) [] ++ cond (has ExportTable items) (codes "--export-table" ∷ []) [])
+    both (cond (is_on ExportDynamic NoExportDynamic (is_shared items) items) (codes "--export-dynamic" ∷ []) [] ++ cond (has ExportTable items) (codes "--export-table" ∷ []) [])
     (cond (allows_undefined items) (codes "--allow-undefined" ∷ []) [])
     (
-    both (cond (is_on ExportDynamic NoExportDynamic false items) (codes "--export-dynamic" ∷ []) []) (cond (has ExportTable items) (codes "--export-table" ∷ []) [])
-    (when_so (is_on ExportDynamic NoExportDynamic false items) (codes "--export-dynamic" ∷ []) (flag kinds.ExportDynamic (codes "--export-dynamic") refl refl refl))
+    both (cond (is_on ExportDynamic NoExportDynamic (is_shared items) items) (codes "--export-dynamic" ∷ []) []) (cond (has ExportTable items) (codes "--export-table" ∷ []) [])
+    (when_so (is_on ExportDynamic NoExportDynamic (is_shared items) items) (codes "--export-dynamic" ∷ []) (flag kinds.ExportDynamic (codes "--export-dynamic") refl refl refl))
     (when_so (has ExportTable items) (codes "--export-table" ∷ []) (flag kinds.ExportTable (codes "--export-table") refl refl refl))
     )
     (when_so (allows_undefined items) (codes "--allow-undefined" ∷ []) (flag kinds.AllowUndefined (codes "--allow-undefined") refl refl refl))
@@ -277,37 +277,65 @@ output_have : (t : Option (List ℕ)) → output_fault t ≡ None → HaveKind k
 output_have None e = absurd cc
 output_have (Some name) e = next_text_has kinds.Output (codes "-o") name refl refl refl refl
 
--- what the output and the ranges of numbers aren't refused for
-abbrev Stands : List Said → Type 0
-Stands items = (output_fault (text Output items) ≡ None) × (ranges_fault items ≡ None)
+-- what the output, an object and the ranges of numbers aren't refused for
+record Stands (items : List Said) : Type 0 where
+  output : output_fault (text Output items) ≡ None
+  object : partial_fault items ≡ None
+  ranges : ranges_fault items ≡ None
 
 stands : (items : List Said) → lacking items ≡ None → Stands items
 unfolding lacking
 stands items e =
+    let s =
     six (output_fault (text Output items)) (partial_fault items) (memory_fault items) (ranges_fault items)
-    (given (within_stack items) (line (codes "--global-base cannot be less than stack size when --stack-first is used") [] [] [])) (given (not (has_input items)) (line (codes "no input files") [] [] [])) e
+    (given (within_stack items) (line (codes "--global-base cannot be less than stack size when --stack-first is used") [] [] [])) (given (not (has_input items)) (line (codes "no input files") [] [] [])) e in
+    record { output = s.0; object = s.1; ranges = s.2 }
   where
-    six : (a p b c d f : Option (List ℕ)) → first_some (a ∷ p ∷ b ∷ c ∷ d ∷ f ∷ []) ≡ None → (a ≡ None) × (c ≡ None)
-    six None None None None d f e = (refl, refl)
+    six : (a p b c d f : Option (List ℕ)) → first_some (a ∷ p ∷ b ∷ c ∷ d ∷ f ∷ []) ≡ None → (a ≡ None) × (p ≡ None) × (c ≡ None)
+    six None None None None d f e = (refl, refl, refl)
     six (Some line) p b c d f e = absurd cc
     six None (Some line) b c d f e = absurd cc
     six None None (Some line) c d f e = absurd cc
     six None None None (Some line) d f e = absurd cc
 
+-- No shared output is asked for beside an object.
+pub not_both : (items : List Said) → lacking items ≡ None → (is_shared items && is_partial items) ≡ false
+unfolding partial_fault beside_partial
+not_both items e =
+    by (is_partial items) (is_shared items)
+    (given (has ExportTable items) (line (codes "--relocatable is incompatible with --export-table") [] [] []))
+    (given (is_on Entry NoEntry false items) (line (codes "entry point specified for relocatable output file") [] [] []))
+    (given (is_on GcSections NoGcSections false items) (line (codes "-r and --gc-sections may not be used together") [] [] []))
+    (given (has Undefined items) (line (codes "-r and --undefined may not be used together") [] [] []))
+    (line (codes "-r and -shared may not be used together") [] [] []) (stands items e).object
+  where
+    last : (s : Bool) (a b c d : Option (List ℕ)) (l : List ℕ) → first_some (a ∷ b ∷ c ∷ d ∷ given s l ∷ []) ≡ None → s ≡ false
+    last false a b c d l e = refl
+    last true None None None None l e = absurd cc
+    last true (Some line) b c d l e = absurd cc
+    last true None (Some line) c d l e = absurd cc
+    last true None None (Some line) d l e = absurd cc
+    last true None None None (Some line) l e = absurd cc
+
+    by : (p s : Bool) (a b c d : Option (List ℕ)) (l : List ℕ) → cond p (first_some (a ∷ b ∷ c ∷ d ∷ given s l ∷ [])) None ≡ None → (s && p) ≡ false
+    by true s a b c d l e = (λ i. last s a b c d l e i && true)
+    by false true a b c d l e = refl
+    by false false a b c d l e = refl
+
 -- The words before the inputs.
-pub own_have : (items : List Said) → lacking items ≡ None → Ask (is_partial items) (keeps_debug items) (own_words items)
+pub own_have : (items : List Said) → lacking items ≡ None → Ask (is_partial items) (is_shared items) (keeps_debug items) (own_words items)
 unfolding own_words
 own_have items e =
     let s = stands items e in
-    let f = fit items s.1 in
-    and_ask (is_partial items) (keeps_debug items) ((((output_words (text Output items) ++ option_to_list (entry items)) ++ name_words items) ++ switch_words items) ++ number_words items)
+    let f = fit items s.ranges in
+    and_ask (is_partial items) (is_shared items) (keeps_debug items) ((((output_words (text Output items) ++ option_to_list (entry items)) ++ name_words items) ++ switch_words items) ++ number_words items)
     (
     and_more kinds.Output (((output_words (text Output items) ++ option_to_list (entry items)) ++ name_words items) ++ switch_words items) (number_words items)
     (
     and_more kinds.Output ((output_words (text Output items) ++ option_to_list (entry items)) ++ name_words items) (switch_words items)
     (
     and_more kinds.Output (output_words (text Output items) ++ option_to_list (entry items)) (name_words items)
-    (and_more kinds.Output (output_words (text Output items)) (option_to_list (entry items)) (output_have (text Output items) s.0) (entry_are items))
+    (and_more kinds.Output (output_words (text Output items)) (option_to_list (entry items)) (output_have (text Output items) s.output) (entry_are items))
     (names_are items)
     )
     (switches_are items)

@@ -59,9 +59,13 @@ all_both P (p ∷ ps) b x y = (x.0, all_both P ps b x.1 y)
 abbrev pub is_plain : Kind → Bool
 is_plain kind = not (same kind kinds.Input || (same kind kinds.StartLib || (same kind kinds.EndLib || (same kind kinds.WholeArchive || (same kind kinds.NoWholeArchive || same kind kinds.MakeCase)))))
 
--- of these all but those that say what is written: an object, and whether with debug sections
+-- those that say what is written: an object, a shared output, and whether with debug sections
+abbrev pub says_what : Kind → Bool
+says_what kind = same kind kinds.Partial || (same kind kinds.Shared || same kind kinds.KeepDebug)
+
+-- of the plain ones all but those
 abbrev pub is_quiet : Kind → Bool
-is_quiet kind = is_plain kind && not (same kind kinds.Partial || same kind kinds.KeepDebug)
+is_quiet kind = is_plain kind && not (says_what kind)
 
 pub record IsOption (p : Piece) : Type 0 where
   pub spelled : IsSpelled p
@@ -110,7 +114,7 @@ option : (kind : Kind) (name value : List ℕ) (t : Takes) (own : List (List ℕ
     → same kind kinds.OnlyInputs ≡ false → is_quiet kind ≡ true → AreOptions own
 option kind name value t own row spelled more quiet =
     let piece : Piece = record { kind = kind; value = value; own = own } in
-    let one = is_option kind name value t own row spelled more (and_first (is_plain kind) (not (same kind kinds.Partial || same kind kinds.KeepDebug)) quiet) in
+    let one = is_option kind name value t own row spelled more (and_first (is_plain kind) (not (says_what kind)) quiet) in
     record { pieces = piece ∷ []; words_are = sym (append-nil own); all = (one, tt); quiet = (quiet, tt) }
 
 -- an option without a value
@@ -176,73 +180,116 @@ neither : (a b : Bool) → (a || b) ≡ false → (a ≡ false) × (b ≡ false)
 neither true b h = absurd cc
 neither false b h = (refl, h)
 
-quiet_kind : (kind : Kind) → is_quiet kind ≡ true → (same kind kinds.Partial ≡ false) × (same kind kinds.KeepDebug ≡ false)
-quiet_kind kind h = neither (same kind kinds.Partial) (same kind kinds.KeepDebug) (not_second (is_plain kind) (same kind kinds.Partial || same kind kinds.KeepDebug) h)
+record Quiet (kind : Kind) : Type 0 where
+  no_partial : same kind kinds.Partial ≡ false
+  no_shared : same kind kinds.Shared ≡ false
+  no_debug : same kind kinds.KeepDebug ≡ false
+
+quiet_kind : (kind : Kind) → is_quiet kind ≡ true → Quiet kind
+quiet_kind kind h =
+    let a = neither (same kind kinds.Partial) (same kind kinds.Shared || same kind kinds.KeepDebug) (not_second (is_plain kind) (says_what kind) h) in
+    let b = neither (same kind kinds.Shared) (same kind kinds.KeepDebug) a.1 in
+    record { no_partial = a.0; no_shared = b.0; no_debug = b.1 }
 
 -- behind pieces of which none has the kind
 behind_quiet : (kind : Kind) → ((other : Kind) → is_quiet other ≡ true → same other kind ≡ false) → (ps more : List Piece) (has : Bool) → Every IsQuiet ps → has_kind kind more ≡ has → has_kind kind (ps ++ more) ≡ has
 behind_quiet kind others [] more has all h = h
 behind_quiet kind others (p ∷ ps) more has all h = (λ i. others p.kind all.0 i || has_kind kind (ps ++ more)) ∙ behind_quiet kind others ps more has all.1 h
 
-partial_pieces : Bool → List Piece
-partial_pieces true = record { kind = kinds.Partial; value = []; own = codes "-r" ∷ [] } ∷ []
-partial_pieces false = []
+-- an option without a value in front of others, where it is asked for
+with_flag : Kind → List ℕ → Bool → List Piece → List Piece
+with_flag kind name true ps = record { kind = kind; value = []; own = name ∷ [] } ∷ ps
+with_flag kind name false ps = ps
+
+flag_words : (kind : Kind) (name : List ℕ) (b : Bool) (ps : List Piece) → words_of (with_flag kind name b ps) ≡ cond b (name ∷ []) [] ++ words_of ps
+unfolding with_flag
+flag_words kind name true ps = refl
+flag_words kind name false ps = refl
+
+flag_options : (kind : Kind) (name : List ℕ) (b : Bool) (ps : List Piece) → row_of options name ≡ Some (record { kind = kind; takes = takes.Nothing }) → same kind kinds.OnlyInputs ≡ false → is_plain kind ≡ true
+    → Every IsOption ps → Every IsOption (with_flag kind name b ps)
+unfolding with_flag
+flag_options kind name true ps row more plain all = (is_option kind name [] takes.Nothing (name ∷ []) row (refl, refl) more plain, all)
+flag_options kind name false ps row more plain all = all
+
+own_kind : (kind : Kind) (name : List ℕ) (b : Bool) (ps : List Piece) → same kind kind ≡ true → has_kind kind ps ≡ false → has_kind kind (with_flag kind name b ps) ≡ b
+unfolding with_flag
+own_kind kind name true ps itself absent = (λ i. itself i || has_kind kind ps)
+own_kind kind name false ps itself absent = absent
+
+other_kind : (kind other : Kind) (name : List ℕ) (b : Bool) (ps : List Piece) → same other kind ≡ false → has_kind kind (with_flag other name b ps) ≡ has_kind kind ps
+unfolding with_flag
+other_kind kind other name true ps differs = (λ i. differs i || has_kind kind ps)
+other_kind kind other name false ps differs = refl
 
 debug_pieces : Bool → List Piece
-debug_pieces true = record { kind = kinds.KeepDebug; value = []; own = codes "--keep-debug" ∷ [] } ∷ []
-debug_pieces false = []
+debug_pieces keeps = with_flag kinds.KeepDebug (codes "--keep-debug") keeps []
 
--- options with an output, which ask for an object or don't, and keep debug sections or don't
-pub record Ask (partial keeps : Bool) (words : List (List ℕ)) : Type 0 where
+shared_pieces : Bool → Bool → List Piece
+shared_pieces shared keeps = with_flag kinds.Shared (codes "-shared") shared (debug_pieces keeps)
+
+last_pieces : Bool → Bool → Bool → List Piece
+last_pieces partial shared keeps = with_flag kinds.Partial (codes "-r") partial (shared_pieces shared keeps)
+
+-- options with an output, which ask for an object or don't, for a shared output or don't, and keep debug sections or don't
+pub record Ask (partial shared keeps : Bool) (words : List (List ℕ)) : Type 0 where
   pub pieces : List Piece
   pub words_are : words ≡ words_of pieces
   pub all : Every IsOption pieces
   pub output : has_kind kinds.Output pieces ≡ true
   pub partial_is : has_kind kinds.Partial pieces ≡ partial
+  pub shared_is : has_kind kinds.Shared pieces ≡ shared
   pub debug : has_kind kinds.KeepDebug pieces ≡ keeps
 
-pub and_ask : (partial keeps : Bool) (words : List (List ℕ)) → HaveKind kinds.Output words → Ask partial keeps ((words ++ cond partial (codes "-r" ∷ []) []) ++ cond keeps (codes "--keep-debug" ∷ []) [])
-unfolding partial_pieces debug_pieces
-and_ask partial keeps words x =
-    let last = partial_pieces partial ++ debug_pieces keeps in
+four_parts : (words a b c : List (List ℕ)) → ((words ++ a) ++ b) ++ c ≡ words ++ (a ++ (b ++ (c ++ [])))
+four_parts words a b c = append_assoc (words ++ a) b c ∙ append_assoc words a (b ++ c) ∙ (λ i. words ++ (a ++ (b ++ sym (append-nil c) i)))
+
+last_words : (partial shared keeps : Bool)
+    → words_of (last_pieces partial shared keeps) ≡ cond partial (codes "-r" ∷ []) [] ++ (cond shared (codes "-shared" ∷ []) [] ++ (cond keeps (codes "--keep-debug" ∷ []) [] ++ []))
+unfolding last_pieces shared_pieces debug_pieces
+last_words partial shared keeps =
+    flag_words kinds.Partial (codes "-r") partial (shared_pieces shared keeps)
+    ∙ (λ i. cond partial (codes "-r" ∷ []) [] ++ flag_words kinds.Shared (codes "-shared") shared (debug_pieces keeps) i)
+    ∙ (λ i. cond partial (codes "-r" ∷ []) [] ++ (cond shared (codes "-shared" ∷ []) [] ++ flag_words kinds.KeepDebug (codes "--keep-debug") keeps [] i))
+
+last_options : (partial shared keeps : Bool) → Every IsOption (last_pieces partial shared keeps)
+unfolding last_pieces shared_pieces debug_pieces
+last_options partial shared keeps =
+    flag_options kinds.Partial (codes "-r") partial (shared_pieces shared keeps) refl refl refl
+    (flag_options kinds.Shared (codes "-shared") shared (debug_pieces keeps) refl refl refl (flag_options kinds.KeepDebug (codes "--keep-debug") keeps [] refl refl refl tt))
+
+last_partial : (partial shared keeps : Bool) → has_kind kinds.Partial (last_pieces partial shared keeps) ≡ partial
+unfolding last_pieces shared_pieces debug_pieces
+last_partial partial shared keeps =
+    own_kind kinds.Partial (codes "-r") partial (shared_pieces shared keeps) refl
+    (other_kind kinds.Partial kinds.Shared (codes "-shared") shared (debug_pieces keeps) refl ∙ other_kind kinds.Partial kinds.KeepDebug (codes "--keep-debug") keeps [] refl)
+
+last_shared : (partial shared keeps : Bool) → has_kind kinds.Shared (last_pieces partial shared keeps) ≡ shared
+unfolding last_pieces shared_pieces debug_pieces
+last_shared partial shared keeps =
+    other_kind kinds.Shared kinds.Partial (codes "-r") partial (shared_pieces shared keeps) refl
+    ∙ own_kind kinds.Shared (codes "-shared") shared (debug_pieces keeps) refl (other_kind kinds.Shared kinds.KeepDebug (codes "--keep-debug") keeps [] refl)
+
+last_debug : (partial shared keeps : Bool) → has_kind kinds.KeepDebug (last_pieces partial shared keeps) ≡ keeps
+unfolding last_pieces shared_pieces debug_pieces
+last_debug partial shared keeps =
+    other_kind kinds.KeepDebug kinds.Partial (codes "-r") partial (shared_pieces shared keeps) refl
+    ∙ other_kind kinds.KeepDebug kinds.Shared (codes "-shared") shared (debug_pieces keeps) refl
+    ∙ own_kind kinds.KeepDebug (codes "--keep-debug") keeps [] refl refl
+
+pub and_ask : (partial shared keeps : Bool) (words : List (List ℕ)) → HaveKind kinds.Output words
+    → Ask partial shared keeps (((words ++ cond partial (codes "-r" ∷ []) []) ++ cond shared (codes "-shared" ∷ []) []) ++ cond keeps (codes "--keep-debug" ∷ []) [])
+and_ask partial shared keeps words x =
+    let last = last_pieces partial shared keeps in
     record {
       pieces = x.options.pieces ++ last;
       words_are =
-          append_assoc words (cond partial (codes "-r" ∷ []) []) (cond keeps (codes "--keep-debug" ∷ []) [])
-          ∙ (λ i. x.options.words_are i ++ are_words partial keeps i)
+          four_parts words (cond partial (codes "-r" ∷ []) []) (cond shared (codes "-shared" ∷ []) []) (cond keeps (codes "--keep-debug" ∷ []) [])
+          ∙ (λ i. x.options.words_are i ++ sym (last_words partial shared keeps) i)
           ∙ sym (words_both x.options.pieces last);
-      all = all_both IsOption x.options.pieces last x.options.all (are_options partial keeps);
+      all = all_both IsOption x.options.pieces last x.options.all (last_options partial shared keeps);
       output = any_left kinds.Output x.options.pieces last x.has;
-      partial_is = behind_quiet kinds.Partial (λ other h. (quiet_kind other h).0) x.options.pieces last partial x.options.quiet (have_partial partial keeps);
-      debug = behind_quiet kinds.KeepDebug (λ other h. (quiet_kind other h).1) x.options.pieces last keeps x.options.quiet (have_debug partial keeps);
+      partial_is = behind_quiet kinds.Partial (λ other h. (quiet_kind other h).no_partial) x.options.pieces last partial x.options.quiet (last_partial partial shared keeps);
+      shared_is = behind_quiet kinds.Shared (λ other h. (quiet_kind other h).no_shared) x.options.pieces last shared x.options.quiet (last_shared partial shared keeps);
+      debug = behind_quiet kinds.KeepDebug (λ other h. (quiet_kind other h).no_debug) x.options.pieces last keeps x.options.quiet (last_debug partial shared keeps);
     }
-  where
-    are_words : (partial keeps : Bool) → cond partial (codes "-r" ∷ []) [] ++ cond keeps (codes "--keep-debug" ∷ []) [] ≡ words_of (partial_pieces partial ++ debug_pieces keeps)
-    are_words true true = refl
-    are_words true false = refl
-    are_words false true = refl
-    are_words false false = refl
-
-    partial_option : Every IsOption (partial_pieces true)
-    partial_option = (is_option kinds.Partial (codes "-r") [] takes.Nothing (codes "-r" ∷ []) refl (refl, refl) refl refl, tt)
-
-    debug_option : Every IsOption (debug_pieces true)
-    debug_option = (is_option kinds.KeepDebug (codes "--keep-debug") [] takes.Nothing (codes "--keep-debug" ∷ []) refl (refl, refl) refl refl, tt)
-
-    are_options : (partial keeps : Bool) → Every IsOption (partial_pieces partial ++ debug_pieces keeps)
-    are_options true true = (partial_option.0, debug_option)
-    are_options true false = partial_option
-    are_options false true = debug_option
-    are_options false false = tt
-
-    have_partial : (partial keeps : Bool) → has_kind kinds.Partial (partial_pieces partial ++ debug_pieces keeps) ≡ partial
-    have_partial true true = refl
-    have_partial true false = refl
-    have_partial false true = refl
-    have_partial false false = refl
-
-    have_debug : (partial keeps : Bool) → has_kind kinds.KeepDebug (partial_pieces partial ++ debug_pieces keeps) ≡ keeps
-    have_debug true true = refl
-    have_debug true false = refl
-    have_debug false true = refl
-    have_debug false false = refl

@@ -1,5 +1,5 @@
--- The linker's own words have a plan, whose inputs are the files that are named, and which is partial or isn't, and keeps debug sections
--- or doesn't.
+-- The linker's own words have a plan, whose inputs are the files that are named, and which is partial or isn't, shared or isn't, and keeps
+-- debug sections or doesn't.
 use Rattle.std.proofs.Common.{◌≡◌, ℕ, ◌+◌, Bool, true, false, not, ◌&&◌, ◌||◌, cond, List, [], ◌∷◌, ◌++◌, length, drop, map, unwrap_or, Option, Some, None, is_some, Result, Ok, Err, IsOk, refl, sym, ap, subst, ◌∙◌, append_assoc, length-append}
 use Rattle.std.specs.Prelude.{codes}
 use Rattle.std.specs.Option.{option_or, option_map}
@@ -24,16 +24,16 @@ use Rattle.driver_table.specs.Texts.{line}
 use Rattle.driver_table.specs.Cut.{behind, cut_of}
 use Rattle.driver_fields.specs.Values.{values_fault}
 use Rattle.driver_fields.specs.Lacking.{lacking}
-use Rattle.driver_fields.specs.Fields.{fatal, is_partial, keeps_debug}
+use Rattle.driver_fields.specs.Fields.{fatal, is_partial, is_shared, keeps_debug}
 use Rattle.driver_fields.specs.Own.{own_words, warnings}
 use Rattle.driver_words.specs.Expand.{expanded_to}
 use Rattle.driver_words.specs.Inputs.{folders_of, inputs_of}
 use Rattle.driver_words.specs.declared.answer.What.{What}
 use Rattle.driver_words.specs.declared.answer.Answer.TheVariants.{Links, Refuses}
 use Rattle.driver_words.specs.Translated.{World, then_answer, unless_refused, unless_said, links, asked, has_path, with_path, linked, answered, not_deeper, cut_and_answered, translated_words, is_flavor, under_flavor, first_and_rest, flavored_by, behind_flavor, translated_by}
-use Rattle.driver_laws.specs.Laws.{File, file, named_files, planned_files, OwnWordsHavePlans, PlansNameTheFiles, PlansKeepDebug, PlansArePartial}
+use Rattle.driver_laws.specs.Laws.{File, file, named_files, planned_files, OwnWordsHavePlans, PlansNameTheFiles, PlansKeepDebug, PlansArePartial, PlansAreShared}
 use Rattle.driver_laws.proofs.Pieces.{Every, Piece, IsSpelled, IsOption, is_plain, has_kind, words_of, words_both, placed, cuts, any_left}
-use Rattle.driver_laws.proofs.Options.{own_have}
+use Rattle.driver_laws.proofs.Options.{own_have, not_both}
 use Rattle.driver_laws.proofs.Inputs.{Mark, input, opens, closes, wholes, parts, piece_of, IsPlain, mark_spelled, nested, files_in, inputs_are}
 
 -- ---- what a plain kind isn't
@@ -160,31 +160,70 @@ output_from (p ∷ ps) at w h = by (λ v t. output_from ps (at + length p.own) v
 or_left : (a b : Bool) → a ≡ true → (a || b) ≡ true
 or_left a b h = ap (λ t. t || b) h
 
+-- ---- options alone say what is written
+
+is_mark : Kind → Bool
+is_mark kind = same kinds.Input kind || (same kinds.StartLib kind || (same kinds.EndLib kind || (same kinds.WholeArchive kind || same kinds.NoWholeArchive kind)))
+
+no_first : (a b : Bool) → (a || b) ≡ false → (a ≡ false) × (b ≡ false)
+no_first true b h = absurd cc
+no_first false b h = (refl, h)
+
+mark_kind : (kind : Kind) → is_mark kind ≡ false → (m : Mark) → same (piece_of m).kind kind ≡ false
+unfolding is_mark
+mark_kind kind h m =
+    let a = no_first (same kinds.Input kind) _ h in
+    let b = no_first (same kinds.StartLib kind) _ a.1 in
+    let c = no_first (same kinds.EndLib kind) _ b.1 in
+    let d = no_first (same kinds.WholeArchive kind) _ c.1 in
+    by m a.0 b.0 c.0 d.0 d.1
+  where
+    by : (m : Mark) → same kinds.Input kind ≡ false → same kinds.StartLib kind ≡ false → same kinds.EndLib kind ≡ false → same kinds.WholeArchive kind ≡ false → same kinds.NoWholeArchive kind ≡ false
+        → same (piece_of m).kind kind ≡ false
+    by (input p) a b c d e = a
+    by opens a b c d e = b
+    by closes a b c d e = c
+    by wholes a b c d e = d
+    by parts a b c d e = e
+
+marks_quiet : (kind : Kind) → is_mark kind ≡ false → (ms : List Mark) (at : ℕ) → has kind (placed at (marked ms)) ≡ false
+marks_quiet kind none [] at = refl
+marks_quiet kind none (m ∷ ms) at = (λ i. mark_kind kind none m i || has kind (placed (at + length (piece_of m).own) (marked ms))) ∙ marks_quiet kind none ms (at + length (piece_of m).own)
+
+options_say : (kind : Kind) (ps more : List Piece) (at : ℕ) → ((at : ℕ) → has kind (placed at more) ≡ false) → has kind (placed at (ps ++ more)) ≡ has_kind kind ps
+options_say kind [] more at h = h at
+options_say kind (p ∷ ps) more at h = ap (λ (t : Bool). same p.kind kind || t) (options_say kind ps more (at + length p.own) h)
+
 -- ---- no fault of all words together
 
-all_none : (g : Option Usage) (o k : Option ℕ) (i : Bool) (t : Option (List ℕ)) (p : Bool) → g ≡ None → o ≡ None → k ≡ None → i ≡ true → is_some t ≡ true
+all_none : (g : Option Usage) (o k : Option ℕ) (i : Bool) (t : Option (List ℕ)) (c : Bool) → g ≡ None → o ≡ None → k ≡ None → i ≡ true → is_some t ≡ true → c ≡ false
     → first_some (g ∷ None ∷ option_map OpenGroup o ∷ given (is_some k && i) CaseAndInput ∷ given (not (is_some k) && not i) NoInput ∷ given (not (is_some k) && not (is_some t)) NoOutput
-    ∷ given (is_some k && p) PartialClash ∷ []) ≡ None
-all_none g o k i t p is_g is_o is_k is_i is_t =
+    ∷ given c PartialClash ∷ []) ≡ None
+all_none g o k i t c is_g is_o is_k is_i is_t is_c =
     (λ j. first_some (
     is_g j ∷ None ∷ option_map OpenGroup (is_o j) ∷ given (is_some (is_k j) && is_i j) CaseAndInput ∷ given (not (is_some (is_k j)) && not (is_i j)) NoInput
-    ∷ given (not (is_some (is_k j)) && not (is_t j)) NoOutput ∷ given (is_some (is_k j) && p) PartialClash ∷ []))
+    ∷ given (not (is_some (is_k j)) && not (is_t j)) NoOutput ∷ given (is_c j) PartialClash ∷ []))
 
 record Whole (ps : List Piece) (ms : List Mark) : Type 0 where
   all : Every IsOption ps
   output : has_kind kinds.Output ps ≡ true
+  no_clash : (has_kind kinds.Shared ps && has_kind kinds.Partial ps) ≡ false
   nests : nested false ms ≡ true
   some : has_path (words_of (marked ms)) ≡ true
 
 no_fault : (ps : List Piece) (ms : List Mark) → Whole ps ms → first_fault (placed 0 (ps ++ marked ms), None) ≡ None
-unfolding first_fault
+unfolding first_fault is_mark
 no_fault ps ms w =
+    let case = case_skips ps (marked ms) w.all (λ at. no_case ms at) 0 in
+    let shared = options_say kinds.Shared ps (marked ms) 0 (marks_quiet kinds.Shared refl ms) in
+    let partial = options_say kinds.Partial ps (marked ms) 0 (marks_quiet kinds.Partial refl ms) in
     all_none _ _ _ _ _ _
     (faults_skip ps (marked ms) w.all (λ at. groups_stand ms at None w.nests) 0)
     (opens_skip ps (marked ms) w.all (λ at. groups_close ms at None w.nests) 0)
-    (case_skips ps (marked ms) w.all (λ at. no_case ms at) 0)
+    case
     (input_skips ps (marked ms) (λ at. has_input ms at w.some) 0)
     (output_from (ps ++ marked ms) 0 None (or_left (has_kind kinds.Output (ps ++ marked ms)) false (any_left kinds.Output ps (marked ms) w.output)))
+    ((λ j. (is_some (case j) || shared j) && partial j) ∙ w.no_clash)
 
 -- ---- what the inputs of the plan name
 
@@ -267,40 +306,6 @@ linked_by held items own told f (Ok words) is e = by (has_path (drop (length (ow
       some = ap has_path (sym (drop_front (own_words items) words)) ∙ some;
     }
 
--- ---- options alone say what is written
-
-is_mark : Kind → Bool
-is_mark kind = same kinds.Input kind || (same kinds.StartLib kind || (same kinds.EndLib kind || (same kinds.WholeArchive kind || same kinds.NoWholeArchive kind)))
-
-no_first : (a b : Bool) → (a || b) ≡ false → (a ≡ false) × (b ≡ false)
-no_first true b h = absurd cc
-no_first false b h = (refl, h)
-
-mark_kind : (kind : Kind) → is_mark kind ≡ false → (m : Mark) → same (piece_of m).kind kind ≡ false
-unfolding is_mark
-mark_kind kind h m =
-    let a = no_first (same kinds.Input kind) _ h in
-    let b = no_first (same kinds.StartLib kind) _ a.1 in
-    let c = no_first (same kinds.EndLib kind) _ b.1 in
-    let d = no_first (same kinds.WholeArchive kind) _ c.1 in
-    by m a.0 b.0 c.0 d.0 d.1
-  where
-    by : (m : Mark) → same kinds.Input kind ≡ false → same kinds.StartLib kind ≡ false → same kinds.EndLib kind ≡ false → same kinds.WholeArchive kind ≡ false → same kinds.NoWholeArchive kind ≡ false
-        → same (piece_of m).kind kind ≡ false
-    by (input p) a b c d e = a
-    by opens a b c d e = b
-    by closes a b c d e = c
-    by wholes a b c d e = d
-    by parts a b c d e = e
-
-marks_quiet : (kind : Kind) → is_mark kind ≡ false → (ms : List Mark) (at : ℕ) → has kind (placed at (marked ms)) ≡ false
-marks_quiet kind none [] at = refl
-marks_quiet kind none (m ∷ ms) at = (λ i. mark_kind kind none m i || has kind (placed (at + length (piece_of m).own) (marked ms))) ∙ marks_quiet kind none ms (at + length (piece_of m).own)
-
-options_say : (kind : Kind) (ps more : List Piece) (at : ℕ) → ((at : ℕ) → has kind (placed at more) ≡ false) → has kind (placed at (ps ++ more)) ≡ has_kind kind ps
-options_say kind [] more at h = h at
-options_say kind (p ∷ ps) more at h = ap (λ (t : Bool). same p.kind kind || t) (options_say kind ps more (at + length p.own) h)
-
 -- ---- the plan
 
 record Planned (held : World) (items : List Said) (own : List (List ℕ)) : Type 0 where
@@ -308,7 +313,13 @@ record Planned (held : World) (items : List Said) (own : List (List ℕ)) : Type
   is : plan_of own ≡ Ok plan
   names : planned_files own plan ≡ named_files held items
   partial : plan.partial ≡ is_partial items
+  shared : plan.shared ≡ is_shared items
   debug : plan.keep_debug ≡ keeps_debug items
+
+not_twice : (strip shared : Bool) → ((not strip && not shared) && not shared) ≡ (not strip && not shared)
+not_twice true shared = refl
+not_twice false true = refl
+not_twice false false = refl
 
 all_spelled : (ps : List Piece) (ms : List Mark) → Every IsOption ps → Every IsPlain ms → Every IsSpelled (ps ++ marked ms)
 all_spelled [] [] a b = tt
@@ -323,7 +334,7 @@ planned laws held items own lacks l =
     let ps = o.pieces in
     let all = ps ++ marked i.marks in
     let own_is : own ≡ words_of all = sym l.own_is ∙ (λ j. o.words_are j ++ i.words_are j) ∙ sym (words_both ps (marked i.marks)) in
-    let whole : Whole ps i.marks = record { all = o.all; output = o.output; nests = i.nests; some = ap has_path (sym i.words_are) ∙ l.some } in
+    let whole : Whole ps i.marks = record { all = o.all; output = o.output; no_clash = (λ j. o.shared_is j && o.partial_is j) ∙ not_both items lacks; nests = i.nests; some = ap has_path (sym i.words_are) ∙ l.some } in
     let cut = subst (λ (ws : List (List ℕ)). Cuts false 0 (placed 0 all) ws) (sym own_is) (cuts all 0 (all_spelled ps i.marks o.all i.plain)) in
     record {
       plan = plan_from (placed 0 all);
@@ -333,7 +344,11 @@ planned laws held items own lacks l =
           ∙ options_look ps (marked i.marks) (files_in false false i.marks) o.all (λ front. marks_look i.marks front false false) []
           ∙ i.lists;
       partial = options_say kinds.Partial ps (marked i.marks) 0 (marks_quiet kinds.Partial refl i.marks) ∙ o.partial_is;
-      debug = options_say kinds.KeepDebug ps (marked i.marks) 0 (marks_quiet kinds.KeepDebug refl i.marks) ∙ o.debug;
+      shared = options_say kinds.Shared ps (marked i.marks) 0 (marks_quiet kinds.Shared refl i.marks) ∙ o.shared_is;
+      debug =
+          (λ j. (options_say kinds.KeepDebug ps (marked i.marks) 0 (marks_quiet kinds.KeepDebug refl i.marks) ∙ o.debug) j
+          && not ((options_say kinds.Shared ps (marked i.marks) 0 (marks_quiet kinds.Shared refl i.marks) ∙ o.shared_is) j))
+          ∙ not_twice _ (is_shared items);
     }
 
 of_answer : PlansAreCuts → (held : World) (items : List Said) (own told : List (List ℕ)) (f : Bool) → answered held items ≡ Links own told f → Planned held items own
@@ -362,6 +377,11 @@ pub are_partial : PlansAreCuts → PlansArePartial
 are_partial laws held items own told f plan e is =
     let p = of_answer laws held items own told f e in
     ap (λ (q : Plan). q.partial) (same_plan own plan p.plan is p.is) ∙ p.partial
+
+pub are_shared : PlansAreCuts → PlansAreShared
+are_shared laws held items own told f plan e is =
+    let p = of_answer laws held items own told f e in
+    ap (λ (q : Plan). q.shared) (same_plan own plan p.plan is p.is) ∙ p.shared
 
 -- ---- from the words
 

@@ -5,7 +5,7 @@ use Rattle.link_words.specs.Words.{plan_of, word}
 use Rattle.driver_table.specs.declared.meaning.Meaning.{Meaning}
 use Rattle.driver_table.specs.declared.meaning.Meaning.TheVariants.{Input, Library}
 use Rattle.driver_table.specs.Items.{Said}
-use Rattle.driver_fields.specs.Fields.{is_partial, keeps_debug}
+use Rattle.driver_fields.specs.Fields.{is_partial, is_shared, keeps_debug}
 use Rattle.driver_texts.specs.Paths.{plain}
 use Rattle.driver_words.specs.Start.{started}
 use Rattle.driver_words.specs.Inputs.{is_thin, members_in, library_path, folders_of, inside_after, whole_after}
@@ -52,7 +52,7 @@ planned_files own plan = map (λ i. file i.lazy i.whole (word own i.place)) plan
 abbrev pub OwnWordsHavePlans : Type 0
 OwnWordsHavePlans = (held : World) (words own warnings : List (List ℕ)) (fatal : Bool) → translated held words ≡ Links own warnings fatal → IsOk (plan_of own)
 
--- It keeps debug sections unless a word strips them.
+-- It keeps debug sections unless a word strips them, or asks for a shared output.
 abbrev pub PlansKeepDebug : Type 0
 PlansKeepDebug = (held : World) (items : List Said) (own warnings : List (List ℕ)) (fatal : Bool) (plan : Plan) → answered held items ≡ Links own warnings fatal → plan_of own ≡ Ok plan
     → plan.keep_debug ≡ keeps_debug items
@@ -61,6 +61,11 @@ PlansKeepDebug = (held : World) (items : List Said) (own warnings : List (List �
 abbrev pub PlansArePartial : Type 0
 PlansArePartial = (held : World) (items : List Said) (own warnings : List (List ℕ)) (fatal : Bool) (plan : Plan) → answered held items ≡ Links own warnings fatal → plan_of own ≡ Ok plan
     → plan.partial ≡ is_partial items
+
+-- It asks for a shared output exactly where a word does.
+abbrev pub PlansAreShared : Type 0
+PlansAreShared = (held : World) (items : List Said) (own warnings : List (List ℕ)) (fatal : Bool) (plan : Plan) → answered held items ≡ Links own warnings fatal → plan_of own ≡ Ok plan
+    → plan.shared ≡ is_shared items
 
 -- Its inputs are the files that are named and found.
 abbrev pub PlansNameTheFiles : Type 0

@@ -42,3 +42,14 @@ partial = refl
 relocatable : own_or_line (cut_of (codes "a.o" ∷ codes "--relocatable" ∷ codes "-S" ∷ codes "-o" ∷ codes "r.o" ∷ codes "-relocatable" ∷ [])) ≡ codes "-o" ∷ codes "r.o" ∷ codes "--stack-first" ∷ codes "-r" ∷ []
 unfolding own_words name_words switch_words name_switches memory_switches number_words memory_numbers export_of exported_if alone_row equals_row letter_of option_in
 relocatable = refl
+
+-- A shared output exports all definitions that aren't hidden, unless the words say otherwise.
+shared : own_or_line (cut_of (codes "-shared" ∷ codes "a.o" ∷ codes "-o" ∷ codes "b" ∷ []))
+    ≡ codes "-o" ∷ codes "b" ∷ codes "--export-dynamic" ∷ codes "--stack-first" ∷ codes "-shared" ∷ []
+unfolding own_words name_words switch_words name_switches memory_switches number_words memory_numbers export_of exported_if alone_row equals_row letter_of option_in
+shared = refl
+
+no_export_dynamic : own_or_line (cut_of (codes "a.o" ∷ codes "--no-export-dynamic" ∷ codes "-e" ∷ codes "f" ∷ codes "--shared" ∷ codes "-S" ∷ codes "-o" ∷ codes "b" ∷ []))
+    ≡ codes "-o" ∷ codes "b" ∷ codes "--entry=f" ∷ codes "--stack-first" ∷ codes "-shared" ∷ []
+unfolding own_words name_words switch_words name_switches memory_switches number_words memory_numbers export_of exported_if alone_row equals_row letter_of option_in
+no_export_dynamic = refl

@@ -1,4 +1,4 @@
-//! Marks and words that are told of, words that end the translation, and words of partial links.
+//! Marks and words that are told of, words that end the translation, and words of partial links and of shared outputs.
 
 use crate::cases::{File, NONE, Want, all_stand_for};
 use driver_words::What;
@@ -221,7 +221,60 @@ fn words_of_partial_links(rt: HostRuntime) -> Result<(), Fail> {
         (
             NONE,
             "m.o -r -shared -o o",
-            Want::Line("--shared is not supported"),
+            Want::Line("-r and -shared may not be used together"),
+        ),
+    ];
+    assert!(rt; all_stand_for(rt.alloc(), &cases));
+    Ok(())
+}
+
+#[test]
+fn words_of_shared_outputs(rt: HostRuntime) -> Result<(), Fail> {
+    let cases: [(&[File], &'static str, Want); 10] = [
+        (
+            NONE,
+            "-shared a.o -o b",
+            Want::Own("-o b --export-dynamic --stack-first -shared a.o"),
+        ),
+        (
+            NONE,
+            "m.o --no-export-dynamic --shared -s -o o",
+            Want::Own("-o o --stack-first -shared m.o"),
+        ),
+        (
+            NONE,
+            "m.o -shared --no-export-dynamic -E -o o",
+            Want::Own("-o o --export-dynamic --stack-first -shared m.o"),
+        ),
+        (
+            NONE,
+            "m.o -shared -shared --no-entry --export=f --experimental-pic -Bsymbolic -o o",
+            Want::Own("-o o --no-entry --export=f --export-dynamic --stack-first -shared m.o"),
+        ),
+        (
+            NONE,
+            "m.o -shared --unresolved-symbols=import-dynamic -o o",
+            Want::Warned(
+                "-o o --export-dynamic --stack-first -shared m.o",
+                "ignored: --unresolved-symbols=import-dynamic\n",
+            ),
+        ),
+        (NONE, "m.o -shared", Want::Line("no output file specified")),
+        (NONE, "-shared -o o", Want::Line("no input files")),
+        (
+            NONE,
+            "m.o -shared=f -o o",
+            Want::Line("unknown argument: -shared=f"),
+        ),
+        (
+            NONE,
+            "m.o -shared -pie -o o",
+            Want::Line("-pie is not supported"),
+        ),
+        (
+            NONE,
+            "m.o -shared -relocatable --no-entry -o o",
+            Want::Line("-r and -shared may not be used together"),
         ),
     ];
     assert!(rt; all_stand_for(rt.alloc(), &cases));

@@ -4,6 +4,7 @@ use Rattle.wl_outside.specs.Shelf.{Shown, Same, SameBut, Grows, Torn, SaveFailed
 use Rattle.link_plan.specs.declared.plan.Plan.{Plan}
 use Rattle.link_core.specs.Whole.{whole_link, MakesModule}
 use Rattle.link_core.specs.link_runs.Links.{Runs}
+use Rattle.link_core.specs.link_runs.link_program.link_rules.ModeOf.{IsPlain}
 use Rattle.link_command.specs.declared.status.Status.{Status}
 use Rattle.link_command.specs.declared.status.Status.TheVariants.{Linked, WriteFault}
 use Rattle.link_command.specs.Command.{Shows, IsTold, Saved, SavedRuns, Cut, IsUnlessMemory, files_of}
@@ -68,7 +69,7 @@ save_shows status before mid after words plan files bytes (inr torn) same grows 
 
 -- what was linked and saved runs
 pub save_runs : (status : Status) (before mid after : Shown) (words : List (List ℕ)) (plan : Plan) (files : List (List ℕ)) (bytes : List ℕ)
-    → Same before mid → Grows before mid → (IsTold plan.make_case before → files_of plan.make_case before words plan ≡ Some files) → (MakesModule plan → Runs plan files bytes)
+    → Same before mid → Grows before mid → (IsTold plan.make_case before → files_of plan.make_case before words plan ≡ Some files) → (MakesModule plan → IsPlain plan → Runs plan files bytes)
     → (status ≡ Linked → Saved mid after plan.output bytes) → status ≡ Linked → IsTold plan.make_case before → SavedRuns before after words plan
 save_runs status before mid after words plan files bytes same grows held runs saved done told = record {
   files = files;

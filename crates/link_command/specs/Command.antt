@@ -7,6 +7,7 @@ use Rattle.link_plan.specs.declared.plan.Plan.{Plan}
 use Rattle.link_words.specs.Words.{plan_of, word}
 use Rattle.link_core.specs.Whole.{whole_link, MakesModule}
 use Rattle.link_core.specs.link_runs.Links.{Runs}
+use Rattle.link_core.specs.link_runs.link_program.link_rules.ModeOf.{IsPlain}
 use Rattle.case_objects.specs.Objects.{objects}
 use Rattle.link_command.specs.declared.status.Status.{Status}
 use Rattle.link_command.specs.declared.status.Status.TheVariants.{Linked, Refused, Usage, ReadFault, WriteFault, NoMemory}
@@ -83,13 +84,13 @@ Shows WriteFault before after words plan =
     × IsSomeAnd plan.output (λ output. SaveFailed before after output)
 Shows NoMemory before after words plan = Same before after
 
--- The output, where the plan names one, holds what is linked: a module runs as the plan and the files tell, with nothing linked.
+-- The output, where the plan names one, holds what is linked: a plain module runs as the plan and the files tell, with nothing linked.
 pub record SavedRuns (before after : Shown) (words : List (List ℕ)) (plan : Plan) : Type 0 where
   pub files : List (List ℕ)
   pub held : files_of plan.make_case before words plan ≡ Some files
   pub bytes : List ℕ
   pub saved : Saved before after plan.output bytes
-  pub runs : MakesModule plan → Runs plan files bytes
+  pub runs : MakesModule plan → IsPlain plan → Runs plan files bytes
 
 -- no load of an input word failed, and no save of the output
 abbrev pub LoadsWork : Shown → Shown → List (List ℕ) → Plan → Type 0

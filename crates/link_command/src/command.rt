@@ -39,7 +39,7 @@ pub fn link_command<R: Threads + Sync, F: Shelf, E: Sink, G: Gate>(
     ensures cause { IfOk (plan_of words.now) (λ plan. Shows result (F.shown shelf.old) (F.shown shelf.new) words.now plan) }
     ensures memory { result ≡ Status.NoMemory → Same (F.shown shelf.old) (F.shown shelf.new) }
 
-    // What is linked runs as its files would.
+    // What is linked as a plain module runs as its files would.
     ensures runs { (plan : ThePlan) → plan_of words.now ≡ Ok plan → result ≡ Status.Linked → IsTold plan.make_case (F.shown shelf.old)
         → SavedRuns (F.shown shelf.old) (F.shown shelf.new) words.now plan }
 

@@ -17,7 +17,7 @@ use Rattle.debug_links.specs.valid_links.output_check.Check.{invalid_fault, IsVa
 use Rattle.debug_links.proofs.output_check_lemmas.Passed.{passes}
 use Rattle.debug_links.specs.debug_tails.Tails.{with_debug}
 use Rattle.debug_links.specs.Keeps.{ValidStays}
-use Rattle.link_core.specs.Answers.{Answers, AnswersPlain}
+use Rattle.link_core.specs.Answers.{Answers}
 use Rattle.link_core.specs.Linked.{checked, linked, unchecked}
 use Rattle.link_core.specs.Checked.{KeepsValid}
 use Rattle.link_core.proofs.Answering.{fails_by}
@@ -103,9 +103,10 @@ module _ (plan : Plan) (files : List (List ℕ)) where
   valid_whole stays bytes (Ok whole) valid said = stays plan files bytes whole valid said
   valid_whole stays bytes (Err e) valid said = tt
 
-  module _ (law : LinksAreValid) (judge : LinksDontJudge) (stays : ValidStays) (is : IsPlan plan) (long : length files ≡ unwrap_or plan.make_case (length plan.inputs)) (all : AllValid plan files) where
-    none_found : IsPlain plan → (bytes : List ℕ) → link_of plan files ≡ Ok bytes → invalid_fault plan bytes ≡ None
-    none_found plain bytes link = passes plan bytes (law plan files bytes is long plain all link)
+  module _ (law : LinksAreValid) (judge : LinksDontJudge) (stays : ValidStays) (is : IsPlan plan) (long : length files ≡ unwrap_or plan.make_case (length plan.inputs)) (plain : IsPlain plan)
+      (all : AllValid plan files) where
+    none_found : (bytes : List ℕ) → link_of plan files ≡ Ok bytes → invalid_fault plan bytes ≡ None
+    none_found bytes link = passes plan bytes (law plan files bytes is long plain all link)
 
     never_said : (at : InvalidAt) → unchecked plan files ≡ Err (Invalid at) → ⊥
     unfolding unchecked
@@ -114,22 +115,17 @@ module _ (plan : Plan) (files : List (List ℕ)) where
     never_so : (answer : Result (List ℕ) LinkError) → Answers answer (unchecked plan files) → (at : InvalidAt) → answer ≡ Err (Refused (Invalid at)) → ⊥
     never_so answer said at e = never_said at (subst (λ (r : Result (List ℕ) LinkError). Answers r (unchecked plan files)) e said)
 
-    same_plain : IsPlain plan → linked plan files ≡ unchecked plan files
+    as_unchecked : linked plan files ≡ unchecked plan files
     unfolding linked unchecked
-    same_plain plain = same_by (link_of plan files) (none_found plain)
+    as_unchecked = same_by (link_of plan files) none_found
 
-    as_unchecked : (answer : Result (List ℕ) LinkError) → AnswersPlain plan answer → Answers answer (linked plan files) → Answers answer (unchecked plan files)
-    as_unchecked (Ok whole) plain said = subst (Answers (Ok whole)) (same_plain plain) said
-    as_unchecked (Err (Refused f)) plain said = subst (Answers (Err (Refused f))) (same_plain plain) said
-    as_unchecked (Err OutOfMemory) plain said = tt
-
-    all_valid : (answer : Result (List ℕ) LinkError) → AnswersPlain plan answer → Answers answer (unchecked plan files) → IfOk answer IsValidOutput
-    all_valid (Ok whole) plain said =
+    all_valid : (answer : Result (List ℕ) LinkError) → Answers answer (unchecked plan files) → IfOk answer IsValidOutput
+    all_valid (Ok whole) said =
         let p = unchecked_parts whole said in
         stays plan files p.0 whole (law plan files p.0 is long plain all p.1) p.2
-    all_valid (Err e) plain said = tt
+    all_valid (Err e) said = tt
 
-    pub keeps_valid : (answer : Result (List ℕ) LinkError) → AnswersPlain plan answer → Answers answer (linked plan files) → KeepsValid plan files answer
-    keeps_valid answer plain said =
-        let passes = as_unchecked answer plain said in
-        record { passes = passes; never = never_so answer passes; valid = all_valid answer plain passes }
+    pub keeps_valid : (answer : Result (List ℕ) LinkError) → Answers answer (linked plan files) → KeepsValid plan files answer
+    keeps_valid answer said =
+        let passes = subst (Answers answer) as_unchecked said in
+        record { passes = passes; never = never_so answer passes; valid = all_valid answer passes }

@@ -4,6 +4,7 @@ use Rattle.std.specs.Prelude.{IfOk, if◌then◌else◌}
 use Rattle.link_output.specs.link_program.wl_base.Choice.{◌>>=◌}
 use Rattle.link_output.specs.link_program.wl_base.declared.fault.Fault.{Fault}
 use Rattle.link_output.specs.link_program.object_file.declared.object.Object.{Object}
+use Rattle.link_output.specs.link_program.made_symbols.declared.mode.Mode.{Mode}
 use Rattle.link_output.specs.link_program.made_symbols.declared.mode.Mode.TheVariants.{Plain}
 use Rattle.link_output.specs.link_program.round_rules.Rounds.{Candidate, load}
 use Rattle.link_output.specs.link_program.link_plan.declared.plan.Plan.{Plan}
@@ -30,7 +31,6 @@ use Rattle.link_core.specs.Linked.{linked}
 use Rattle.link_core.specs.Loading.{Loading, program_in}
 use Rattle.link_core.specs.Whole.{whole_link, told_calls}
 use Rattle.link_core.proofs.Answering.{fails_by}
-use Rattle.link_core.proofs.Opened.{given, not_given}
 
 -- ---- loading
 
@@ -59,17 +59,17 @@ module _ (plan : Plan) (files : List (List ℕ)) where
     by_load OutOfMemory fails = tt
 
     pub load_stops : (e x : LinkError) → x ≡ e → Fails e (loaded_of (mode_of plan) plan files) → Answers (Err x) (joined plan files)
-    load_stops e x is fails = fails_by (joined plan files) e x is (by_load e (not_given plan files e mode_is fails))
+    load_stops e x is fails = fails_by (joined plan files) e x is (by_load e (subst (λ m. Fails e (loaded_of m plan files)) mode_is fails))
 
     pub goes_on_joined : (i : Inputs) (r : Result (List ℕ) LinkError) → AreInputs (mode_of plan) plan files i
-        → Answers r (partial_program (program_of Plain plan files (the_candidates plan files) i.loaded)) → Answers r (joined plan files)
+        → Answers r (partial_program (program_of (mode_of plan) plan files (the_candidates plan files) i.loaded)) → Answers r (joined plan files)
     goes_on_joined i r are said =
         let objects : load Plain [] (the_candidates plan files) ≡ Ok i.loaded
-        = ap (λ (asked : List (List ℕ)). load Plain asked (the_candidates plan files)) (sym bare.asked) ∙ given plan files i mode_is are in
+        = ap (λ (asked : List (List ℕ)). load Plain asked (the_candidates plan files)) (sym bare.asked) ∙ subst (λ m. load m (asked_names plan) (the_candidates plan files) ≡ Ok i.loaded) mode_is are.objects in
         let whole : joined plan files ≡ next (the_candidates plan files) i.loaded
         = ap (λ (r : Result (List Candidate) Fault). r >>= λ all. load Plain [] all >>= λ objects. next all objects) are.candidates
         ∙ ap (λ (r : Result (List Object) Fault). r >>= λ objects. next (the_candidates plan files) objects) objects in
-        subst (Answers r) (sym whole) said
+        subst (Answers r) (sym whole) (subst (λ m. Answers r (partial_program (program_of m plan files (the_candidates plan files) i.loaded))) mode_is said)
 
 -- ---- what is made of what is found
 
@@ -77,12 +77,12 @@ module _ (law : PartialIsMade) (p : Program) (strict : p.plan.loose_calls ≡ fa
   made_by : (r : Result Program Fault) → found_of p ≡ r → partial_program p ≡ (r >>= made_of)
   made_by r e = law p strict ∙ ap (λ (q : Result Program Fault). q >>= made_of) e
 
-  by_find : (plan : Plan) (objects : List Object) (e : LinkError) → Finds Plain (Err e) plan objects p → Answers (Err e) (partial_program p)
-  by_find plan objects (Refused f) finds = made_by (Err f) finds
-  by_find plan objects OutOfMemory finds = tt
+  by_find : (mode : Mode) (plan : Plan) (objects : List Object) (e : LinkError) → Finds mode (Err e) plan objects p → Answers (Err e) (partial_program p)
+  by_find mode plan objects (Refused f) finds = made_by (Err f) finds
+  by_find mode plan objects OutOfMemory finds = tt
 
-  pub find_refuses : (plan : Plan) (objects : List Object) (e x : LinkError) → x ≡ e → Finds Plain (Err e) plan objects p → Answers (Err x) (partial_program p)
-  find_refuses plan objects e x is finds = fails_by (partial_program p) e x is (by_find plan objects e finds)
+  pub find_refuses : (mode : Mode) (plan : Plan) (objects : List Object) (e x : LinkError) → x ≡ e → Finds mode (Err e) plan objects p → Answers (Err x) (partial_program p)
+  find_refuses mode plan objects e x is finds = fails_by (partial_program p) e x is (by_find mode plan objects e finds)
 
   pub goes_on_made : (r : Result (List ℕ) LinkError) → found_of p ≡ Ok p → Answers r (made_of p) → Answers r (partial_program p)
   goes_on_made r found said = subst (Answers r) (sym (made_by (Ok p) found)) said

@@ -8,7 +8,6 @@ use Rattle.link_output.specs.link_program.wl_base.declared.fault.Fault.{Fault}
 use Rattle.link_output.specs.link_program.wasm_types.declared.function.FuncType.{FuncType}
 use Rattle.link_output.specs.link_program.object_file.declared.object.Object.{Object}
 use Rattle.link_output.specs.link_program.made_symbols.declared.mode.Mode.{Mode}
-use Rattle.link_output.specs.link_program.made_symbols.declared.mode.Mode.TheVariants.{Plain}
 use Rattle.link_output.specs.link_program.round_rules.Rounds.{Candidate, load}
 use Rattle.link_output.specs.link_program.link_names.Numbered.{AreNumbers}
 use Rattle.link_output.specs.link_program.name_rules.Entries.{InputSymbol, entries, name_of}
@@ -19,6 +18,7 @@ use Rattle.link_output.specs.link_program.name_entries.declared.lookups.Entries.
 use Rattle.link_output.specs.link_program.name_meanings.Means.{IsResolution}
 use Rattle.link_output.specs.link_program.link_plan.declared.plan.Plan.{Plan}
 use Rattle.link_output.specs.link_program.link_rules.Candidates.{candidates_of}
+use Rattle.link_output.specs.link_program.link_rules.ModeOf.{mode_of}
 use Rattle.link_output.specs.link_program.link_rules.Program.{Program, is_mismatch, variant, variants_among, variants_of, loose_variants, program_of, option_onto}
 use Rattle.link_output.specs.link_program.link_rules.LinkOf.{asked_names, the_readers}
 use Rattle.link_output.specs.link_program.declared.error.LinkError.{LinkError}
@@ -28,7 +28,7 @@ use Rattle.link_output.specs.link_program.Program.{variant_names, variant_type}
 use Rattle.debug_links.specs.valid_links.link_runs.link_inputs.Inputs.{loaded_of}
 use Rattle.mismatch_rules.specs.declared.mismatch.Mismatch.{Mismatch}
 use Rattle.mismatch_rules.specs.Mismatches.{mismatches, mismatches_among, mismatch_by, same_call, standing}
-use Rattle.called_variants.specs.Called.{is_called, calls_told, calls_if, told_of, calls_told_by}
+use Rattle.called_variants.specs.Called.{is_called, calls_told, calls_if, told_of, calls_told_by, calls_told_of}
 use Rattle.called_variants.specs.Marked.{NameThese}
 use Rattle.program_build.proofs.loose_calls_lemmas.Listing.{told_not}
 use Rattle.program_build.specs.declared.found.Found.{Found}
@@ -50,42 +50,48 @@ tells_by e x told due is tells = subst (λ x. TellsBeside x told due) (sym is) t
 
 -- ---- loading
 
-not_loaded : (plan : Plan) (files : List (List ℕ)) (f : Fault) → (candidates_of the_readers plan files >>= λ all. load Plain (asked_names plan) all) ≡ Err f → calls_told_by Plain the_readers plan files ≡ []
-unfolding calls_told_by
-not_loaded plan files f e = by (candidates_of the_readers plan files) e
-  where
-    inner : (all : List Candidate) (r : Result (List Object) Fault) → r ≡ Err f → told_of (r >>= λ objects. standing (program_of Plain plan files all objects)) ≡ []
-    inner all r e = ap (λ (r : Result (List Object) Fault). told_of (r >>= λ objects. standing (program_of Plain plan files all objects))) e
+module _ (mode : Mode) (plan : Plan) (files : List (List ℕ)) where
+  not_loaded : (f : Fault) → (candidates_of the_readers plan files >>= λ all. load mode (asked_names plan) all) ≡ Err f → calls_told_by mode the_readers plan files ≡ []
+  unfolding calls_told_by
+  not_loaded f e = by (candidates_of the_readers plan files) e
+    where
+      inner : (all : List Candidate) (r : Result (List Object) Fault) → r ≡ Err f → told_of (r >>= λ objects. standing (program_of mode plan files all objects)) ≡ []
+      inner all r e = ap (λ (r : Result (List Object) Fault). told_of (r >>= λ objects. standing (program_of mode plan files all objects))) e
 
-    by : (r : Result (List Candidate) Fault) → (r >>= λ all. load Plain (asked_names plan) all) ≡ Err f
-        → told_of (r >>= λ all. load Plain (asked_names plan) all >>= λ objects. standing (program_of Plain plan files all objects)) ≡ []
-    by (Ok all) e = inner all (load Plain (asked_names plan) all) e
-    by (Err g) e = refl
+      by : (r : Result (List Candidate) Fault) → (r >>= λ all. load mode (asked_names plan) all) ≡ Err f
+          → told_of (r >>= λ all. load mode (asked_names plan) all >>= λ objects. standing (program_of mode plan files all objects)) ≡ []
+      by (Ok all) e = inner all (load mode (asked_names plan) all) e
+      by (Err g) e = refl
 
-pub load_told : (plan : Plan) (files : List (List ℕ)) (e x : LinkError) (told : List Mismatch) → x ≡ e → Fails e (loaded_of Plain plan files) → told ≡ []
-    → TellsBeside x told (calls_told_by Plain the_readers plan files)
-unfolding loaded_of
-load_told plan files e x told is fails none = tells_by e x told (calls_told_by Plain the_readers plan files) is (by e fails)
+  told_by : (all : List Candidate) (objects : List Object) → candidates_of the_readers plan files ≡ Ok all → load mode (asked_names plan) all ≡ Ok objects
+      → told_of (standing (program_of mode plan files all objects)) ≡ calls_told_by mode the_readers plan files
+  unfolding calls_told_by
+  told_by all objects found given = sym (
+      ap (λ (r : Result (List Candidate) Fault). told_of (r >>= λ all. load mode (asked_names plan) all >>= λ objects. standing (program_of mode plan files all objects))) found
+      ∙ ap (λ (r : Result (List Object) Fault). told_of (r >>= λ objects. standing (program_of mode plan files all objects))) given)
+
+pub load_told : (plan : Plan) (files : List (List ℕ)) (e x : LinkError) (told : List Mismatch) → x ≡ e → Fails e (loaded_of (mode_of plan) plan files) → told ≡ []
+    → TellsBeside x told (calls_told_of plan files)
+unfolding loaded_of calls_told_of
+load_told plan files e x told is fails none = tells_by e x told (calls_told_of plan files) is (by e fails)
   where
-    by : (e : LinkError) → Fails e (loaded_of Plain plan files) → TellsBeside e told (calls_told_by Plain the_readers plan files)
-    by (Refused f) fails = none ∙ sym (not_loaded plan files f fails)
+    by : (e : LinkError) → Fails e (loaded_of (mode_of plan) plan files) → TellsBeside e told (calls_told_of plan files)
+    by (Refused f) fails = none ∙ sym (not_loaded (mode_of plan) plan files f fails)
     by OutOfMemory fails = tt
 
 pub loaded_told : (plan : Plan) (files : List (List ℕ)) (all : List Candidate) (objects : List Object)
-    → candidates_of the_readers plan files ≡ Ok all → load Plain (asked_names plan) all ≡ Ok objects
-    → told_of (standing (program_of Plain plan files all objects)) ≡ calls_told_by Plain the_readers plan files
-unfolding calls_told_by
-loaded_told plan files all objects found given = sym (
-    ap (λ (r : Result (List Candidate) Fault). told_of (r >>= λ all. load Plain (asked_names plan) all >>= λ objects. standing (program_of Plain plan files all objects))) found
-    ∙ ap (λ (r : Result (List Object) Fault). told_of (r >>= λ objects. standing (program_of Plain plan files all objects))) given)
+    → candidates_of the_readers plan files ≡ Ok all → load (mode_of plan) (asked_names plan) all ≡ Ok objects
+    → told_of (standing (program_of (mode_of plan) plan files all objects)) ≡ calls_told_of plan files
+unfolding calls_told_of
+loaded_told plan files all objects found given = told_by (mode_of plan) plan files all objects found given
 
 -- ---- finding
 
-pub find_told : (plan : Plan) (objects : List Object) (p : Program) (e x : LinkError) (told : List Mismatch) → x ≡ e → Finds Plain (Err e) plan objects p → told ≡ []
+pub find_told : (mode : Mode) (plan : Plan) (objects : List Object) (p : Program) (e x : LinkError) (told : List Mismatch) → x ≡ e → Finds mode (Err e) plan objects p → told ≡ []
     → TellsBeside x told (told_of (standing p))
-find_told plan objects p e x told is finds none = tells_by e x told (told_of (standing p)) is (by e finds)
+find_told mode plan objects p e x told is finds none = tells_by e x told (told_of (standing p)) is (by e finds)
   where
-    by : (e : LinkError) → Finds Plain (Err e) plan objects p → TellsBeside e told (told_of (standing p))
+    by : (e : LinkError) → Finds mode (Err e) plan objects p → TellsBeside e told (told_of (standing p))
     by (Refused f) finds = none ∙ sym (ap told_of finds)
     by OutOfMemory finds = tt
 
@@ -146,12 +152,12 @@ no_item (n ∷ ns) empty = absurd (let e = eqb-true (length (n ∷ ns)) 0 empty 
 
 -- ---- what was found
 
-module _ (plan : Plan) (objects : List Object) (f : Found) (p : Program) (is : IsFound Plain plan objects f p) where
-  entries_are : p.entries ≡ entries Plain objects
-  entries_are = is.entries ∙ ap (entries Plain) (sym is.objects)
+module _ (mode : Mode) (plan : Plan) (objects : List Object) (f : Found) (p : Program) (is : IsFound mode plan objects f p) where
+  entries_are : p.entries ≡ entries mode objects
+  entries_are = is.entries ∙ ap (entries mode) (sym is.objects)
 
-  resolved_are : p.resolved ≡ resolve Plain p.plan.allow_undefined (entries Plain objects) objects
-  resolved_are = is.resolved ∙ (λ i. resolve Plain p.plan.allow_undefined (entries_are i) (sym is.objects i))
+  resolved_are : p.resolved ≡ resolve mode p.plan.allow_undefined (entries mode objects) objects
+  resolved_are = is.resolved ∙ (λ i. resolve mode p.plan.allow_undefined (entries_are i) (sym is.objects i))
 
   pub strict_told : plan.loose_calls ≡ false → calls_if p.plan.loose_calls p ≡ []
   strict_told strict = ap (λ b. calls_if b p) (ap (λ (q : Plan). q.loose_calls) (sym is.plan) ∙ strict)
@@ -171,29 +177,29 @@ module _ (plan : Plan) (objects : List Object) (f : Found) (p : Program) (is : I
   these_named = record { imports = f.resolution.imports; named = is.tables.named }
 
   module _ (view : Entries) (same : view.objects.now ≡ objects) where
-    pub view_fits : ((mode : Mode) → AreNumbers mode objects f.names → InputsRise 0 objects → IsTable objects f.names f.entries → Fits mode view) → Fits Plain view
+    pub view_fits : ((m : Mode) → AreNumbers m objects f.names → InputsRise 0 objects → IsTable objects f.names f.entries → Fits m view) → Fits mode view
     view_fits fits =
-        fits Plain (subst (λ os. AreNumbers Plain os f.names) (sym is.objects) is.numbers) (subst (InputsRise 0) (sym is.objects) is.rise)
+        fits mode (subst (λ os. AreNumbers mode os f.names) (sym is.objects) is.numbers) (subst (InputsRise 0) (sym is.objects) is.rise)
         (subst (λ os. IsTable os f.names f.entries) (sym is.objects) is.looked_up)
 
-    pub view_entries : p.entries ≡ entries Plain view.objects.now
-    view_entries = entries_are ∙ ap (entries Plain) (sym same)
+    pub view_entries : p.entries ≡ entries mode view.objects.now
+    view_entries = entries_are ∙ ap (entries mode) (sym same)
 
-    pub view_resolved : p.resolved ≡ resolve Plain p.plan.allow_undefined (entries Plain view.objects.now) view.objects.now
-    view_resolved = resolved_are ∙ ap (λ os. resolve Plain p.plan.allow_undefined (entries Plain os) os) (sym same)
+    pub view_resolved : p.resolved ≡ resolve mode p.plan.allow_undefined (entries mode view.objects.now) view.objects.now
+    view_resolved = resolved_are ∙ ap (λ os. resolve mode p.plan.allow_undefined (entries mode os) os) (sym same)
 
-    pub view_resolution : IsResolution Plain (entries Plain view.objects.now) f.resolution (resolve Plain p.plan.allow_undefined (entries Plain view.objects.now) view.objects.now)
+    pub view_resolution : IsResolution mode (entries mode view.objects.now) f.resolution (resolve mode p.plan.allow_undefined (entries mode view.objects.now) view.objects.now)
     view_resolution =
-        subst (λ es. IsResolution Plain es f.resolution (resolve Plain p.plan.allow_undefined (entries Plain view.objects.now) view.objects.now)) view_entries
-        (subst (IsResolution Plain p.entries f.resolution) view_resolved is.resolution)
+        subst (λ es. IsResolution mode es f.resolution (resolve mode p.plan.allow_undefined (entries mode view.objects.now) view.objects.now)) view_entries
+        (subst (IsResolution mode p.entries f.resolution) view_resolved is.resolution)
 
-pub finds_by : (plan : Plan) (objects : List Object) (p : Program) (e x : LinkError) → x ≡ e → Finds Plain (Err e) plan objects p → Finds Plain (Err x) plan objects p
-finds_by plan objects p e x is finds = subst (λ x. Finds Plain (Err x) plan objects p) (sym is) finds
+pub finds_by : (mode : Mode) (plan : Plan) (objects : List Object) (p : Program) (e x : LinkError) → x ≡ e → Finds mode (Err e) plan objects p → Finds mode (Err x) plan objects p
+finds_by mode plan objects p e x is finds = subst (λ x. Finds mode (Err x) plan objects p) (sym is) finds
 
 -- ---- behind loading
 
-module _ (plan : Plan) (files : List (List ℕ)) (all : List Candidate) (objects : List Object) (found : candidates_of the_readers plan files ≡ Ok all) (given : load Plain (asked_names plan) all ≡ Ok objects) where
-  pub tells_on : (e x : LinkError) (told : List Mismatch) → x ≡ e → TellsBeside e told (told_of (standing (program_of Plain plan files all objects)))
-      → TellsBeside x told (calls_told_by Plain the_readers plan files)
-  tells_on e x told is tells =
-      subst (TellsBeside x told) (loaded_told plan files all objects found given) (tells_by e x told (told_of (standing (program_of Plain plan files all objects))) is tells)
+pub tells_on : (plan : Plan) (files : List (List ℕ)) (all : List Candidate) (objects : List Object)
+    → candidates_of the_readers plan files ≡ Ok all → load (mode_of plan) (asked_names plan) all ≡ Ok objects → (e x : LinkError) (told : List Mismatch) → x ≡ e
+    → TellsBeside e told (told_of (standing (program_of (mode_of plan) plan files all objects))) → TellsBeside x told (calls_told_of plan files)
+tells_on plan files all objects found given e x told is tells =
+    subst (TellsBeside x told) (loaded_told plan files all objects found given) (tells_by e x told (told_of (standing (program_of (mode_of plan) plan files all objects))) is tells)

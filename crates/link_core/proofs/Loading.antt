@@ -2,13 +2,13 @@
 use Rattle.std.proofs.Common.{◌≡◌, ◌∙◌, ℕ, List, sym, ap, subst, Ok, Err}
 use Rattle.link_output.specs.link_program.object_file.declared.object.Object.{Object}
 use Rattle.link_output.specs.link_program.made_symbols.declared.mode.Mode.{Mode}
-use Rattle.link_output.specs.link_program.made_symbols.declared.mode.Mode.TheVariants.{Plain}
 use Rattle.link_output.specs.link_program.link_names.Numbered.{AreNumbers}
 use Rattle.link_output.specs.link_program.name_entries.declared.lookups.Entries.{Entries}
 use Rattle.link_output.specs.link_program.name_entries.Fits.{IsTable, Fits}
 use Rattle.link_output.specs.link_program.name_entries.View.{InputsRise}
 use Rattle.link_output.specs.link_program.link_plan.declared.plan.Plan.{Plan}
 use Rattle.link_output.specs.link_program.link_plan.Plan.{IsPlan}
+use Rattle.link_output.specs.link_program.link_rules.ModeOf.{mode_of}
 use Rattle.link_output.specs.link_program.link_rules.Program.{Program, program_of}
 use Rattle.link_output.specs.link_program.link_rules.LinkOf.{link_program}
 use Rattle.link_output.specs.link_program.declared.home.Home.{Home}
@@ -29,15 +29,16 @@ use Rattle.link_core.proofs.Answering.{find_failed}
 -- The plan and the objects of a call are those of what is loaded.
 module _ (l : Loading) (plan : Plan) (loaded objects : List Object) (same : l.origin.plan ≡ plan) (are : l.objects ≡ loaded) (shown : objects ≡ loaded) where
   abbrev found_program : Program
-  found_program = program_of Plain plan l.origin.files l.origin.all objects
+  found_program = program_of (mode_of plan) plan l.origin.files l.origin.all objects
 
   pub program_is : found_program ≡ program_in l
   program_is =
-      ap (λ plan. program_of Plain plan l.origin.files l.origin.all objects) (sym same)
-      ∙ ap (λ (os : List Object). program_of Plain l.origin.plan l.origin.files l.origin.all os) (shown ∙ sym are)
+      ap (λ plan. program_of (mode_of plan) plan l.origin.files l.origin.all objects) (sym same)
+      ∙ ap (λ (os : List Object). program_of (mode_of l.origin.plan) l.origin.plan l.origin.files l.origin.all os) (shown ∙ sym are)
 
-  pub find_stops : (e x : LinkError) → x ≡ e → Finds Plain (Err e) plan objects found_program → Answers (Err x) (link_program Plain (program_in l))
-  find_stops e x is finds = subst (λ p. Answers (Err x) (link_program Plain p)) program_is (find_failed plan objects found_program e x is finds)
+  pub find_stops : (mode : Mode) (e x : LinkError) → x ≡ e → Finds mode (Err e) plan objects found_program → Answers (Err x) (link_program (mode_of (program_in l).plan) (program_in l))
+  find_stops mode e x is finds =
+      subst (λ p. Answers (Err x) (link_program (mode_of p.plan) p)) program_is (find_failed (mode_of found_program.plan) mode plan objects found_program e x is finds)
 
   pub due_is : told_of (standing found_program) ≡ told_of (standing (program_in l))
   due_is = ap (λ p. told_of (standing p)) program_is
@@ -52,13 +53,13 @@ module _ (l : Loading) (plan : Plan) (loaded objects : List Object) (same : l.or
       subst (λ (os : List Object). IsLoaded l.origin.files l.origin.all os others) (sym are) (subst (IsLoaded l.origin.files l.origin.all loaded) (sym is) given)
 
   pub linking_is : (files : List (List ℕ)) (homes : List Home) (d : Data) (view : Entries) → IsPlan plan → l.origin.files ≡ files
-      → IsLoaded l.origin.files l.origin.all loaded homes → LoadedPartsStand → IsProgramOf Plain d found_program → Fits Plain view
+      → IsLoaded l.origin.files l.origin.all loaded homes → LoadedPartsStand → IsProgramOf (mode_of plan) d found_program → Fits (mode_of plan) view
       → view.objects.now ≡ d.objects.now → view.names.now ≡ d.names.now → IsLinking (program_in l) d view files
   unfolding program_of
   linking_is files homes d view planned held given stand is fits seen named =
       subst (λ p. IsLinking p d view files) program_is (record {
         program = is;
-        stand = stand Plain plan l.origin.files l.origin.all objects homes (subst (λ (os : List Object). IsLoaded l.origin.files l.origin.all os homes) (sym shown) given);
+        stand = stand (mode_of plan) plan l.origin.files l.origin.all objects homes (subst (λ (os : List Object). IsLoaded l.origin.files l.origin.all os homes) (sym shown) given);
         plan = planned;
         fits = fits;
         objects = seen;
@@ -68,10 +69,10 @@ module _ (l : Loading) (plan : Plan) (loaded objects : List Object) (same : l.or
 
   -- What was found of the loaded objects is linked: what is known of each value that was made of it, with the values as variables.
   pub found_is_linked : (files : List (List ℕ)) (homes : List Home) (f : Found) (d : Data) (view : Entries) → IsPlan plan → l.origin.files ≡ files
-      → IsLoaded l.origin.files l.origin.all loaded homes → LoadedPartsStand → IsFound Plain plan objects f found_program
-      → ((p : Program) → IsFound Plain plan objects f p → IsProgramOf Plain d p)
+      → IsLoaded l.origin.files l.origin.all loaded homes → LoadedPartsStand → IsFound (mode_of plan) plan objects f found_program
+      → ((p : Program) → IsFound (mode_of plan) plan objects f p → IsProgramOf (mode_of plan) d p)
       → ((mode : Mode) → AreNumbers mode objects f.names → InputsRise 0 objects → IsTable objects f.names f.entries → Fits mode view)
       → view.objects.now ≡ objects → d.objects.now ≡ objects → view.names.now ≡ f.names → d.names.now ≡ f.names → IsLinking (program_in l) d view files
   unfolding program_of
   found_is_linked files homes f d view planned held given stand found is fits seen asked named called =
-      linking_is files homes d view planned held given stand (is found_program found) (fits Plain found.numbers found.rise found.looked_up) (seen ∙ sym asked) (named ∙ sym called)
+      linking_is files homes d view planned held given stand (is found_program found) (fits (mode_of plan) found.numbers found.rise found.looked_up) (seen ∙ sym asked) (named ∙ sym called)

@@ -9,7 +9,6 @@ use Rattle.link_output.specs.link_program.wl_base.declared.fault.InvalidAt.{Inva
 use Rattle.link_output.specs.link_program.object_file.declared.object.Object.{Object}
 use Rattle.link_output.specs.link_program.linking_section.declared.symbol.Symbol.{Symbol}
 use Rattle.link_output.specs.link_program.made_symbols.declared.mode.Mode.{Mode}
-use Rattle.link_output.specs.link_program.made_symbols.declared.mode.Mode.TheVariants.{Plain}
 use Rattle.link_output.specs.link_program.round_rules.Rounds.{Candidate, load}
 use Rattle.link_output.specs.link_program.name_rules.Entries.{InputSymbol}
 use Rattle.link_output.specs.link_program.link_plan.declared.plan.Plan.{Plan}
@@ -124,16 +123,23 @@ module _ (mode : Mode) (plan : Plan) (files : List (List ℕ)) (len : ℕ) where
       by (Err f) e = absurd cc
 
   -- what is said of the loaded objects
-  pub loaded_tail : (all : List Candidate) (objects : List Object) → candidates_of the_readers plan files ≡ Ok all → load mode (asked_names plan) all ≡ Ok objects
+  tail_by : (all : List Candidate) (objects : List Object) → candidates_of the_readers plan files ≡ Ok all → load mode (asked_names plan) all ≡ Ok objects
       → debug_tail_by mode the_readers plan files len ≡ program_tail mode (program_of mode plan files all objects) all len
   unfolding debug_tail_by
-  loaded_tail all objects found given =
+  tail_by all objects found given =
       ap (λ (r : Result (List Candidate) Fault). r >>= λ all. load mode (asked_names plan) all >>= λ objects. program_tail mode (program_of mode plan files all objects) all len) found
       ∙ ap (λ (r : Result (List Object) Fault). r >>= λ objects. program_tail mode (program_of mode plan files all objects) all len) given
 
 tail_stands : (plan : Plan) (files : List (List ℕ)) (len : ℕ) (bytes : List ℕ) → link_of plan files ≡ Ok bytes → Stands len (debug_tail plan files len)
 unfolding debug_tail link_of
 tail_stands plan files len bytes link = tail_stands_by (mode_of plan) plan files len bytes link
+
+-- what is said of the loaded objects of a link
+pub loaded_tail : (plan : Plan) (files : List (List ℕ)) (len : ℕ) (all : List Candidate) (objects : List Object)
+    → candidates_of the_readers plan files ≡ Ok all → load (mode_of plan) (asked_names plan) all ≡ Ok objects
+    → debug_tail plan files len ≡ (let p = program_of (mode_of plan) plan files all objects in program_tail (mode_of p.plan) p all len)
+unfolding debug_tail program_of
+loaded_tail plan files len all objects found given = tail_by (mode_of plan) plan files len all objects found given
 
 -- ---- behind a module
 
@@ -165,7 +171,7 @@ module _ (plan : Plan) (files : List (List ℕ)) (bytes : List ℕ) (link : link
 
 pub prepared_tail : (l : Loading) (r : Result Prepared LinkError)
     → IfOk r (λ p. TellsTail p.tail (stage_tail (record { stage = stage_of (program_in l); all = l.origin.all }) p.measured.len))
-    → IfOk r (λ p. TellsTail p.tail (program_tail Plain (program_in l) l.origin.all p.measured.len))
+    → IfOk r (λ p. TellsTail p.tail (program_tail (mode_of (program_in l).plan) (program_in l) l.origin.all p.measured.len))
 unfolding program_tail
 prepared_tail l (Ok p) told = told
 prepared_tail l (Err e) told = tt

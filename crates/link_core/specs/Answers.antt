@@ -1,10 +1,7 @@
 -- What a link answers, beside what its definition gives.
 use Rattle.std.specs.Prelude.{◌≡◌, ◌<◌, ◌^◌, ℕ, List, length, Result, Ok, Err}
 use Rattle.link_output.specs.link_program.wl_base.declared.fault.Fault.{Fault}
-use Rattle.link_output.specs.link_program.link_plan.declared.plan.Plan.{Plan}
-use Rattle.link_output.specs.link_program.link_rules.ModeOf.{IsPlain}
 use Rattle.link_output.specs.link_program.declared.error.LinkError.{LinkError}
-use Rattle.link_output.specs.link_program.declared.error.LinkError.TheVariants.{Refused, OutOfMemory}
 use Rattle.link_output.specs.link_program.Answers.{Fails}
 
 -- The answer is the one that the definition gives: the same bytes, or the same fault. Want of memory alone is free.
@@ -16,9 +13,3 @@ Answers (Err e) said = Fails e said
 abbrev pub IsShort : Result (List ℕ) LinkError → Type 0
 IsShort (Ok bytes) = length bytes < 2 ^ 31
 IsShort (Err e) = Unit {0}
-
--- The steps of a shared link aren't all there yet: whatever is answered but want of memory is of a plan that asks for a plain output.
-abbrev pub AnswersPlain : Plan → Result (List ℕ) LinkError → Type 0
-AnswersPlain plan (Ok bytes) = IsPlain plan
-AnswersPlain plan (Err (Refused f)) = IsPlain plan
-AnswersPlain plan (Err OutOfMemory) = Unit {0}

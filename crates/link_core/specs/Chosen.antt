@@ -1,6 +1,7 @@
 -- When what is exported and what is live are those of a program.
 use Rattle.std.specs.Prelude.{◌≡◌, ℕ, List, map, All, Contains, Result, Ok, Err}
-use Rattle.link_output.specs.link_program.made_symbols.declared.mode.Mode.TheVariants.{Plain}
+use Rattle.link_output.specs.link_program.name_rules.Entries.{InputSymbol}
+use Rattle.link_output.specs.link_program.link_rules.ModeOf.{mode_of}
 use Rattle.link_output.specs.link_program.link_rules.Program as rules
 use Rattle.link_output.specs.link_program.link_rules.Marks.{exported, live}
 use Rattle.link_output.specs.link_program.link_rules.LinkOf.{exporting, laid_out}
@@ -19,11 +20,16 @@ pub record IsChosen (s : Stage) (d : Program) (winners : List Winner) (numbers :
   pub live : AreLive s.program numbers s.parts
   pub meant : AllMeant s.parts
 
--- Its exported winners and its live parts.
+-- Its exported winners in the output that its plan asks for.
+abbrev pub exports_of : rules.Program → List InputSymbol
+exports_of p = exported (mode_of p.plan) p
+
+-- These, and what lives by them.
 abbrev pub stage_of : rules.Program → Stage
-stage_of p = record { program = p; exports = exported Plain p; parts = live p (exported Plain p) }
+stage_of p = record { program = p; exports = exports_of p; parts = live p (exports_of p) }
 
 -- What choosing answers: what is exported and live, and then the link is what laying it out gives; or the fault that ends it before.
 abbrev pub Chooses : Result Chosen LinkError → Program → rules.Program → Type 0
-Chooses (Ok c) d p = (exporting Plain p (exported Plain p) ≡ laid_out Plain p (exported Plain p) (live p (exported Plain p))) × IsChosen (stage_of p) d c.exports c.live.numbers
-Chooses (Err e) d p = Fails e (exporting Plain p (exported Plain p))
+Chooses (Ok c) d p =
+    (exporting (mode_of p.plan) p (exports_of p) ≡ laid_out (mode_of p.plan) p (exports_of p) (live p (exports_of p))) × IsChosen (stage_of p) d c.exports c.live.numbers
+Chooses (Err e) d p = Fails e (exporting (mode_of p.plan) p (exports_of p))

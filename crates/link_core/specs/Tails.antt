@@ -2,7 +2,7 @@
 use Rattle.std.specs.Prelude.{◌≡◌, ℕ, List, ◌++◌, Result, Ok, Err}
 use Rattle.link_output.specs.link_program.wl_base.Choice.{◌>>=◌}
 use Rattle.link_output.specs.link_program.wl_base.declared.fault.Fault.{Fault}
-use Rattle.link_output.specs.link_program.made_symbols.declared.mode.Mode.TheVariants.{Plain}
+use Rattle.link_output.specs.link_program.link_rules.ModeOf.{mode_of}
 use Rattle.link_output.specs.link_program.declared.error.LinkError.{LinkError}
 use Rattle.debug_places.specs.Tails.{LoadedStage}
 use Rattle.debug_links.specs.debug_tails.Tails.{laid_tail}
@@ -21,9 +21,9 @@ behind bytes said = do
   tail ← said
   Ok (bytes ++ tail)
 
--- the debug sections of a stage of a plain link, behind so many bytes
+-- the debug sections of a stage, behind so many bytes
 abbrev pub stage_tail : LoadedStage → ℕ → Result (List ℕ) Fault
-stage_tail s len = laid_tail Plain s.stage.program s.all s.stage.exports s.stage.parts len
+stage_tail s len = laid_tail (mode_of s.stage.program.plan) s.stage.program s.all s.stage.exports s.stage.parts len
 
 -- the module, or the error before it
 abbrev pub modules : Result Whole LinkError → Result (List ℕ) LinkError

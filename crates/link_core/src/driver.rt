@@ -1,13 +1,12 @@
 //! The link of a module, as a list of steps in the order of its definition (`link_of` in link_rules/specs/LinkOf.antt): load, find, exports,
-//! mark, unresolved, place, number, image, measure, patches, write. Each gives what the next ones need, or a fault that ends the link. Behind
+//! mark, fixed code, unresolved, place, number, image, measure, patches, write. Each gives what the next ones need, or a fault that ends the link. Behind
 //! them stand the check of the output and the debug sections of the objects, where the plan asks for these (`linked` in specs/Linked.antt). The
 //! sections are joined before the output is written, while what was found of the program is still there.
 ghost use Rattle.std.specs.Prelude.{◌≡◌, ◌<◌, ◌^◌, true, [], length, unwrap_or, IfOk, IsTrue};
-ghost use Rattle.link_output.specs.link_program.made_symbols.declared.mode.Mode.TheVariants as modes;
 ghost use Rattle.link_output.specs.link_program.link_plan.Plan.{IsPlan};
-ghost use Rattle.link_output.specs.link_program.link_rules.ModeOf.{mode_of};
+ghost use Rattle.link_output.specs.link_program.link_rules.ModeOf.{mode_of, IsPlain};
 ghost use Rattle.link_output.specs.link_program.link_rules.Program as rules;
-ghost use Rattle.link_output.specs.link_program.link_rules.LinkOf.{the_readers, link_of, link_by, link_program, laid_out, written};
+ghost use Rattle.link_output.specs.link_program.link_rules.LinkOf.{link_of, link_program, laid_out, written};
 ghost use Rattle.link_output.specs.link_program.Answers.{Passes};
 ghost use Rattle.link_image.specs.link_layout.Layout.{IsLayout};
 ghost use Rattle.link_output.specs.link_program.Loaded.{IsLoaded};
@@ -15,8 +14,8 @@ ghost use Rattle.link_output.specs.link_program.Program.{IsProgram};
 ghost use Rattle.link_output.specs.link_program.name_entries.Fits.{Fits};
 ghost use Rattle.link_output.specs.link_program.Stand.{PartsStand};
 ghost use Rattle.debug_places.specs.Tails.{LoadedStage};
-ghost use Rattle.debug_links.specs.debug_tails.Tails.{debug_tail as told_tail, debug_tail_by, program_tail};
-ghost use Rattle.link_core.specs.Answers.{Answers, AnswersPlain, IsShort};
+ghost use Rattle.debug_links.specs.debug_tails.Tails.{debug_tail as told_tail, program_tail};
+ghost use Rattle.link_core.specs.Answers.{Answers, IsShort};
 ghost use Rattle.link_core.specs.Checked.{KeepsValid};
 ghost use Rattle.link_core.specs.Chosen.{IsChosen, Chooses};
 ghost use Rattle.link_core.specs.Linked.{linked};
@@ -28,7 +27,7 @@ ghost use Rattle.link_core.specs.Prepared.{outputs, IsReady};
 ghost use Rattle.link_core.specs.Tails.{modules, stage_tail, TellsTail};
 ghost use Rattle.link_core.specs.Telling.{Tells};
 ghost use Rattle.mismatch_rules.specs.Mismatches.{standing};
-ghost use Rattle.called_variants.specs.Called.{calls_told_of, calls_told_by, told_of};
+ghost use Rattle.called_variants.specs.Called.{calls_told_of, told_of};
 ghost use Rattle.debug_links.specs.valid_links.link_runs.Links.{Runs};
 ghost use Rattle.debug_links.specs.valid_links.output_check.Check.{invalid_fault, IsValidOutput};
 ghost use Rattle.debug_links.specs.valid_links.Links.{AllValid};
@@ -49,7 +48,7 @@ use link_output::laws::{
 use link_output::{Entries, Home, LinkError, Program, Winner, measured, write};
 use link_plan::Plan;
 use lost_ctors::{
-    Mode, all_are_meant, exports, live_parts, mode_of, repeated_export, uncalled, unresolved,
+    all_are_meant, exports, first_fixed, live_parts, repeated_export, uncalled, unresolved,
 };
 use mismatch_rules::Mismatch;
 use program_build::Found;
@@ -80,10 +79,10 @@ pub(crate) fn module_telling<R: Threads + Sync, G: Gate>(
     requires plan { IsPlan plan.now }
     requires files { length files.now ≡ unwrap_or plan.now.make_case (length plan.now.inputs) }
     ensures exact { Answers result (linked plan.now files.now) }
-    ensures runs { IfOk result (λ bytes. Runs plan.now files.now bytes) }
-    ensures valid { AllValid plan.now files.now → KeepsValid plan.now files.now result }
+    ensures runs { IsPlain plan.now → IfOk result (λ bytes. Runs plan.now files.now bytes) }
+    ensures valid { IsPlain plan.now → AllValid plan.now files.now → KeepsValid plan.now files.now result }
     ensures checked { IsTrue plan.now.validate → IfOk result IsValidOutput }
-    ensures places { plan.now.keep_debug ≡ true → IfOk result (SaysPlaces plan.now files.now) }
+    ensures places { IsPlain plan.now → plan.now.keep_debug ≡ true → IfOk result (SaysPlaces plan.now files.now) }
     ensures short { IsShort result }
     ensures told { told.old ≡ [] → Tells result told.new (calls_told_of plan.now files.now) }
 {
@@ -109,7 +108,6 @@ fn link_checked<R: Threads + Sync, G: Gate>(
     requires plan { IsPlan plan.now }
     requires files { length files.now ≡ unwrap_or plan.now.make_case (length plan.now.inputs) }
     ensures exact { Answers result (linked plan.now files.now) }
-    ensures plain { AnswersPlain plan.now result }
     ensures checked { IsTrue plan.now.validate → IfOk result IsValidOutput }
     ensures short { IsShort result }
     ensures told { told.old ≡ [] → Tells result told.new (calls_told_of plan.now files.now) }
@@ -145,7 +143,7 @@ fn check<R: Threads + Sync>(
     }
 }
 
-// The link without the check, and its debug sections. The steps of a shared link aren't all there yet: it is answered as want of memory.
+// The link without the check, and its debug sections.
 fn link_files<R: Threads + Sync, G: Gate>(
     rt: &R,
     alloc: Global,
@@ -157,33 +155,9 @@ fn link_files<R: Threads + Sync, G: Gate>(
     requires plan { IsPlan plan.now }
     requires files { length files.now ≡ unwrap_or plan.now.make_case (length plan.now.inputs) }
     ensures exact { Answers (modules result) (link_of plan.now files.now) }
-    ensures plain { AnswersPlain plan.now (modules result) }
     ensures tail { IfOk result (λ w. TellsTail w.tail (told_tail plan.now files.now (length w.bytes))) }
     ensures short { IfOk result (λ w. length w.bytes < 2 ^ 31) }
     ensures told { told.old ≡ [] → Tells result told.new (calls_told_of plan.now files.now) }
-{
-    match mode_of(plan) {
-        Mode::Plain => link_plain(rt, alloc, plan, files, gate, told),
-        Mode::Shared => Err(LinkError::OutOfMemory),
-    }
-}
-
-// The same of a plan that asks for a plain output.
-fn link_plain<R: Threads + Sync, G: Gate>(
-    rt: &R,
-    alloc: Global,
-    plan: &Plan,
-    files: &[Seq<u8>],
-    gate: &G,
-    told: &mut Seq<Mismatch>,
-) -> Result<Whole, LinkError>
-    requires plan { IsPlan plan.now }
-    requires files { length files.now ≡ unwrap_or plan.now.make_case (length plan.now.inputs) }
-    requires plain { mode_of plan.now ≡ modes.Plain }
-    ensures exact { Answers (modules result) (link_by modes.Plain the_readers plan.now files.now) }
-    ensures tail { IfOk result (λ w. TellsTail w.tail (debug_tail_by modes.Plain the_readers plan.now files.now (length w.bytes))) }
-    ensures short { IfOk result (λ w. length w.bytes < 2 ^ 31) }
-    ensures told { told.old ≡ [] → Tells result told.new (calls_told_by modes.Plain the_readers plan.now files.now) }
 {
     let workers = workers_of(plan, files, gate);
     let inputs = load_inputs(rt, alloc, plan, files, workers, gate)?;
@@ -223,10 +197,9 @@ fn prepare<R: Threads + Sync, G: Gate>(
     requires files { l.origin.files ≡ files.now }
     requires objects { l.objects ≡ inputs.now.loaded }
     requires loaded { IsLoaded l.origin.files l.origin.all inputs.now.loaded inputs.now.homes }
-    requires plain { mode_of plan.now ≡ modes.Plain }
-    ensures exact { Answers (outputs files.now result) (link_program modes.Plain (program_in l)) }
+    ensures exact { Answers (outputs files.now result) (link_program (mode_of (program_in l).plan) (program_in l)) }
     ensures ready { IfOk result (IsReady files.now) }
-    ensures tail { IfOk result (λ p. TellsTail p.tail (program_tail modes.Plain (program_in l) l.origin.all p.measured.len)) }
+    ensures tail { IfOk result (λ p. TellsTail p.tail (program_tail (mode_of (program_in l).plan) (program_in l) l.origin.all p.measured.len)) }
     ensures told { told.old ≡ [] → Tells result told.new (told_of (standing (program_in l))) }
 {
     let objects = inputs.objects();
@@ -246,6 +219,16 @@ fn prepare<R: Threads + Sync, G: Gate>(
     prepared
 }
 
+// Stops at a fault, where there is one.
+fn refuse(fault: Option<Fault>) -> Result<(), LinkError>
+    ensures { Passes result fault }
+{
+    match fault {
+        Some(fault) => Err(LinkError::Refused(fault)),
+        None => Ok(()),
+    }
+}
+
 // Chooses what is exported and what is live of a program.
 fn choose<R: Threads + Sync, G: Gate>(
     rt: &R,
@@ -260,12 +243,12 @@ fn choose<R: Threads + Sync, G: Gate>(
     requires fits { Fits (mode_of p.plan) entries }
     requires objects { entries.objects.now ≡ program.objects.now }
     requires stand { PartsStand p }
-    requires plain { mode_of p.plan ≡ modes.Plain }
     ensures { Chooses result program.entry p }
 {
     let exports = exports(rt, alloc, program, workers, gate)?;
     repeated_export(alloc, program, exports.as_slice())?;
     let live = live_parts(rt, alloc, program, exports.as_slice(), workers, gate)?;
+    refuse(first_fixed(program, &live))?;
     unresolved(rt, alloc, program, &live, workers)?;
     uncalled(alloc, program, entries, &live)?;
     all_are_meant();
@@ -288,7 +271,7 @@ fn lay_out<R: Threads + Sync>(
     requires is { IsLinking s.stage.program program entries files.now }
     requires chosen { IsChosen s.stage program exports.now live.now }
     requires loaded { IsLoaded s.stage.program.files s.all s.stage.program.objects homes.now }
-    ensures exact { Answers (outputs files.now result) (laid_out modes.Plain s.stage.program s.stage.exports s.stage.parts) }
+    ensures exact { Answers (outputs files.now result) (laid_out (mode_of s.stage.program.plan) s.stage.program s.stage.exports s.stage.parts) }
     ensures ready { IfOk result (IsReady files.now) }
     ensures tail { IfOk result (λ p. TellsTail p.tail (stage_tail s p.measured.len)) }
 {
@@ -319,7 +302,7 @@ fn make_ready<R: Threads + Sync>(
     requires chosen { IsChosen s.stage layout.program exports.now live.now }
     requires files { files.now ≡ s.stage.program.files }
     requires loaded { IsLoaded s.stage.program.files s.all s.stage.program.objects homes.now }
-    ensures exact { Answers (outputs files.now result) (written modes.Plain s.stage.program (the_image s.stage) (the_windows s.stage)) }
+    ensures exact { Answers (outputs files.now result) (written (mode_of s.stage.program.plan) s.stage.program (the_image s.stage) (the_windows s.stage)) }
     ensures ready { IfOk result (IsReady files.now) }
     ensures tail { IfOk result (λ p. TellsTail p.tail (stage_tail s p.measured.len)) }
 {

@@ -1,7 +1,6 @@
 //! What is found of the loaded objects, and what is told of functions that are called by another type than their definition has.
 ghost use Rattle.std.specs.Prelude.{◌≡◌, [], IfOk};
 ghost use Rattle.link_output.specs.link_program.link_plan.Plan.{IsPlan};
-ghost use Rattle.link_output.specs.link_program.made_symbols.declared.mode.Mode.TheVariants as modes;
 ghost use Rattle.link_output.specs.link_program.link_rules.ModeOf.{mode_of};
 ghost use Rattle.link_output.specs.link_program.link_rules.Program as rules;
 ghost use Rattle.link_output.specs.link_program.link_rules.Program.{program_of};
@@ -14,6 +13,7 @@ ghost use Rattle.link_core.specs.Telling.{Tells};
 use called_variants::called_only;
 use link_output::{Home, LinkError, Object};
 use link_plan::Plan;
+use lost_ctors::mode_of;
 use mismatch_rules::Mismatch;
 use program_build::{Found, find, mismatches};
 use std::alloc::Global;
@@ -30,7 +30,7 @@ fn mismatches_in(
     found: &Found,
 ) -> Result<Seq<Mismatch>, OutOfMemory>
     ghost p: { rules.Program }
-    requires { IsFound modes.Plain plan.now objects.now found.now p }
+    requires { IsFound (mode_of plan.now) plan.now objects.now found.now p }
     ensures { IfOk result (λ told. told ≡ calls_if p.plan.loose_calls p) }
 {
     if !plan.loose_calls {
@@ -39,7 +39,7 @@ fn mismatches_in(
     if found.tables.variants.is_empty() {
         return Ok(Seq::new(alloc));
     }
-    let all = mismatches(alloc, found.view(objects), &found.resolution)?;
+    let all = mismatches(alloc, found.view(objects), &found.resolution, mode_of(plan))?;
     let told = called_only(alloc, &found.tables, &found.names, all)?;
     Ok(told)
 }
@@ -59,9 +59,8 @@ pub(crate) fn find_telling<G: Gate, R: Threads + Sync>(
     requires plan { IsPlan plan.now }
     requires same { origin.plan ≡ plan.now }
     requires loaded { IsLoaded origin.files origin.all objects.now homes.now }
-    requires plain { mode_of plan.now ≡ modes.Plain }
-    ensures found { Finds modes.Plain result plan.now objects.now (program_of modes.Plain plan.now origin.files origin.all objects.now) }
-    ensures told { told.old ≡ [] → Tells result told.new (told_of (standing (program_of modes.Plain plan.now origin.files origin.all objects.now))) }
+    ensures found { Finds (mode_of plan.now) result plan.now objects.now (program_of (mode_of plan.now) plan.now origin.files origin.all objects.now) }
+    ensures told { told.old ≡ [] → Tells result told.new (told_of (standing (program_of (mode_of plan.now) plan.now origin.files origin.all objects.now))) }
 {
     let found = find(rt, alloc, plan, objects, homes, workers, gate)?;
     *told = mismatches_in(alloc, plan, objects, &found)?;

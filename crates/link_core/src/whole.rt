@@ -1,6 +1,7 @@
 //! The whole link: a module, or where the plan asks for a partial link one relocatable object (`whole_link` in specs/Whole.antt).
 ghost use Rattle.std.specs.Prelude.{◌≡◌, true, [], length, unwrap_or, IfOk, IsTrue};
 ghost use Rattle.link_output.specs.link_program.link_plan.Plan.{IsPlan};
+ghost use Rattle.link_output.specs.link_program.link_rules.ModeOf.{IsPlain};
 ghost use Rattle.link_core.specs.Answers.{Answers, IsShort};
 ghost use Rattle.link_core.specs.Checked.{KeepsValid};
 ghost use Rattle.link_core.specs.Places.{SaysPlaces};
@@ -30,7 +31,7 @@ use wl_outside::Gate;
 /// the moment that the output's buffer is reserved nothing can want memory; but where the plan asks for the check of the output, from the end
 /// of the check on.
 ///
-/// A shared output isn't linked yet: that is answered as want of memory.
+/// A shared output with debug sections isn't linked yet: that is answered as want of memory.
 ///
 /// What was read of the files, and the names, aren't given back, but kept until the process ends: that would be a free for each small piece,
 /// which takes up to a tenth of a link of many objects.
@@ -45,15 +46,15 @@ pub fn link<R: Threads + Sync, G: Gate>(
     requires files { length files.now ≡ unwrap_or plan.now.make_case (length plan.now.inputs) }
     // The answer is the definition's, or want of memory.
     ensures exact { Answers result (whole_link plan.now files.now) }
-    // The module runs as the plan and the files tell, with nothing linked.
-    ensures runs { MakesModule plan.now → IfOk result (λ bytes. Runs plan.now files.now bytes) }
-    // Where all objects that are loaded are valid, so is the module, and the check refuses nothing, whether the plan asks for it or not.
-    ensures valid { MakesModule plan.now → AllValid plan.now files.now → KeepsValid plan.now files.now result }
+    // A plain module runs as the plan and the files tell, with nothing linked. What a shared one does hangs on its loader.
+    ensures runs { MakesModule plan.now → IsPlain plan.now → IfOk result (λ bytes. Runs plan.now files.now bytes) }
+    // Where all objects that are loaded are valid, so is a plain module, and the check refuses nothing, whether the plan asks for it or not.
+    ensures valid { MakesModule plan.now → IsPlain plan.now → AllValid plan.now files.now → KeepsValid plan.now files.now result }
     // Where the plan asks for the check, the module is valid whatever the objects are.
     ensures checked { MakesModule plan.now → IsTrue plan.now.validate → IfOk result IsValidOutput }
-    // Where the plan keeps debug sections, each place in a live function that they name is that of the same instruction in the module, and the
-    // dead word stands for each that isn't live.
-    ensures places { MakesModule plan.now → plan.now.keep_debug ≡ true → IfOk result (SaysPlaces plan.now files.now) }
+    // Where the plan keeps debug sections of a plain module, each place in a live function that they name is that of the same instruction in
+    // the module, and the dead word stands for each that isn't live.
+    ensures places { MakesModule plan.now → IsPlain plan.now → plan.now.keep_debug ≡ true → IfOk result (SaysPlaces plan.now files.now) }
     // The bytes are fewer than 2^31.
     ensures short { IsShort result }
 {
@@ -75,10 +76,10 @@ pub fn link_telling<R: Threads + Sync, G: Gate>(
     requires plan { IsPlan plan.now }
     requires files { length files.now ≡ unwrap_or plan.now.make_case (length plan.now.inputs) }
     ensures exact { Answers result (whole_link plan.now files.now) }
-    ensures runs { MakesModule plan.now → IfOk result (λ bytes. Runs plan.now files.now bytes) }
-    ensures valid { MakesModule plan.now → AllValid plan.now files.now → KeepsValid plan.now files.now result }
+    ensures runs { MakesModule plan.now → IsPlain plan.now → IfOk result (λ bytes. Runs plan.now files.now bytes) }
+    ensures valid { MakesModule plan.now → IsPlain plan.now → AllValid plan.now files.now → KeepsValid plan.now files.now result }
     ensures checked { MakesModule plan.now → IsTrue plan.now.validate → IfOk result IsValidOutput }
-    ensures places { MakesModule plan.now → plan.now.keep_debug ≡ true → IfOk result (SaysPlaces plan.now files.now) }
+    ensures places { MakesModule plan.now → IsPlain plan.now → plan.now.keep_debug ≡ true → IfOk result (SaysPlaces plan.now files.now) }
     ensures short { IsShort result }
     ensures told { told.old ≡ [] → Tells result told.new (told_calls plan.now files.now) }
 {

@@ -11,7 +11,7 @@ use Rattle.link_program.specs.wasm_types.declared.function.FuncType.{FuncType}
 use Rattle.link_program.specs.wasm_types.declared.import.Import.{Import}
 use Rattle.link_program.specs.wasm_types.declared.import.ImportKind.TheVariants as kinds
 use Rattle.link_program.specs.index_layout.Numbers.{number_by}
-use Rattle.link_program.specs.made_symbols.declared.mode.Mode.TheVariants.{Plain}
+use Rattle.link_program.specs.made_symbols.declared.mode.Mode.{Mode}
 use Rattle.link_program.specs.mark_bits.declared.chunk.Chunk.{Chunk}
 use Rattle.link_program.specs.name_rules.Entries.{InputSymbol, ImportKey, SymbolType, of_function, of_global, untyped, same_import}
 use Rattle.link_program.specs.link_rules.Program as rules
@@ -26,52 +26,45 @@ use Rattle.link_layout.specs.link_numbers.Knows.{KnowsFunction, KnowsGlobal}
 use Rattle.link_layout.specs.link_numbers.Numbered.{is_import}
 use Rattle.link_image.specs.Imports.{kind_seen, import_seen, function_seen, global_seen, functions_seen}
 use Rattle.link_image.specs.Sections.{types_seen}
-use Rattle.link_image.proofs.Lists.{filter_map_same, import_there}
+use Rattle.link_loader.proofs.Lists.{import_there}
+use Rattle.link_loader.proofs.Known.{TypedGlobal}
 
--- A global that is imported has the type of a global.
-abbrev pub TypedGlobal : keys.GlobalKey → Type 0
-TypedGlobal (outside_global k) = keys.is_global_type k.type ≡ true
-TypedGlobal (linker_global n) = Unit {0}
-TypedGlobal (own_global input index) = Unit {0}
-TypedGlobal (got key) = Unit {0}
-TypedGlobal (exported_datum e) = Unit {0}
-
-module _ (names : List (List ℕ)) (imports : List ImportKey) (p : rules.Program) (parts : List rules.Part) (es : List InputSymbol) (l : values.Layout) where
+module _ (m : Mode) (names : List (List ℕ)) (imports : List ImportKey) (p : rules.Program) (parts : List rules.Part) (es : List InputSymbol) (l : values.Layout) where
   abbrev type_number : keys.FunctionKey → ℕ
   type_number f = type_place l.numbers (type_of p parts f)
 
-  kind_told : (t : SymbolType) → kind_seen t (type_place l.numbers (function_type_of t)) ≡ imported_kind Plain p parts es l t
+  kind_told : (t : SymbolType) → kind_seen t (type_place l.numbers (function_type_of t)) ≡ imported_kind m p parts es l t
   kind_told (of_function t) = refl
   kind_told (of_global g) = refl
   kind_told untyped = refl
 
-  kind_of_global : (t : SymbolType) → keys.is_global_type t ≡ true → kind_seen t 0 ≡ imported_kind Plain p parts es l t
+  kind_of_global : (t : SymbolType) → keys.is_global_type t ≡ true → kind_seen t 0 ≡ imported_kind m p parts es l t
   kind_of_global (of_function t) is = absurd cc
   kind_of_global (of_global g) is = refl
   kind_of_global untyped is = absurd cc
 
   -- ---- imports
 
-  import_is : (k : ImportKey) → list_any (same_import k) imports ≡ true → import_seen imports (number_by same_import imports k) (type_place l.numbers (function_type_of k.type)) ≡ Some (output.import_for Plain p parts es l k)
+  import_is : (k : ImportKey) → list_any (same_import k) imports ≡ true → import_seen imports (number_by same_import imports k) (type_place l.numbers (function_type_of k.type)) ≡ Some (output.import_for m p parts es l k)
   import_is k held =
       ap (option_map (λ (k' : ImportKey). record { «module» = k'.module_name; field = k'.field; kind = kind_seen k'.type (type_place l.numbers (function_type_of k.type)) })) (import_there imports k held)
       ∙ ap (λ kind. Some (record { «module» = k.module_name; field = k.field; kind = kind })) (kind_told k.type)
 
-  function_is : (f : keys.FunctionKey) → KnowsFunction names imports f → function_seen imports (told_function names imports f) (type_number f) ≡ output.function_import Plain p parts es l f
+  function_is : (f : keys.FunctionKey) → KnowsFunction names imports f → function_seen imports (told_function names imports f) (type_number f) ≡ output.function_import m p parts es l f
   function_is (outside k) known = import_is k known
   function_is (linker_function n) known = refl
   function_is (stub name) known = refl
   function_is (own input index) known = refl
 
   pub function_imports : (fs : List keys.FunctionKey) → All (KnowsFunction names imports) fs
-      → functions_seen imports (map type_number fs) (map (told_function names imports) fs) ≡ filter_map (output.function_import Plain p parts es l) fs
+      → functions_seen imports (map type_number fs) (map (told_function names imports) fs) ≡ filter_map (output.function_import m p parts es l) fs
   function_imports [] known = refl
   function_imports (f ∷ fs) known =
       let first = function_is f (All-head (KnowsFunction names imports) f fs known) in
       let rest = function_imports fs (All-tail (KnowsFunction names imports) f fs known) in
       λ i. cons_option (first i) (rest i)
 
-  pub global_is : (g : keys.GlobalKey) → KnowsGlobal imports g → TypedGlobal g → global_seen imports (told_global imports g) ≡ output.global_import Plain p parts es l g
+  pub global_is : (g : keys.GlobalKey) → KnowsGlobal imports g → TypedGlobal g → global_seen imports (told_global imports g) ≡ output.global_import m p parts es l g
   global_is (outside_global k) known typed =
       ap (option_map (λ (k' : ImportKey). record { «module» = k'.module_name; field = k'.field; kind = kind_seen k'.type 0 })) (import_there imports k known)
       ∙ ap (λ kind. Some (record { «module» = k.module_name; field = k.field; kind = kind })) (kind_of_global k.type typed)
@@ -82,7 +75,7 @@ module _ (names : List (List ℕ)) (imports : List ImportKey) (p : rules.Program
 
   -- ---- types of functions
 
-  pub types_are : (fs : List keys.FunctionKey) → types_seen (map type_number fs) (map (told_function names imports) fs) ≡ map type_number (filter (λ f. not (output.is_import Plain p parts es l f)) fs)
+  pub types_are : (fs : List keys.FunctionKey) → types_seen (map type_number fs) (map (told_function names imports) fs) ≡ map type_number (filter (λ f. not (output.is_import m p parts es l f)) fs)
   types_are [] = refl
   types_are (outside k ∷ fs) = types_are fs
   types_are (linker_function n ∷ fs) = ap (λ r. type_number (linker_function n) ∷ r) (types_are fs)

@@ -1,5 +1,5 @@
 -- The sections of the output, by the data alone.
-use Rattle.std.specs.Prelude.{ℕ, ◌+◌, ◌==◌, ◌/◌, Bool, true, false, List, [], ◌∷◌, ◌++◌, map, filter, filter_map, length, slice_index_or, if◌then◌else◌, Option, Some, None, option_map, pos, codes}
+use Rattle.std.specs.Prelude.{ℕ, ◌+◌, ◌-◌, ◌==◌, ◌/◌, Bool, true, false, List, [], ◌∷◌, ◌++◌, map, filter, filter_map, length, slice_index_or, if◌then◌else◌, Option, Some, None, option_map, pos, codes}
 use Rattle.std.specs.List.{cons_option}
 use Rattle.link_program.specs.wasm_types.declared.table.Limits.{Limits}
 use Rattle.link_program.specs.wasm_types.declared.table.TableType.{TableType}
@@ -14,8 +14,8 @@ use Rattle.link_program.specs.wasm_module.declared.parts.Element.{Element}
 use Rattle.link_program.specs.linking_section.declared.symbol.SymbolKind.{SymbolKind}
 use Rattle.link_program.specs.linking_section.declared.symbol.SymbolKind.TheVariants.{Function, Datum, GlobalVar, Section, Table}
 use Rattle.link_program.specs.linking_section.Flags.{kind_code}
-use Rattle.link_program.specs.made_symbols.declared.mode.Mode.TheVariants.{Plain}
-use Rattle.made_symbols.specs.Made.{stack_pointer}
+use Rattle.link_program.specs.made_symbols.declared.mode.Mode.{Mode}
+use Rattle.made_symbols.specs.Made.{call_ctors, stack_pointer}
 use Rattle.link_program.specs.name_rules.Entries.{InputSymbol, untyped}
 use Rattle.link_program.specs.mark_bits.declared.chunk.Chunk.{Chunk}
 use Rattle.link_program.specs.reloc_apply.Windows.{signed32}
@@ -25,7 +25,13 @@ use Rattle.link_program.specs.image_emit.declared.tree.PlacedSource.{PlacedSourc
 use Rattle.link_program.specs.image_emit.declared.tree.Source.{Source}
 use Rattle.link_program.specs.image_emit.declared.tree.Source.TheVariants.{File, Own}
 use Rattle.link_program.specs.link_rules.Program.{chunk_at}
-use Rattle.link_program.specs.link_rules.Marks.{memory_name}
+use Rattle.link_program.specs.link_rules.Marks.{by_mode, memory_name}
+use Rattle.link_program.specs.link_rules.ModeOf.{mode_of}
+use Rattle.link_program.specs.link_rules.Loader.{words, dylink}
+use Rattle.dylink_out.specs.Shared.{apply_body, dylink_payload}
+use Rattle.link_program.specs.image_emit.Bytes.{sized}
+use Rattle.link_program.specs.memory_layout.Memory.{up}
+use Rattle.link_program.specs.wasm_types.declared.const_expr.ConstExpr.{ConstExpr}
 use Rattle.link_program.specs.link_rules.Values as values
 use Rattle.link_program.specs.declared.symbol.Definition.{Definition}
 use Rattle.link_program.specs.declared.symbol.Symbol.{Symbol}
@@ -86,19 +92,21 @@ abbrev pub file_seen : Looked → Option ℕ → Source
 file_seen k None = Own []
 file_seen k (Some n) = File (part_at k.tables n).source
 
--- The body of a defined function.
-abbrev pub body_seen : Looked → FunctionKey → Option Source
-body_seen k (functions.Import n) = None
-body_seen k (functions.Own input index) =
-    if input == 0 then Some (Own (ctor_body (calls_seen k (chunk_number k.tables.chunks (chunk_at 0 0 index)))))
-    else Some (file_seen k (chunk_number k.tables.chunks (chunk_at input 0 index)))
-body_seen k (functions.Stub n) = Some (Own (0 ∷ 0 ∷ 0x0B ∷ []))
+-- The bytes of the function that makes addresses right.
+abbrev pub apply_bytes : Stage → List ℕ
+apply_bytes s = apply_body (words (mode_of s.program.plan) s.program s.parts (layout (mode_of s.program.plan) s.program s.parts s.exports))
 
--- Of the linker's functions it is `__wasm_call_ctors`.
-abbrev pub is_plain : FunctionKey → Bool
-is_plain (functions.Import n) = true
-is_plain (functions.Own input index) = if input == 0 then index == 0 else true
-is_plain (functions.Stub n) = true
+-- The linker's function of a number calls the constructors, or has these bytes.
+abbrev pub linker_bytes : List ℕ → Looked → ℕ → List ℕ
+linker_bytes apply k index = if index == call_ctors then ctor_body (calls_seen k (chunk_number k.tables.chunks (chunk_at 0 0 index))) else apply
+
+-- The body of a defined function.
+abbrev pub body_seen : List ℕ → Looked → FunctionKey → Option Source
+body_seen apply k (functions.Import n) = None
+body_seen apply k (functions.Own input index) =
+    if input == 0 then Some (Own (linker_bytes apply k index))
+    else Some (file_seen k (chunk_number k.tables.chunks (chunk_at input 0 index)))
+body_seen apply k (functions.Stub n) = Some (Own (0 ∷ 0 ∷ 0x0B ∷ []))
 
 -- ---- globals
 
@@ -118,11 +126,11 @@ entry_of d = record {
   class = 0;
 }
 
--- What a cell of an address holds, by the layout of addresses.
-abbrev pub cell_seen : values.Layout → Numbered → GotKey → ℕ
-cell_seen l n (cells.Here d) = if kind_code d.kind == kind_code Datum then values.address_of Plain l (entry_of d) else n.first_slot + number_by same_function_key n.slots (function_of d)
-cell_seen l n (cells.Import i) = n.first_slot + number_by same_function_key n.slots (functions.Import i)
-cell_seen l n (cells.Null kind) = 0
+-- What a cell of an address holds, by the addresses of data.
+abbrev pub cell_seen : (InputSymbol → ℕ) → Numbered → GotKey → ℕ
+cell_seen address n (cells.Here d) = if kind_code d.kind == kind_code Datum then address (entry_of d) else n.first_slot + number_by same_function_key n.slots (function_of d)
+cell_seen address n (cells.Import i) = n.first_slot + number_by same_function_key n.slots (functions.Import i)
+cell_seen address n (cells.Null kind) = 0
 
 abbrev pub content_seen : Content → Option ModuleGlobal
 content_seen (contents.Function number) = None
@@ -134,14 +142,14 @@ abbrev pub part_global : Looked → Option ℕ → Option ModuleGlobal
 part_global k None = None
 part_global k (Some n) = content_seen (part_at k.tables n).content
 
--- A defined global.
-abbrev pub global_made : values.Layout → Looked → GlobalKey → Option ModuleGlobal
-global_made l k (globals.Import n) = None
-global_made l k (globals.Own input index) =
+-- A defined global. A cell of a shared output is written when it is loaded.
+abbrev pub global_made : Mode → (InputSymbol → ℕ) → Looked → GlobalKey → Option ModuleGlobal
+global_made mode address k (globals.Import n) = None
+global_made mode address k (globals.Own input index) =
     if input == 0 then Some (constant (index == stack_pointer) (if index == stack_pointer then k.placed.places.stack_high else 0))
     else part_global k (chunk_number k.tables.chunks (chunk_at input 2 index))
-global_made l k (globals.Got key) = Some (constant false (cell_seen l k.numbers key))
-global_made l k (globals.Datum d) = Some (constant false (values.address_of Plain l (entry_of d)))
+global_made mode address k (globals.Got key) = Some (by_mode mode (constant false (cell_seen address k.numbers key)) (constant true 0))
+global_made mode address k (globals.Datum d) = Some (constant false (address (entry_of d)))
 
 -- ---- exports
 
@@ -152,20 +160,34 @@ space_of GlobalVar = exported.GLOBAL
 space_of Section = exported.TABLE
 space_of Table = exported.TABLE
 
-abbrev pub index_by : Numbered → Definition → SymbolKind → ℕ
-index_by n d Function = number_by same_function_key n.functions (function_of d)
-index_by n d Datum = number_by same_global_key n.globals (globals.Datum d)
-index_by n d GlobalVar = number_by same_global_key n.globals (globals.Own d.input (index_of d))
-index_by n d Section = 0
-index_by n d Table = 0
+abbrev pub own_global : Numbered → Definition → ℕ
+own_global n d = number_by same_global_key n.globals (globals.Own d.input (index_of d))
 
-abbrev pub export_seen : Numbered → List ℕ → Definition → Export
-export_seen n name d = record { name = name; kind = space_of d.kind; index = index_by n d d.kind }
+-- In a shared output the linker's globals are the first imports: the first of them is the linker's symbol of number 2.
+abbrev pub shared_global : Numbered → Definition → ℕ
+shared_global n d = if d.input == 0 then d.place - 2 else own_global n d
+
+abbrev pub global_by : Mode → Numbered → Definition → ℕ
+global_by mode n d = by_mode mode (own_global n d) (shared_global n d)
+
+abbrev pub index_by : Mode → Numbered → Definition → SymbolKind → ℕ
+index_by mode n d Function = number_by same_function_key n.functions (function_of d)
+index_by mode n d Datum = number_by same_global_key n.globals (globals.Datum d)
+index_by mode n d GlobalVar = global_by mode n d
+index_by mode n d Section = 0
+index_by mode n d Table = 0
+
+abbrev pub export_seen : Mode → Numbered → List ℕ → Definition → Export
+export_seen mode n name d = record { name = name; kind = space_of d.kind; index = index_by mode n d d.kind }
 
 -- ---- elements and data
 
-abbrev pub elements_seen : List ℕ → List Element
-elements_seen takers = if length takers == 0 then [] else record { table = None; offset = constants.I32 (pos 1); functions = takers } ∷ []
+-- Slots begin at 1, or at the table's base.
+abbrev pub slots_offset : Mode → ConstExpr
+slots_offset mode = by_mode mode (constants.I32 (pos 1)) (constants.Get 2)
+
+abbrev pub elements_seen : Mode → List ℕ → List Element
+elements_seen mode takers = if length takers == 0 then [] else record { table = None; offset = slots_offset mode; functions = takers } ∷ []
 
 abbrev pub block_at : Looked → ℕ → PlacedSource
 block_at k n = record { address = slice_index_or k.placed.addresses n 0; source = File (part_at k.tables n).source }
@@ -174,10 +196,21 @@ abbrev pub first_of : List PlacedSource → ℕ
 first_of [] = 0
 first_of (b ∷ bs) = b.address
 
+-- Data begin at the address of the first block, or at the memory's base.
+abbrev pub data_offset : Mode → ℕ → ConstExpr
+data_offset mode address = by_mode mode (constants.I32 (signed32 address)) (constants.Get 1)
+
 -- ---- memory and table
 
-abbrev pub memory_seen : ℕ → Option ℕ → Limits
-memory_seen pages most = record { min = pages; max = option_map (λ n. n / 65536) most }
+abbrev pub plain_memory : ℕ → Option ℕ → Limits
+plain_memory pages most = record { min = pages; max = option_map (λ n. n / 65536) most }
+
+-- As many pages as hold the data up to an end.
+abbrev pub shared_memory : ℕ → Limits
+shared_memory end = record { min = up end 65536 / 65536; max = None }
+
+abbrev pub memory_seen : Mode → ℕ → ℕ → Option ℕ → Limits
+memory_seen mode pages end most = by_mode mode (plain_memory pages most) (shared_memory end)
 
 abbrev pub memory_import : Limits → Import
 memory_import memory = record { «module» = codes "env"; field = memory_name; kind = kinds.Memory memory }
@@ -188,42 +221,62 @@ memory_export = record { name = memory_name; kind = exported.MEMORY; index = 0 }
 abbrev pub table_seen : ℕ → TableType
 table_seen slots = record { funcref = true; limits = record { min = 1 + slots; max = Some (1 + slots) } }
 
+abbrev pub table_import : ℕ → Import
+table_import slots = record { «module» = codes "env"; field = codes "__indirect_function_table"; kind = kinds.Table (record { funcref = true; limits = record { min = slots; max = None } }) }
+
 -- ---- the image
 
 -- The numbers of the functions that have slots.
 abbrev pub takers_of : Numbered → List ℕ
 takers_of n = map (number_by same_function_key n.functions) n.slots
 
-abbrev pub memory_of : Layout → Limits
-memory_of d = memory_seen d.placed.now.places.pages d.program.plan.now.max_memory
+abbrev pub memory_of : Mode → Layout → Limits
+memory_of mode d = memory_seen mode d.placed.now.places.pages d.placed.now.places.data_end d.program.plan.now.max_memory
 
-abbrev pub imports_seen : Layout → List Import
-imports_seen d =
-    (if d.program.plan.now.import_memory then memory_import (memory_of d) ∷ [] else [])
+abbrev pub is_imported : Mode → Layout → Bool
+is_imported mode d = by_mode mode d.program.plan.now.import_memory true
+
+abbrev pub imports_seen : Mode → Layout → List Import
+imports_seen mode d =
+    (if is_imported mode d then memory_import (memory_of mode d) ∷ [] else [])
+    ++ by_mode mode [] (table_import (length d.numbering.now.slots) ∷ [])
     ++ functions_seen d.program.resolution.now.imports d.numbering.now.function_types d.numbering.now.functions
     ++ filter_map (global_seen d.program.resolution.now.imports) d.numbering.now.globals
 
-abbrev pub exports_seen : Layout → Program → List InputSymbol → List Export
-exports_seen d p es =
-    (if d.program.plan.now.import_memory then [] else memory_export ∷ [])
-    ++ map (λ e. export_seen d.numbering.now (export_name p e) (told_definition e)) es
+abbrev pub memories_seen : Mode → Layout → List Limits
+memories_seen mode d = if is_imported mode d then [] else memory_of mode d ∷ []
+
+abbrev pub exports_seen : Mode → Layout → Program → List InputSymbol → List Export
+exports_seen mode d p es =
+    (if is_imported mode d then [] else memory_export ∷ [])
+    ++ map (λ e. export_seen mode d.numbering.now (export_name p e) (told_definition e)) es
 
 abbrev pub blocks_seen : Layout → List ℕ → List PlacedSource
 blocks_seen d live = map (block_at (looked d)) (filter (is_solid_at (looked d)) live)
 
--- The image, by the data of a layout.
-abbrev pub image_seen : Stage → Layout → List ℕ → Image
-image_seen s d live = record {
-  custom = None;
+-- The section that tells the loader what it needs, from its name on.
+abbrev pub section_bytes : Stage → List ℕ
+section_bytes s =
+    sized (codes "dylink.0")
+    ++ dylink_payload (dylink (mode_of s.program.plan) s.program s.parts (layout (mode_of s.program.plan) s.program s.parts s.exports))
+
+-- The image of a mode, by the data of a layout.
+abbrev pub image_of : Mode → Stage → Layout → List ℕ → Image
+image_of mode s d live = record {
+  custom = by_mode mode None (Some (section_bytes s));
   types = d.numbering.now.types;
-  imports = imports_seen d;
+  imports = imports_seen mode d;
   functions = types_seen d.numbering.now.function_types d.numbering.now.functions;
-  tables = table_seen (length (takers_of d.numbering.now)) ∷ [];
-  memories = if d.program.plan.now.import_memory then [] else memory_of d ∷ [];
-  globals = filter_map (global_made (layout Plain s.program s.parts s.exports) (looked d)) d.numbering.now.globals;
-  exports = exports_seen d s.program s.exports;
-  elements = elements_seen (takers_of d.numbering.now);
-  bodies = filter_map (body_seen (looked d)) d.numbering.now.functions;
-  data_offset = constants.I32 (signed32 (first_of (blocks_seen d live)));
+  tables = by_mode mode (table_seen (length (takers_of d.numbering.now)) ∷ []) [];
+  memories = memories_seen mode d;
+  globals = filter_map (global_made mode (values.address_of (mode_of s.program.plan) (layout (mode_of s.program.plan) s.program s.parts s.exports)) (looked d)) d.numbering.now.globals;
+  exports = exports_seen mode d s.program s.exports;
+  elements = elements_seen mode (takers_of d.numbering.now);
+  bodies = filter_map (body_seen (apply_bytes s) (looked d)) d.numbering.now.functions;
+  data_offset = data_offset mode (first_of (blocks_seen d live));
   blocks = blocks_seen d live;
 }
+
+-- The same of the mode that the words ask for.
+abbrev pub image_seen : Stage → Layout → List ℕ → Image
+image_seen s d live = image_of (mode_of d.program.plan.now) s d live

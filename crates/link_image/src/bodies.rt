@@ -1,16 +1,17 @@
 //! The code section (Core 5.5.13).
-ghost use Rattle.std.specs.Prelude.{◌≡◌, ◌++◌, [], ◌∷◌, filter_map, drop, true, IfOk, OnOk};
+ghost use Rattle.std.specs.Prelude.{◌≡◌, ◌++◌, [], ◌∷◌, filter_map, drop, IfOk, OnOk};
 ghost use Rattle.std.specs.Option.{option_to_list};
-ghost use Rattle.std.specs.List.{list_all};
 ghost use Rattle.link_program.specs.image_emit.declared.tree.Source.TheVariants.{Own};
 ghost use Rattle.link_program.specs.link_rules.Program.{chunk_at};
 ghost use Rattle.link_program.specs.Look.{chunk_number};
 ghost use Rattle.link_program.specs.Program.{ChunksDiffer};
 ghost use Rattle.link_layout.specs.Seen.{Looked};
-ghost use Rattle.link_layout.specs.Layout.{looked};
-ghost use Rattle.link_image.specs.Sections.{call_seen, calls_seen, file_seen, body_seen, is_plain};
+ghost use Rattle.link_program.specs.Live.{Stage, AreLive};
+ghost use Rattle.link_layout.specs.Layout.{looked, IsLayout};
+ghost use Rattle.link_image.specs.Sections.{call_seen, calls_seen, file_seen, linker_bytes, apply_bytes, body_seen};
 
 use crate::passing::Passing;
+use crate::shared::apply_bytes;
 use image_emit::Source;
 use link_layout::{Layout, Numbering};
 use link_program::{
@@ -19,6 +20,9 @@ use link_program::{
 use mark_bits::{Chunk, kinds as chunk_kinds};
 use std::alloc::Global;
 use wl_base::{OutOfMemory, Seq};
+
+/// The number of the function that calls the constructors.
+const CALL_CTORS: u32 = 0;
 
 // The function that an item names.
 fn call(numbering: &Numbering, symbols: &[Symbol], named: &Named) -> Option<u32>
@@ -101,21 +105,45 @@ fn stub(alloc: Global) -> Result<Source, OutOfMemory>
     Ok(Source::Own(bytes))
 }
 
+// The bytes of the linker's function of a number: the one that calls the constructors, or the one that makes addresses right.
+fn linker_body(
+    alloc: Global,
+    layout: Layout<'_>,
+    live: &[u32],
+    index: u32,
+) -> Result<Seq<u8>, OutOfMemory>
+    ghost s: { Stage }
+    requires layout { IsLayout s.program s.parts s.exports layout }
+    requires live { AreLive s.program live.now s.parts }
+    ensures { IfOk result (λ bytes. bytes ≡ linker_bytes (apply_bytes s) (looked layout.entry) index) }
+{
+    if index != CALL_CTORS {
+        let bytes = apply_bytes(alloc, layout, live)?;
+        return Ok(bytes);
+    }
+    let calls = linker_calls(alloc, layout, index)?;
+    let bytes = ctor_call::body(alloc, calls.as_slice())?;
+    Ok(bytes)
+}
+
 // The body of a defined function. Those of objects are asked for in the order of their parts.
 fn body(
     alloc: Global,
     layout: Layout<'_>,
+    live: &[u32],
     passing: &mut Passing<'_>,
     key: FunctionKey,
 ) -> Result<Option<Source>, OutOfMemory>
-    requires { ChunksDiffer layout.program.tables.now.chunks }
-    ensures { IfOk result (λ s. s ≡ body_seen (looked layout.entry) key) }
+    ghost s: { Stage }
+    requires differ { ChunksDiffer layout.program.tables.now.chunks }
+    requires layout { IsLayout s.program s.parts s.exports layout }
+    requires live { AreLive s.program live.now s.parts }
+    ensures { IfOk result (λ b. b ≡ body_seen (apply_bytes s) (looked layout.entry) key) }
 {
     match key {
         FunctionKey::Import(_) => Ok(None),
         FunctionKey::Own { input: 0, index } => {
-            let calls = linker_calls(alloc, layout, index)?;
-            let bytes = ctor_call::body(alloc, calls.as_slice())?;
+            let bytes = linker_body(alloc, layout, live, index)?;
             Ok(Some(Source::Own(bytes)))
         }
         FunctionKey::Own { input, index } => {
@@ -134,23 +162,6 @@ fn body(
     }
 }
 
-// Whether a function, if it is the linker's, calls the constructors.
-fn is_plain(key: FunctionKey) -> bool
-    ensures { result ≡ is_plain key }
-{
-    match key {
-        FunctionKey::Import(_) | FunctionKey::Stub(_) => true,
-        FunctionKey::Own { input, index } => input != 0 || index == 0,
-    }
-}
-
-// Whether no function of the linker but the one that calls the constructors is there.
-fn are_plain(keys: &[FunctionKey]) -> bool
-    ensures { result ≡ list_all is_plain keys.now }
-{
-    keys.iter().all(|key| is_plain(*key))
-}
-
 fn add(bodies: &mut Seq<Source>, body: Option<Source>) -> Result<(), OutOfMemory>
     ensures { OnOk result (bodies.new ≡ bodies.old ++ option_to_list body) }
 {
@@ -160,35 +171,24 @@ fn add(bodies: &mut Seq<Source>, body: Option<Source>) -> Result<(), OutOfMemory
     }
 }
 
-// The bodies of all functions that have one.
-fn all_bodies(alloc: Global, layout: Layout<'_>, live: &[u32]) -> Result<Seq<Source>, OutOfMemory>
-    requires { ChunksDiffer layout.program.tables.now.chunks }
-    ensures { IfOk result (λ bodies. bodies ≡ filter_map (body_seen (looked layout.entry)) layout.entry.numbering.now.functions) }
-{
-    let keys = layout.numbering.functions();
-    let mut bodies = Seq::with_room(alloc, keys.len())?;
-    let mut passing = Passing::new(live);
-    for key in keys {
-        let body = body(alloc, layout, &mut passing, *key)?;
-        add(&mut bodies, body)?;
-    }
-    Ok(bodies)
-}
-
-/// The bodies of the defined functions. `live` has the numbers of the live parts. Another function of the linker than the one that calls
-/// the constructors, which a static output never has, is answered as want of memory.
+/// The bodies of the defined functions. `live` has the numbers of the live parts.
 pub(crate) fn bodies(
     alloc: Global,
     layout: Layout<'_>,
     live: &[u32],
 ) -> Result<Seq<Source>, OutOfMemory>
-    requires { ChunksDiffer layout.program.tables.now.chunks }
-    ensures is { IfOk result (λ bodies. bodies ≡ filter_map (body_seen (looked layout.entry)) layout.entry.numbering.now.functions) }
-    ensures plain { IfOk result (λ bodies. list_all is_plain layout.entry.numbering.now.functions ≡ true) }
+    ghost s: { Stage }
+    requires differ { ChunksDiffer layout.program.tables.now.chunks }
+    requires layout { IsLayout s.program s.parts s.exports layout }
+    requires live { AreLive s.program live.now s.parts }
+    ensures { IfOk result (λ bodies. bodies ≡ filter_map (body_seen (apply_bytes s) (looked layout.entry)) layout.entry.numbering.now.functions) }
 {
-    if !are_plain(layout.numbering.functions()) {
-        return Err(OutOfMemory);
+    let keys = layout.numbering.functions();
+    let mut bodies = Seq::with_room(alloc, keys.len())?;
+    let mut passing = Passing::new(live);
+    for key in keys {
+        let body = body(alloc, layout, live, &mut passing, *key)?;
+        add(&mut bodies, body)?;
     }
-    let bodies = all_bodies(alloc, layout, live)?;
     Ok(bodies)
 }

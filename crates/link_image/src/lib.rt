@@ -11,6 +11,9 @@ mod making;
 mod memory;
 mod passing;
 mod placed;
+mod shared;
+#[cfg(test)]
+mod tests;
 mod types;
 
 pub use link_layout::{Layout, number, place_segments};

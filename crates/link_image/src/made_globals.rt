@@ -1,9 +1,10 @@
 //! The global section (Core 5.5.9).
-ghost use Rattle.std.specs.Prelude.{◌≡◌, ◌++◌, ◌==◌, if◌then◌else◌, filter_map, drop, IfOk, OnOk};
+ghost use Rattle.std.specs.Prelude.{◌≡◌, ◌++◌, ◌==◌, if◌then◌else◌, true, false, filter_map, drop, IfOk, OnOk};
 ghost use Rattle.std.specs.Option.{option_to_list};
 ghost use Rattle.made_symbols.specs.Made.{stack_pointer};
 ghost use Rattle.link_program.specs.reloc_apply.Windows.{signed32};
-ghost use Rattle.link_program.specs.made_symbols.declared.mode.Mode.TheVariants as modes;
+ghost use Rattle.link_program.specs.link_rules.ModeOf.{mode_of};
+ghost use Rattle.link_program.specs.link_rules.Marks.{by_mode};
 ghost use Rattle.link_program.specs.link_rules.Program.{chunk_at};
 ghost use Rattle.link_program.specs.link_rules.Values as values;
 ghost use Rattle.link_program.specs.link_rules.Output.{layout as laid_out};
@@ -18,7 +19,7 @@ use link_program::{
     Content, Definition, FunctionKey, GlobalKey, GotKey, Tables, chunk_number, function_of, part_at,
 };
 use linking_section::SymbolKind;
-use made_symbols::STACK_POINTER;
+use made_symbols::{Mode, STACK_POINTER};
 use mark_bits::{Chunk, kinds as chunk_kinds};
 use std::alloc::Global;
 use wasm_module::ModuleGlobal;
@@ -53,7 +54,7 @@ fn constant(var: bool, n: u64) -> Result<ModuleGlobal, OutOfMemory>
 fn address(layout: Layout<'_>, definition: Definition) -> u64
     ghost s: { Stage }
     requires { IsLayout s.program s.parts s.exports layout }
-    ensures { result ≡ values.address_of modes.Plain (laid_out modes.Plain s.program s.parts s.exports) (entry_of definition) }
+    ensures { result ≡ values.address_of (mode_of s.program.plan) (laid_out (mode_of s.program.plan) s.program s.parts s.exports) (entry_of definition) }
 {
     layout.address(definition)
 }
@@ -62,7 +63,7 @@ fn address(layout: Layout<'_>, definition: Definition) -> u64
 fn cell(layout: Layout<'_>, key: GotKey) -> u64
     ghost s: { Stage }
     requires { IsLayout s.program s.parts s.exports layout }
-    ensures { result ≡ cell_seen (laid_out modes.Plain s.program s.parts s.exports) layout.entry.numbering.now key }
+    ensures { result ≡ cell_seen (values.address_of (mode_of s.program.plan) (laid_out (mode_of s.program.plan) s.program s.parts s.exports)) layout.entry.numbering.now key }
 {
     match key {
         GotKey::Here(definition) => {
@@ -110,11 +111,27 @@ fn linker_global(layout: Layout<'_>, index: u32) -> Result<ModuleGlobal, OutOfMe
     Ok(made)
 }
 
-// A global that is defined.
-fn global(layout: Layout<'_>, key: GlobalKey) -> Result<Option<ModuleGlobal>, OutOfMemory>
+// The global of a cell of an address. That of a shared output holds its address once the output is loaded.
+fn made_cell(layout: Layout<'_>, mode: Mode, key: GotKey) -> Result<ModuleGlobal, OutOfMemory>
     ghost s: { Stage }
     requires { IsLayout s.program s.parts s.exports layout }
-    ensures { IfOk result (λ g. g ≡ global_made (laid_out modes.Plain s.program s.parts s.exports) (looked layout.entry) key) }
+    ensures { IfOk result (λ g. g ≡ by_mode mode (constant false (cell_seen (values.address_of (mode_of s.program.plan) (laid_out (mode_of s.program.plan) s.program s.parts s.exports)) layout.entry.numbering.now key)) (constant true 0)) }
+{
+    match mode {
+        Mode::Plain => constant(false, cell(layout, key)),
+        Mode::Shared => constant(true, 0),
+    }
+}
+
+// A global that is defined.
+fn global(
+    layout: Layout<'_>,
+    mode: Mode,
+    key: GlobalKey,
+) -> Result<Option<ModuleGlobal>, OutOfMemory>
+    ghost s: { Stage }
+    requires { IsLayout s.program s.parts s.exports layout }
+    ensures { IfOk result (λ g. g ≡ global_made mode (values.address_of (mode_of s.program.plan) (laid_out (mode_of s.program.plan) s.program s.parts s.exports)) (looked layout.entry) key) }
 {
     match key {
         GlobalKey::Import(_) => Ok(None),
@@ -131,7 +148,7 @@ fn global(layout: Layout<'_>, key: GlobalKey) -> Result<Option<ModuleGlobal>, Ou
             Ok(own(layout.program.tables, chunk))
         }
         GlobalKey::Got(key) => {
-            let made = constant(false, cell(layout, key))?;
+            let made = made_cell(layout, mode, key)?;
             Ok(Some(made))
         }
         GlobalKey::Datum(definition) => {
@@ -151,15 +168,19 @@ fn add(globals: &mut Seq<ModuleGlobal>, global: Option<ModuleGlobal>) -> Result<
 }
 
 /// The defined globals.
-pub(crate) fn globals(alloc: Global, layout: Layout<'_>) -> Result<Seq<ModuleGlobal>, OutOfMemory>
+pub(crate) fn globals(
+    alloc: Global,
+    layout: Layout<'_>,
+    mode: Mode,
+) -> Result<Seq<ModuleGlobal>, OutOfMemory>
     ghost s: { Stage }
     requires { IsLayout s.program s.parts s.exports layout }
-    ensures { IfOk result (λ globals. globals ≡ filter_map (global_made (laid_out modes.Plain s.program s.parts s.exports) (looked layout.entry)) layout.entry.numbering.now.globals) }
+    ensures { IfOk result (λ globals. globals ≡ filter_map (global_made mode (values.address_of (mode_of s.program.plan) (laid_out (mode_of s.program.plan) s.program s.parts s.exports)) (looked layout.entry)) layout.entry.numbering.now.globals) }
 {
     let keys = layout.numbering.globals();
     let mut globals = Seq::new(alloc);
     for key in keys {
-        let global = global(layout, *key)?;
+        let global = global(layout, mode, *key)?;
         add(&mut globals, global)?;
     }
     Ok(globals)

@@ -1,17 +1,16 @@
 //! The image of the output.
-ghost use Rattle.std.specs.Prelude.{◌≡◌, [], ◌∷◌, if◌then◌else◌, length, map, filter_map, true, All, Contains, IfOk};
-ghost use Rattle.std.specs.List.{list_all};
-ghost use Rattle.link_program.specs.made_symbols.declared.mode.Mode.TheVariants as modes;
+ghost use Rattle.std.specs.Prelude.{◌≡◌, [], ◌∷◌, length, map, filter_map, All, Contains, IfOk};
+ghost use Rattle.link_program.specs.link_rules.ModeOf.{mode_of};
+ghost use Rattle.link_program.specs.link_rules.Marks.{by_mode};
+ghost use Rattle.link_program.specs.link_rules.Values as values;
 ghost use Rattle.link_program.specs.link_rules.Output as output;
 ghost use Rattle.link_program.specs.Told.{told_winner};
-ghost use Rattle.link_program.specs.Program.{IsProgramOf, ChunksDiffer};
+ghost use Rattle.link_program.specs.Program.{IsProgram, ChunksDiffer};
 ghost use Rattle.link_program.specs.Live.{Stage, AreLive};
 ghost use Rattle.link_marks.specs.About.{Exporting};
-ghost use Rattle.link_program.specs.wasm_types.declared.const_expr.ConstExpr.TheVariants as constants;
-ghost use Rattle.link_program.specs.reloc_apply.Windows.{signed32};
 ghost use Rattle.link_layout.specs.Layout.{looked, IsLayout};
 ghost use Rattle.link_image.specs.Joined.{joined_image};
-ghost use Rattle.link_image.specs.Sections.{is_plain, types_seen, takers_of, table_seen, elements_seen, global_made, body_seen, blocks_seen, first_of, imports_seen, exports_seen, memory_of, image_seen};
+ghost use Rattle.link_image.specs.Sections.{types_seen, takers_of, table_seen, elements_seen, global_made, apply_bytes, body_seen, blocks_seen, first_of, data_offset, imports_seen, exports_seen, memories_seen, memory_of, image_seen};
 
 use crate::bodies::bodies;
 use crate::elements::{elements, tables};
@@ -19,25 +18,34 @@ use crate::exported::add_winners;
 use crate::functions::defined_types;
 use crate::imports::{add_functions, add_globals};
 use crate::made_globals::globals;
-use crate::memory::{memories, memory, memory_exports, memory_imports};
+use crate::memory::{imports_memory, memories, memory, memory_exports, memory_imports};
 use crate::placed::{blocks, offset};
+use crate::shared::{add_table, custom};
 use crate::types::copied;
 use image_emit::{Image, PlacedSource, Source};
 use link_layout::Layout;
-use link_program::Winner;
+use link_program::{Winner, mode_of};
+use made_symbols::Mode;
 use std::alloc::Global;
 use wasm_module::{Element, Export, ModuleGlobal};
 use wasm_types::{ConstExpr, FuncType, Import, Limits, TableType};
 use wl_base::{OutOfMemory, Seq};
 
-// The imports: the memory, if it is imported, then functions, then globals.
-fn imports(alloc: Global, layout: Layout<'_>, memory: Limits) -> Result<Seq<Import>, OutOfMemory>
-    requires { memory ≡ memory_of layout }
-    ensures { IfOk result (λ imports. imports ≡ imports_seen layout.entry) }
+// The imports: the memory, if it is imported, the table of a shared output, then functions, then globals.
+fn imports(
+    alloc: Global,
+    mode: Mode,
+    layout: Layout<'_>,
+    memory: Limits,
+) -> Result<Seq<Import>, OutOfMemory>
+    requires { memory ≡ memory_of mode layout }
+    ensures { IfOk result (λ imports. imports ≡ imports_seen mode layout.entry) }
 {
     let numbering = layout.numbering;
     let resolution = layout.program.resolution;
-    let mut imports = memory_imports(alloc, layout.program.plan.import_memory, memory)?;
+    let imported = imports_memory(mode, layout.program.plan.import_memory);
+    let mut imports = memory_imports(alloc, imported, memory)?;
+    add_table(alloc, mode, numbering.slots().len(), &mut imports)?;
     add_functions(
         alloc,
         resolution,
@@ -52,18 +60,21 @@ fn imports(alloc: Global, layout: Layout<'_>, memory: Limits) -> Result<Seq<Impo
 // The exports: the memory, unless it is imported, then the exported winners.
 fn exports(
     alloc: Global,
+    mode: Mode,
     layout: Layout<'_>,
     winners: &[Winner],
 ) -> Result<Seq<Export>, OutOfMemory>
     ghost w: { Exporting }
-    requires program { IsProgramOf modes.Plain layout.program w.program }
+    requires program { IsProgram layout.program w.program }
     requires winners { All (Contains w.program.winners) w.exports }
     requires exports { winners.now ≡ map (told_winner layout.program.names.now.names) w.exports }
-    ensures { IfOk result (λ exports. exports ≡ exports_seen layout.entry w.program w.exports) }
+    ensures { IfOk result (λ exports. exports ≡ exports_seen mode layout.entry w.program w.exports) }
 {
-    let mut exports = memory_exports(alloc, layout.program.plan.import_memory)?;
+    let imported = imports_memory(mode, layout.program.plan.import_memory);
+    let mut exports = memory_exports(alloc, imported)?;
     add_winners(
         alloc,
+        mode,
         layout.program,
         layout.numbering,
         winners,
@@ -98,15 +109,20 @@ struct Held {
     blocks: Seq<PlacedSource>,
 }
 
-fn make_declared(alloc: Global, layout: Layout<'_>, memory: Limits) -> Result<Declared, OutOfMemory>
-    requires { memory ≡ memory_of layout }
+fn make_declared(
+    alloc: Global,
+    mode: Mode,
+    layout: Layout<'_>,
+    memory: Limits,
+) -> Result<Declared, OutOfMemory>
+    requires { memory ≡ memory_of mode layout }
     ensures types { IfOk result (λ d. d.types ≡ layout.entry.numbering.now.types) }
-    ensures imports { IfOk result (λ d. d.imports ≡ imports_seen layout.entry) }
+    ensures imports { IfOk result (λ d. d.imports ≡ imports_seen mode layout.entry) }
     ensures functions { IfOk result (λ d. d.functions ≡ types_seen layout.entry.numbering.now.function_types layout.entry.numbering.now.functions) }
 {
     let numbering = layout.numbering;
     let types = copied(alloc, numbering.types())?;
-    let imports = imports(alloc, layout, memory)?;
+    let imports = imports(alloc, mode, layout, memory)?;
     let functions = defined_types(alloc, numbering.functions(), numbering.function_types())?;
     Ok(Declared {
         types,
@@ -117,6 +133,7 @@ fn make_declared(alloc: Global, layout: Layout<'_>, memory: Limits) -> Result<De
 
 fn make_defined(
     alloc: Global,
+    mode: Mode,
     layout: Layout<'_>,
     winners: &[Winner],
     memory: Limits,
@@ -125,16 +142,17 @@ fn make_defined(
     requires layout { IsLayout s.program s.parts s.exports layout }
     requires winners { All (Contains s.program.winners) s.exports }
     requires exports { winners.now ≡ map (told_winner layout.program.names.now.names) s.exports }
-    requires memory { memory ≡ memory_of layout }
-    ensures tables { IfOk result (λ d. d.tables ≡ table_seen (length (takers_of layout.entry.numbering.now)) ∷ []) }
-    ensures memories { IfOk result (λ d. d.memories ≡ (if layout.entry.program.plan.now.import_memory then [] else memory_of layout.entry ∷ [])) }
-    ensures globals { IfOk result (λ d. d.globals ≡ filter_map (global_made (output.layout modes.Plain s.program s.parts s.exports) (looked layout.entry)) layout.entry.numbering.now.globals) }
-    ensures exports { IfOk result (λ d. d.exports ≡ exports_seen layout.entry s.program s.exports) }
+    requires memory { memory ≡ memory_of mode layout }
+    ensures tables { IfOk result (λ d. d.tables ≡ by_mode mode (table_seen (length (takers_of layout.entry.numbering.now)) ∷ []) []) }
+    ensures memories { IfOk result (λ d. d.memories ≡ memories_seen mode layout.entry) }
+    ensures globals { IfOk result (λ d. d.globals ≡ filter_map (global_made mode (values.address_of (mode_of s.program.plan) (output.layout (mode_of s.program.plan) s.program s.parts s.exports)) (looked layout.entry)) layout.entry.numbering.now.globals) }
+    ensures exports { IfOk result (λ d. d.exports ≡ exports_seen mode layout.entry s.program s.exports) }
 {
-    let tables = tables(alloc, layout.numbering.takers().len())?;
-    let memories = memories(alloc, layout.program.plan.import_memory, memory)?;
-    let globals = globals(alloc, layout)?;
-    let exports = exports(alloc, layout, winners)?;
+    let tables = tables(alloc, mode, layout.numbering.takers().len())?;
+    let imported = imports_memory(mode, layout.program.plan.import_memory);
+    let memories = memories(alloc, imported, memory)?;
+    let globals = globals(alloc, layout, mode)?;
+    let exports = exports(alloc, mode, layout, winners)?;
     Ok(Defined {
         tables,
         memories,
@@ -143,18 +161,25 @@ fn make_defined(
     })
 }
 
-fn make_held(alloc: Global, layout: Layout<'_>, live: &[u32]) -> Result<Held, OutOfMemory>
-    requires { ChunksDiffer layout.program.tables.now.chunks }
-    ensures elements { IfOk result (λ h. h.elements ≡ elements_seen (takers_of layout.entry.numbering.now)) }
-    ensures bodies { IfOk result (λ h. h.bodies ≡ filter_map (body_seen (looked layout.entry)) layout.entry.numbering.now.functions) }
-    ensures plain { IfOk result (λ h. list_all is_plain layout.entry.numbering.now.functions ≡ true) }
-    ensures offset { IfOk result (λ h. h.data_offset ≡ constants.I32 (signed32 (first_of (blocks_seen layout.entry live.now)))) }
-    ensures blocks { IfOk result (λ h. h.blocks ≡ blocks_seen layout.entry live.now) }
+fn make_held(
+    alloc: Global,
+    mode: Mode,
+    layout: Layout<'_>,
+    live: &[u32],
+) -> Result<Held, OutOfMemory>
+    ghost s: { Stage }
+    requires differ { ChunksDiffer layout.program.tables.now.chunks }
+    requires layout { IsLayout s.program s.parts s.exports layout }
+    requires live { AreLive s.program live.now s.parts }
+    ensures elements { IfOk result (λ h. h.elements ≡ elements_seen mode (takers_of layout.entry.numbering.now)) }
+    ensures bodies { IfOk result (λ h. h.bodies ≡ filter_map (body_seen (apply_bytes s) (looked layout.entry)) layout.entry.numbering.now.functions) }
+    ensures offset { IfOk result (λ h. h.data_offset ≡ data_offset mode (first_of (blocks_seen layout.entry live.now))) }
+    ensures data { IfOk result (λ h. h.blocks ≡ blocks_seen layout.entry live.now) }
 {
-    let elements = elements(alloc, layout.numbering.takers())?;
+    let elements = elements(alloc, mode, layout.numbering.takers())?;
     let bodies = bodies(alloc, layout, live)?;
     let blocks = blocks(alloc, layout, live)?;
-    let data_offset = offset(blocks.as_slice())?;
+    let data_offset = offset(mode, blocks.as_slice())?;
     Ok(Held {
         elements,
         bodies,
@@ -164,8 +189,8 @@ fn make_held(alloc: Global, layout: Layout<'_>, live: &[u32]) -> Result<Held, Ou
 }
 
 // The parts put together.
-fn joined(declared: Declared, defined: Defined, held: Held) -> Image
-    ensures { result ≡ joined_image declared defined held }
+fn joined(custom: Option<Seq<u8>>, declared: Declared, defined: Defined, held: Held) -> Image
+    ensures { result ≡ joined_image custom declared defined held }
 {
     let Declared {
         types,
@@ -185,7 +210,7 @@ fn joined(declared: Declared, defined: Defined, held: Held) -> Image
         blocks,
     } = held;
     Image {
-        custom: None,
+        custom,
         types,
         imports,
         functions,
@@ -209,16 +234,20 @@ fn image_seen(
 ) -> Result<Image, OutOfMemory>
     ghost s: { Stage }
     requires layout { IsLayout s.program s.parts s.exports layout }
+    requires live { AreLive s.program live.now s.parts }
     requires winners { All (Contains s.program.winners) s.exports }
     requires exports { winners.now ≡ map (told_winner layout.program.names.now.names) s.exports }
-    ensures is { IfOk result (λ image. image ≡ image_seen s layout.entry live.now) }
-    ensures plain { IfOk result (λ image. list_all is_plain layout.entry.numbering.now.functions ≡ true) }
+    ensures { IfOk result (λ image. image ≡ image_seen s layout.entry live.now) }
 {
-    let memory = memory(layout.placed.places.pages, layout.program.plan.max_memory)?;
-    let declared = make_declared(alloc, layout, memory)?;
-    let defined = make_defined(alloc, layout, winners, memory)?;
-    let held = make_held(alloc, layout, live)?;
-    Ok(joined(declared, defined, held))
+    let mode = mode_of(layout.program.plan);
+    let places = &layout.placed.places;
+    let most = layout.program.plan.max_memory;
+    let memory = memory(mode, places.pages, places.data_end, most)?;
+    let custom = custom(alloc, mode, layout, live)?;
+    let declared = make_declared(alloc, mode, layout, memory)?;
+    let defined = make_defined(alloc, mode, layout, winners, memory)?;
+    let held = make_held(alloc, mode, layout, live)?;
+    Ok(joined(custom, declared, defined, held))
 }
 
 /// The image of the output: its sections by the numbers and places of a layout. `exports` are the exported winners, `live` the numbers
@@ -236,7 +265,7 @@ pub fn image(
     requires live { AreLive s.program live.now s.parts }
     requires winners { All (Contains s.program.winners) s.exports }
     requires exports { exports.now ≡ map (told_winner layout.program.names.now.names) s.exports }
-    ensures { IfOk result (λ image. image ≡ output.image modes.Plain s.program s.parts s.exports (output.layout modes.Plain s.program s.parts s.exports)) }
+    ensures { IfOk result (λ image. image ≡ output.image (mode_of s.program.plan) s.program s.parts s.exports (output.layout (mode_of s.program.plan) s.program s.parts s.exports)) }
 {
     let image = image_seen(alloc, layout, exports, live)?;
     Ok(image)

@@ -1,15 +1,28 @@
 //! The memory (Core 5.5.8).
-ghost use Rattle.std.specs.Prelude.{◌≡◌, [], ◌∷◌, if◌then◌else◌, IfOk};
-ghost use Rattle.link_image.specs.Sections.{memory_seen, memory_import, memory_export};
+ghost use Rattle.std.specs.Prelude.{◌≡◌, [], ◌∷◌, if◌then◌else◌, true, IfOk};
+ghost use Rattle.link_program.specs.link_rules.Marks.{by_mode};
+ghost use Rattle.link_image.specs.Sections.{plain_memory, memory_seen, memory_import, memory_export};
 
+use crate::shared::shared_memory;
+use made_symbols::Mode;
 use std::alloc::Global;
 use wasm_module::{Export, export_kinds};
 use wasm_types::{Import, ImportKind, Limits};
 use wl_base::{OutOfMemory, Seq};
 
-/// The memory by its pages at first and its greatest size in bytes. 2^32 pages and more are answered as want of memory.
-pub(crate) fn memory(pages: u32, most: Option<u64>) -> Result<Limits, OutOfMemory>
-    ensures { IfOk result (λ limits. limits ≡ memory_seen pages most) }
+/// Whether the memory is imported, where this is what the words say. That of a shared output always is.
+pub(crate) fn imports_memory(mode: Mode, asked: bool) -> bool
+    ensures { result ≡ by_mode mode asked true }
+{
+    match mode {
+        Mode::Plain => asked,
+        Mode::Shared => true,
+    }
+}
+
+// The memory by its pages at first and its greatest size in bytes. 2^32 pages and more are answered as want of memory.
+fn plain_memory(pages: u32, most: Option<u64>) -> Result<Limits, OutOfMemory>
+    ensures { IfOk result (λ limits. limits ≡ plain_memory pages most) }
 {
     match most {
         None => Ok(Limits {
@@ -23,6 +36,21 @@ pub(crate) fn memory(pages: u32, most: Option<u64>) -> Result<Limits, OutOfMemor
             }),
             Err(_) => Err(OutOfMemory),
         },
+    }
+}
+
+/// The memory by its pages at first, the end of the data, and its greatest size in bytes; of a shared output as many pages as hold its data.
+pub(crate) fn memory(
+    mode: Mode,
+    pages: u32,
+    end: u32,
+    most: Option<u64>,
+) -> Result<Limits, OutOfMemory>
+    ensures { IfOk result (λ limits. limits ≡ memory_seen mode pages end most) }
+{
+    match mode {
+        Mode::Plain => plain_memory(pages, most),
+        Mode::Shared => Ok(shared_memory(end)),
     }
 }
 

@@ -1,15 +1,15 @@
 //! The data section (Core 5.5.14).
-ghost use Rattle.std.specs.Prelude.{◌≡◌, ◌++◌, map, filter, drop, false, pos, slice_index_or, IfOk};
-ghost use Rattle.link_program.specs.wasm_types.declared.const_expr.ConstExpr.TheVariants as constants;
-ghost use Rattle.link_program.specs.reloc_apply.Windows.{signed32};
+ghost use Rattle.std.specs.Prelude.{◌≡◌, ◌++◌, map, filter, drop, false, slice_index_or, IfOk};
 ghost use Rattle.link_layout.specs.Seen.{is_solid_at};
 ghost use Rattle.link_layout.specs.Layout.{looked};
-ghost use Rattle.link_image.specs.Sections.{block_at, first_of};
+ghost use Rattle.link_image.specs.Sections.{block_at, first_of, data_offset};
 
 use crate::made_globals::signed;
+use crate::shared::MEMORY_BASE;
 use image_emit::{PlacedSource, Source};
 use link_layout::{Layout, Placed};
 use link_program::part_at;
+use made_symbols::Mode;
 use std::alloc::Global;
 use wasm_types::ConstExpr;
 use wl_base::{OutOfMemory, Seq};
@@ -73,10 +73,15 @@ fn first(blocks: &[PlacedSource]) -> u32
     }
 }
 
-/// Where the data segment begins: at its first block.
-pub(crate) fn offset(blocks: &[PlacedSource]) -> Result<ConstExpr, OutOfMemory>
-    ensures { IfOk result (λ offset. offset ≡ constants.I32 (signed32 (first_of blocks.now))) }
+/// Where the data segment begins: at its first block, or at the memory's base, from which the addresses of a shared output count.
+pub(crate) fn offset(mode: Mode, blocks: &[PlacedSource]) -> Result<ConstExpr, OutOfMemory>
+    ensures { IfOk result (λ offset. offset ≡ data_offset mode (first_of blocks.now)) }
 {
-    let address = signed(u64::from(first(blocks)))?;
-    Ok(ConstExpr::I32(address))
+    match mode {
+        Mode::Plain => {
+            let address = signed(u64::from(first(blocks)))?;
+            Ok(ConstExpr::I32(address))
+        }
+        Mode::Shared => Ok(ConstExpr::Get(MEMORY_BASE)),
+    }
 }

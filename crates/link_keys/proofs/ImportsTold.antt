@@ -4,6 +4,7 @@ use Rattle.std.specs.Prelude.{if◌then◌else◌, slice_index_or}
 use Rattle.std.specs.List.{list_any, All}
 use Rattle.std.proofs.lemmas.Option.{slice_get_within, slice_get_past}
 use Rattle.link_program.specs.index_layout.Numbers.{number_by}
+use Rattle.link_program.specs.made_symbols.declared.mode.Mode.{Mode}
 use Rattle.link_program.specs.made_symbols.declared.mode.Mode.TheVariants.{Plain}
 use Rattle.link_program.specs.name_rules.Entries.{InputSymbol, ImportKey, same_import}
 use Rattle.link_program.specs.name_rules.Meanings.{Meaning, here, imported, null, nothing}
@@ -39,23 +40,23 @@ and_swap true false = refl
 and_swap false true = refl
 and_swap false false = refl
 
-module _ (names : List (List ℕ)) (imports : List ImportKey) (one : OnePlace same_import import_equal import_itself imports) (all : List InputSymbol) where
+module _ (mode : Mode) (names : List (List ℕ)) (imports : List ImportKey) (one : OnePlace same_import import_equal import_itself imports) (all : List InputSymbol) where
   -- whether a reference names the import of a number
-  names_import : (i : ℕ) (k : ImportKey) → slice_get imports i ≡ Some k → (e : InputSymbol) (m : Meaning) → KnownMeaning imports all e m
+  pub names_import : (i : ℕ) (k : ImportKey) → slice_get imports i ≡ Some k → (e : InputSymbol) (m : Meaning) → KnownMeaning mode imports all e m
       → is_at i (import_named (told_lead imports m)) ≡ option_any (same_import k) (import_of m)
   names_import i k at e (here d) known = refl
   names_import i k at e (imported j) known = same_number same_import import_equal import_itself imports i k j one at known
   names_import i k at e null known = refl
   names_import i k at e nothing known = refl
 
-  flag_is : (parts : List rules.Part) → All (KnownRef imports all) (refs_of parts) → (i : ℕ) (k : ImportKey) → slice_get imports i ≡ Some k
+  flag_is : (parts : List rules.Part) → All (KnownRef mode imports all) (refs_of parts) → (i : ℕ) (k : ImportKey) → slice_get imports i ≡ Some k
       → flag_at (fold flagged (replicate (length imports) false) (map import_asked (told_refs names imports parts))) i ≡ has_import (used_imports (refs_of parts)) k
   flag_is parts known i k at =
       flags_set (length imports) (map import_asked (told_refs names imports parts)) i (slice_get_within imports i k at)
       ∙ ap (list_any (is_at i)) (asked_all names imports import_asked (λ (ref : Ref). import_named (told_lead imports ref.meaning)) (λ code ref. refl) parts)
       ∙ any_map (is_at i) (λ (ref : Ref). import_named (told_lead imports ref.meaning)) (refs_of parts)
       ∙ any_same (λ (ref : Ref). is_at i (import_named (told_lead imports ref.meaning))) (λ (ref : Ref). option_any (same_import k) (import_of ref.meaning)) (refs_of parts)
-      (all_each (KnownRef imports all) (λ (ref : Ref). is_at i (import_named (told_lead imports ref.meaning)) ≡ option_any (same_import k) (import_of ref.meaning)) (λ ref. names_import i k at ref.entry ref.meaning) (refs_of parts) known)
+      (all_each (KnownRef mode imports all) (λ (ref : Ref). is_at i (import_named (told_lead imports ref.meaning)) ≡ option_any (same_import k) (import_of ref.meaning)) (λ ref. names_import i k at ref.entry ref.meaning) (refs_of parts) known)
       ∙ sym (any_filter_map (same_import k) (λ (ref : Ref). import_of ref.meaning) (refs_of parts))
 
   -- the numbers of the imports of one type that are named
@@ -79,7 +80,7 @@ module _ (names : List (List ℕ)) (imports : List ImportKey) (one : OnePlace sa
   abbrev pub kept_imports : (ImportKey → Bool) → List rules.Part → List ImportKey
   kept_imports test parts = filter (λ k. test k && has_import (used_imports (filter (imports_by Plain) (refs_of parts))) k) imports
 
-  module _ (parts : List rules.Part) (known : All (KnownRef imports all) (refs_of parts)) (flags : List Bool)
+  module _ (parts : List rules.Part) (known : All (KnownRef mode imports all) (refs_of parts)) (flags : List Bool)
       (are : flags ≡ fold flagged (replicate (length imports) false) (map import_asked (told_refs names imports parts))) where
     set : (i : ℕ) (k : ImportKey) → slice_get imports i ≡ Some k → flag_at flags i ≡ has_import (used_imports (filter (imports_by Plain) (refs_of parts))) k
     set i k at =

@@ -8,6 +8,7 @@ use Rattle.std.proofs.lemmas.Option.{slice_get_within}
 use Rattle.link_program.specs.wl_base.Choice.{distinct}
 use Rattle.link_program.specs.linking_section.declared.symbol.Symbol.{Symbol}
 use Rattle.link_program.specs.object_file.declared.object.Object.{Object}
+use Rattle.link_program.specs.made_symbols.declared.mode.Mode.{Mode}
 use Rattle.link_program.specs.made_symbols.declared.mode.Mode.TheVariants.{Plain}
 use Rattle.link_program.specs.made_symbols.Made.{made, MadeSymbol}
 use Rattle.link_program.specs.index_layout.Numbers.{number_by}
@@ -28,7 +29,7 @@ use Rattle.link_keys.proofs.Flags.{flags_set}
 use Rattle.link_keys.proofs.Heard.{stub_asked}
 use Rattle.link_keys.proofs.Imports.{name_equal, name_itself, both}
 use Rattle.link_keys.proofs.ImportsTold.{below_same}
-use Rattle.link_keys.proofs.Known.{KnownMeaning, KnownRef, IsNull}
+use Rattle.link_keys.proofs.Known.{KnownMeaning, KnownRef, IsNullOf}
 use Rattle.link_keys.proofs.LiveTold.{told_refs, asked_all}
 
 -- ---- the names of entries come first
@@ -55,21 +56,24 @@ object_names all (o ∷ objects) =
     ∙ ap (λ ns. ns ++ map name_of (filter is_entry (flat_map (symbols_of all) objects))) (symbol_names all o 0 o.symbols)
     ∙ ap (λ ns. entry_names o ++ ns) (object_names all objects)
 
-entry_names_first : (objects : List Object) → map name_of (entries Plain objects) ≡ map (λ m. m.name) (made Plain) ++ flat_map entry_names objects
+entry_names_first : (mode : Mode) (objects : List Object) → map name_of (entries mode objects) ≡ map (λ m. m.name) (made mode) ++ flat_map entry_names objects
 unfolding entries
-entry_names_first objects =
-    map-append name_of (made_from 0 (made Plain)) (filter is_entry (flat_map (symbols_of objects) objects))
-    ∙ ap (λ ns. ns ++ map name_of (filter is_entry (flat_map (symbols_of objects) objects))) (made_names 0 (made Plain))
-    ∙ ap (λ ns. map (λ m. m.name) (made Plain) ++ ns) (object_names objects objects)
+entry_names_first mode objects =
+    map-append name_of (made_from 0 (made mode)) (filter is_entry (flat_map (symbols_of objects) objects))
+    ∙ ap (λ ns. ns ++ map name_of (filter is_entry (flat_map (symbols_of objects) objects))) (made_names 0 (made mode))
+    ∙ ap (λ ns. map (λ m. m.name) (made mode) ++ ns) (object_names objects objects)
 
 -- the names behind those of entries
 abbrev pub later_names : List (List ℕ) → List Object → List (List ℕ)
 later_names words objects = flat_map group_names objects ++ words
 
+pub in_order_of : (mode : Mode) (words : List (List ℕ)) (objects : List Object) → different_names mode words objects ≡ distinct bytes_eq (map name_of (entries mode objects) ++ later_names words objects)
+in_order_of mode words objects =
+    ap (distinct bytes_eq) (append_assoc (map (λ m. m.name) (made mode) ++ flat_map entry_names objects) (flat_map group_names objects) words
+    ∙ ap (λ ns. ns ++ later_names words objects) (sym (entry_names_first mode objects)))
+
 pub names_in_order : (words : List (List ℕ)) (objects : List Object) → different_names Plain words objects ≡ distinct bytes_eq (map name_of (entries Plain objects) ++ later_names words objects)
-names_in_order words objects =
-    ap (distinct bytes_eq) (append_assoc (map (λ m. m.name) (made Plain) ++ flat_map entry_names objects) (flat_map group_names objects) words
-    ∙ ap (λ ns. ns ++ later_names words objects) (sym (entry_names_first objects)))
+names_in_order words objects = in_order_of Plain words objects
 
 -- ---- who is called
 
@@ -98,15 +102,15 @@ off : (a b : Bool) (o : Option ℕ) (i : ℕ) → is_at i (where_so (a && false)
 off true b o i = refl
 off false b o i = refl
 
-module _ (names : List (List ℕ)) (imports : List ImportKey) (all : List InputSymbol) (one : OnePlace bytes_eq name_equal name_itself names)
+module _ (mode : Mode) (names : List (List ℕ)) (imports : List ImportKey) (all : List InputSymbol) (one : OnePlace bytes_eq name_equal name_itself names)
     (held : (name : List ℕ) → list_any (bytes_eq name) (map name_of all) ≡ true → list_any (bytes_eq name) names ≡ true)
     (listed : (called : List ℕ → Bool) → ((name : List ℕ) → called name ≡ true → list_any (bytes_eq name) (map name_of all) ≡ true) → distinct bytes_eq (filter called (map name_of all)) ≡ filter called names) where
-  module _ (refs : List Ref) (known : All (KnownRef imports all) refs) where
+  module _ (refs : List Ref) (known : All (KnownRef mode imports all) refs) where
     -- what is known of a name whose null function is called
     abbrev pub Called : List ℕ → Type 0
-    Called name = (list_any (bytes_eq name) (map name_of all) ≡ true) × (list_any (is_named name) (made_from 0 (made Plain)) ≡ false)
+    Called name = (list_any (bytes_eq name) (map name_of all) ≡ true) × (list_any (is_named name) (made_from 0 (made mode)) ≡ false)
 
-    known_called : (name : List ℕ) (ref : Ref) (m : Meaning) → KnownMeaning imports all ref.entry m → is_null m ≡ true → bytes_eq (name_of ref.entry) name ≡ true → Called name
+    known_called : (name : List ℕ) (ref : Ref) (m : Meaning) → KnownMeaning mode imports all ref.entry m → is_null m ≡ true → bytes_eq (name_of ref.entry) name ≡ true → Called name
     known_called name ref (here d) k is same = absurd cc
     known_called name ref (imported j) k is same = absurd cc
     known_called name ref null k is same = subst Called (name_equal (name_of ref.entry) name same) (k.named, k.unmade)
@@ -114,7 +118,7 @@ module _ (names : List (List ℕ)) (imports : List ImportKey) (all : List InputS
 
     pub called_known : (name : List ℕ) → called refs name ≡ true → Called name
     called_known name is =
-        any_gives (Called name) (calls_stub name) (KnownRef imports all) refs known is
+        any_gives (Called name) (calls_stub name) (KnownRef mode imports all) refs known is
         (λ ref calls k.
         let parts = both ((ref.kind == 0) && is_null ref.meaning) (bytes_eq (name_of ref.entry) name) calls in
         let null_one = both (ref.kind == 0) (is_null ref.meaning) parts.0 in
@@ -126,7 +130,7 @@ module _ (names : List (List ℕ)) (imports : List ImportKey) (all : List InputS
 
     -- ---- by number
 
-    number_called : (i : ℕ) (name : List ℕ) → slice_get names i ≡ Some name → (e : InputSymbol) → IsNull all e
+    number_called : (i : ℕ) (name : List ℕ) → slice_get names i ≡ Some name → (e : InputSymbol) → IsNullOf mode all e
         → is_at i (entry_number names e) ≡ bytes_eq (name_of e) name
     number_called i name at e k =
         let there = held (name_of e) k.named in
@@ -141,14 +145,14 @@ module _ (names : List (List ℕ)) (imports : List ImportKey) (all : List InputS
     by_kind true b o i e = e
     by_kind false b o i e = refl
 
-    ref_called : (i : ℕ) (name : List ℕ) → slice_get names i ≡ Some name → (e : InputSymbol) (m : Meaning) (a : Bool) → KnownMeaning imports all e m
+    ref_called : (i : ℕ) (name : List ℕ) → slice_get names i ≡ Some name → (e : InputSymbol) (m : Meaning) (a : Bool) → KnownMeaning mode imports all e m
         → is_at i (where_so (a && is_null_lead (told_lead imports m)) (entry_number names e)) ≡ ((a && is_null m) && bytes_eq (name_of e) name)
     ref_called i name at e (here d) a k = off a (bytes_eq (name_of e) name) (entry_number names e) i
     ref_called i name at e (imported j) a k = off a (bytes_eq (name_of e) name) (entry_number names e) i
     ref_called i name at e null a k = by_kind a (bytes_eq (name_of e) name) (entry_number names e) i (number_called i name at e k)
     ref_called i name at e nothing a k = absurd k
 
-  module _ (parts : List rules.Part) (known : All (KnownRef imports all) (refs_of parts)) (flags : List Bool)
+  module _ (parts : List rules.Part) (known : All (KnownRef mode imports all) (refs_of parts)) (flags : List Bool)
       (are : flags ≡ fold flagged (replicate (length names) false) (map stub_asked (told_refs names imports parts))) where
     abbrev asks : Ref → Option ℕ
     asks ref = where_so ((ref.kind == 0) && is_null_lead (told_lead imports ref.meaning)) (entry_number names ref.entry)
@@ -160,7 +164,7 @@ module _ (names : List (List ℕ)) (imports : List ImportKey) (all : List InputS
         ∙ ap (list_any (is_at i)) (asked_all names imports stub_asked asks (λ code ref. refl) parts)
         ∙ any_map (is_at i) asks (refs_of parts)
         ∙ any_same (λ ref. is_at i (asks ref)) (calls_stub name) (refs_of parts)
-        (all_each (KnownRef imports all) (λ ref. is_at i (asks ref) ≡ calls_stub name ref) (λ ref k. ref_called (refs_of parts) known i name at ref.entry ref.meaning (ref.kind == 0) k) (refs_of parts) known)
+        (all_each (KnownRef mode imports all) (λ ref. is_at i (asks ref) ≡ calls_stub name ref) (λ ref k. ref_called (refs_of parts) known i name at ref.entry ref.meaning (ref.kind == 0) k) (refs_of parts) known)
 
     flag_passes : (i : ℕ) → i < length names → (o : Option (List ℕ)) → slice_get names i ≡ o → flag_at flags i ≡ passes bytes_eq name_equal name_itself (called (refs_of parts)) o
     flag_passes i below None at = absurd (let past = none_past names i at in omega arith)

@@ -17,7 +17,10 @@ pub use firsts::At;
 pub use link_program::{
     Entries, FunctionKey, GlobalKey, Named, Names, Program, Symbol, Tables, Winner, symbol_at,
 };
-pub use lists::{function_codes, functions_listed, global_codes, globals_listed, slots_taken};
+pub use lists::{
+    flag_at, function_codes, functions_listed, global_codes, globals_listed, is_global_import,
+    push_data, push_own_globals, slots_taken,
+};
 pub use marking::marks_of;
-pub use marks::Marks;
+pub use marks::{Marks, flag, import_named, put_numbers};
 pub use types::{TypeNumbers, numbers_in, types_told};

@@ -19,7 +19,7 @@ use wl_base::OutOfMemory;
 
 /// The flag at a place.
 #[tactic(auto, using(link_program::proofs::ReadAt::read))]
-pub(crate) fn flag_at(flags: &[bool], at: u32) -> bool
+pub fn flag_at(flags: &[bool], at: u32) -> bool
     ensures { result ≡ flag_at flags.now at }
 {
     match flags.get(at as usize) {
@@ -40,7 +40,7 @@ pub(crate) fn is_function_import(resolution: &Resolution, number: u32) -> bool
 }
 
 /// Whether an import is of a global.
-fn is_global_import(resolution: &Resolution, number: u32) -> bool
+pub fn is_global_import(resolution: &Resolution, number: u32) -> bool
     requires { number < length resolution.now.imports }
     ensures { result ≡ is_global_import (slice_get resolution.now.imports number) }
 {
@@ -145,7 +145,7 @@ fn push_own_functions(
 }
 
 /// Puts the live globals of the linker or of objects behind the keys.
-fn push_own_globals(
+pub fn push_own_globals(
     keys: &mut Vec<GlobalKey>,
     linkers: bool,
     tables: &Tables,
@@ -266,7 +266,7 @@ fn push_datum(keys: &mut Vec<GlobalKey>, winner: Winner) -> Result<(), OutOfMemo
 }
 
 /// Puts the addresses of exported data behind the keys.
-fn push_data(keys: &mut Vec<GlobalKey>, exports: &[Winner]) -> Result<(), OutOfMemory>
+pub fn push_data(keys: &mut Vec<GlobalKey>, exports: &[Winner]) -> Result<(), OutOfMemory>
     ensures { OnOk result (keys.new.items ≡ keys.old.items ++ filter_map datum_listed exports.now) }
 {
     for winner in exports {

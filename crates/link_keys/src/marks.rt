@@ -39,7 +39,7 @@ impl Model for Marks {
 }
 
 /// The import that a reference names.
-fn import_named(lead: Lead) -> Option<u32>
+pub fn import_named(lead: Lead) -> Option<u32>
     ensures { result ≡ import_named lead }
 {
     match lead {
@@ -107,7 +107,7 @@ fn cell_read(code: bool, kind: u8, symbol: Symbol) -> Option<GotKey>
 }
 
 /// Sets the flag at a place, where there is one.
-fn flag(flags: &mut [bool], at: Option<u32>)
+pub fn flag(flags: &mut [bool], at: Option<u32>)
     ensures { flags.new ≡ flagged flags.old at }
 {
     if let Some(at) = at {
@@ -150,7 +150,7 @@ fn put_codes(codes: &mut IndexSet<Code>, more: &[Code]) -> Result<(), OutOfMemor
 }
 
 /// Puts numbers behind others, each once.
-fn put_numbers(numbers: &mut IndexSet<u32>, more: &[u32]) -> Result<(), OutOfMemory>
+pub fn put_numbers(numbers: &mut IndexSet<u32>, more: &[u32]) -> Result<(), OutOfMemory>
     ensures { OnOk result (numbers.new.keys ≡ insert_all nat_eq numbers.old.keys more.now) }
 {
     for number in more {
@@ -172,6 +172,27 @@ impl Marks {
             cell_codes: IndexSet::new(alloc),
             windows: IndexSet::new(alloc),
         })
+    }
+
+    /// By the number of an import whether it is named.
+    pub fn imports(&self) -> &[bool]
+        ensures { result.now ≡ self.now.imports }
+    {
+        self.imports.as_slice()
+    }
+
+    /// Names these imports, and no others.
+    pub fn set_imports(&mut self, imports: Vec<bool>)
+        ensures { self.new ≡ record self.old { imports = imports.items } }
+    {
+        self.imports = imports;
+    }
+
+    /// The cells of addresses that code reads, in first-seen order.
+    pub fn cells(&self) -> &[GotKey]
+        ensures { result.now ≡ self.now.cells }
+    {
+        self.cells.as_slice()
     }
 
     /// Notes a function that has a slot.

@@ -10,15 +10,14 @@ use Rattle.link_program.specs.wl_base.declared.memory.OutOfMemory.{OutOfMemory}
 use Rattle.link_program.specs.wl_fan.Slices.{piece, Works}
 use Rattle.link_program.specs.reloc_apply.declared.window.Patch.{Patch}
 use Rattle.link_program.specs.reloc_apply.declared.window.Patches.{Patches}
-use Rattle.link_program.specs.reloc_apply.Windows.{patched_on, patches_of}
 use Rattle.wl_rows.specs.Ranges.{first_at, Rising}
 use Rattle.wl_rows.proofs.Cuts.{first_past}
 use Rattle.link_layout.specs.declared.gathering.Source.{Source}
 use Rattle.link_layout.specs.Seen.{Looked}
+use Rattle.link_layout.specs.Put.{written_on, written_of}
 use Rattle.link_layout.specs.Sources.{source_windows, windows_of}
 use Rattle.link_layout.specs.Parts.{sources_in, IsWritten, IsFirst, AreWritten, AreJoined}
-use Rattle.reloc_apply.proofs.Sums.{put_alone}
-use Rattle.link_layout.proofs.Patched.{put_both}
+use Rattle.link_layout.proofs.Patched.{put_both, put_alone}
 
 -- ---- ranges
 
@@ -60,7 +59,7 @@ module _ (k : Looked) (sources : List Source) (cuts : List ℕ) (count : ℕ) wh
       ap (windows_of k) (range_append sources 0 a b (omega arith) (rising worker (worker + 1) (omega arith)))
       ∙ flat_map-append (source_windows k) front (slice_range sources a b) in
       record {
-        done = ap (λ ws. patched_on [] ws) windows ∙ put_both (windows_of k front) (windows_of k (slice_range sources a b)) old.patches one.patches so_far.done own
+        done = ap (λ ws. written_on k.mode [] ws) windows ∙ put_both k.mode (windows_of k front) (windows_of k (slice_range sources a b)) old.patches one.patches so_far.done own
             ∙ ap (λ (ps : List Patch). let r : Result (List Patch) LayoutError = Ok ps in r) (sym both);
         rest = λ i p at.
             let e : worker + suc i ≡ worker + 1 + i = omega arith in
@@ -111,7 +110,7 @@ whole_back {X} (suc n) (x ∷ new) rest e = ap (λ (xs : List X). let ys : List 
 -- where all slots are put together, all windows are written
 pub all_joined : (k : Looked) (sources : List Source) (cuts : List ℕ) (count workers : ℕ) (slots : List (Option Patches)) (r : Result (Option Patches) OutOfMemory) → workers ≡ length cuts + 1
     → count ≡ length sources → Rising cuts count → AreWritten k sources cuts count slots → IfOk r (λ all. IfSome all (AreJoined workers slots))
-    → IfOk r (λ all. IfSome all (λ pieces. patches_of (windows_of k sources) ≡ Ok pieces))
-all_joined k sources cuts count workers slots (Ok (Some all)) many whole rising made joined = put_alone (windows_of k sources) all.patches (joined k sources cuts count many whole rising made)
+    → IfOk r (λ all. IfSome all (λ pieces. written_of k.mode (windows_of k sources) ≡ Ok pieces))
+all_joined k sources cuts count workers slots (Ok (Some all)) many whole rising made joined = put_alone k.mode (windows_of k sources) all.patches (joined k sources cuts count many whole rising made)
 all_joined k sources cuts count workers slots (Ok None) many whole rising made joined = tt
 all_joined k sources cuts count workers slots (Err e) many whole rising made joined = tt

@@ -1,5 +1,5 @@
 -- Parts of lists, where there are fewer items than are asked for.
-use Rattle.std.proofs.Common.{◌≡◌, ℕ, zero, suc, ◌≤◌, ◌<◌, min, List, [], ◌∷◌, length, take, drop, refl, sym, ap, ◌∙◌, arith}
+use Rattle.std.proofs.Common.{◌≡◌, ℕ, zero, suc, min, List, [], ◌∷◌, length, take, drop, refl, sym, ap, ◌∙◌, arith}
 
 none_dropped : {A : Type 0} (n : ℕ) → drop {A = A} n [] ≡ []
 none_dropped zero = refl

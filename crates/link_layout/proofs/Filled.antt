@@ -1,8 +1,6 @@
 -- Columns that are filled at rising places.
-use Rattle.std.proofs.Common.{◌≡◌, ◌≢◌, ℕ, zero, suc, ◌+◌, ◌<◌, ◌≤◌, ◌==◌, Bool, true, false, not, ◌&&◌, ◌||◌, cond, List, [], ◌∷◌, map, filter, length, get_or, set, replicate, position, Option, Some, None, option_map, unwrap_or, refl, sym, ap, ◌∙◌, arith, get_or-set_same, get_or-set_other, length-set, ne_eqb, eqb-true, eq-eqb}
-use Rattle.std.specs.Prelude.{slice_index_or, slice_set}
-use Rattle.std.specs.List.{list_any, All, AllPairs}
-use Rattle.std.proofs.lemmas.List.Elements.{All-head, All-tail, All-cons}
+use Rattle.std.proofs.Common.{◌≡◌, ◌≢◌, ℕ, zero, suc, ◌<◌, ◌≤◌, ◌==◌, Bool, true, false, ◌||◌, cond, List, [], ◌∷◌, map, filter, length, get_or, set, position, Option, Some, None, option_map, refl, sym, ap, ◌∙◌, arith, get_or-set_same, get_or-set_other, length-set, ne_eqb, eqb-true, eq-eqb}
+use Rattle.std.specs.List.{list_any, AllPairs}
 use Rattle.link_numbers.proofs.link_keys_lemmas.Positions.{position_next, position_first, position_none}
 use Rattle.link_layout.specs.Segments.{set_each}
 

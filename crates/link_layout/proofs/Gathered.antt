@@ -5,7 +5,8 @@ use Rattle.std.proofs.lemmas.Grind.{flat_map-append}
 use Rattle.link_program.specs.reloc_apply.declared.window.Window.{Window}
 use Rattle.link_program.specs.Moved.{moved_window, moved_windows}
 use Rattle.link_program.specs.declared.keys.FunctionKey.{FunctionKey}
-use Rattle.link_layout.specs.Seen.{Looked, defined, is_solid_at, body_windows, row_windows, part_windows, moved_sources}
+use Rattle.link_layout.specs.Seen.{Looked, defined, is_solid_at}
+use Rattle.link_layout.specs.Rows.{body_windows, row_windows, part_windows, moved_sources}
 use Rattle.link_layout.specs.declared.gathering.Source.{Source}
 use Rattle.link_layout.specs.Sources.{source_windows, windows_of}
 use Rattle.link_layout.proofs.Steps.{drop_at, drop_none, drop_past, no_more, none_moved}

@@ -9,6 +9,8 @@ pub mod Filled
 pub mod Parts
 pub mod PlacedTold
 pub mod KeysTold
+pub mod Linkers
+pub mod CellsTold
 pub mod Told
 pub mod Windows
 pub mod Sources

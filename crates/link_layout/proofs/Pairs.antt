@@ -1,7 +1,6 @@
 -- Numbers, and what stands at them in a list.
-use Rattle.std.proofs.Common.{◌≡◌, ℕ, zero, suc, ◌+◌, ◌<◌, ◌≤◌, ◌==◌, ◌||◌, Bool, true, false, cond, List, [], ◌∷◌, map, filter, length, get_or, slice_get, position, Option, Some, None, refl, sym, ap, ◌∙◌, arith, find}
-use Rattle.std.specs.List.{list_any, All}
-use Rattle.std.proofs.lemmas.List.Elements.{All-head, All-tail, All-cons}
+use Rattle.std.proofs.Common.{◌≡◌, ℕ, zero, suc, ◌||◌, Bool, true, false, cond, List, [], ◌∷◌, map, filter, length, get_or, slice_get, position, Some, refl, sym, ap, ◌∙◌, arith, find}
+use Rattle.std.specs.List.{list_any}
 use Rattle.link_numbers.proofs.link_keys_lemmas.Positions.{position_of_map}
 
 module _ {A : Type 0} (ps : List A) where

@@ -1,18 +1,17 @@
 -- What the tables tell of the parts of a program.
-use Rattle.std.proofs.Common.{◌≡◌, ℕ, ◌<◌, ◌≤◌, ◌==◌, Bool, true, false, not, ◌&&◌, List, [], ◌∷◌, map, filter, length, get_or, slice_get, position, Option, Some, None, option_map, refl, sym, ap, subst, ◌∙◌, arith, eq-eqb, ne_eqb}
-use Rattle.std.specs.List.{list_all, list_any, All}
+use Rattle.std.proofs.Common.{◌≡◌, ℕ, ◌≤◌, ◌==◌, Bool, true, false, ◌&&◌, List, [], ◌∷◌, map, length, slice_get, position, Some, option_map, refl, sym, ap, subst, ◌∙◌, arith, eq-eqb, ne_eqb}
+use Rattle.std.specs.List.{list_all, list_any}
 use Rattle.std.proofs.lemmas.List.Elements.{All-cons}
 use Rattle.std.proofs.lemmas.List.{length-map}
 use Rattle.std.proofs.lemmas.Option.{slice_get-map, slice_get_within, get_or_from_slice_get}
 use Rattle.link_program.specs.wasm_types.declared.function.FuncType.{FuncType}
-use Rattle.link_program.specs.mark_bits.declared.chunk.Chunk.{Chunk}
 use Rattle.link_program.specs.memory_layout.declared.rules.SegmentShape.{SegmentShape}
 use Rattle.link_program.specs.memory_layout.Steps.{AreAligned}
 use Rattle.link_program.specs.image_emit.Bytes.{file_part}
 use Rattle.link_program.specs.name_rules.Entries.{ImportKey}
 use Rattle.link_program.specs.link_rules.Program as rules
 use Rattle.link_program.specs.link_rules.Program.{function, segment, global, linker_made, same_chunk}
-use Rattle.link_program.specs.link_rules.Values.{segments, content_align, shape_of, shapes, is_zero}
+use Rattle.link_program.specs.link_rules.Values.{segments, content_align, shape_of, shapes}
 use Rattle.link_program.specs.declared.part.Content.{Content}
 use Rattle.link_program.specs.declared.part.Content.TheVariants as contents
 use Rattle.link_program.specs.declared.part.Part.{Part}
@@ -22,7 +21,7 @@ use Rattle.link_program.specs.Program.{AreTables, ChunksDiffer}
 use Rattle.link_program.specs.Stand.{PartsStand, PartStands, IsAligned}
 use Rattle.link_program.specs.Live.{AreLive}
 use Rattle.link_program.specs.Look.{no_part, part_at, row_at}
-use Rattle.link_layout.specs.Segments.{is_segment_at, segment_numbers, align_of, shape_by, shape_at}
+use Rattle.link_layout.specs.Segments.{is_segment_at, segment_numbers, align_of, shape_at}
 use Rattle.link_layout.specs.Placed.{chunks_of}
 use Rattle.link_layout.proofs.Pairs.{map_pairs, filter_pairs, at_told, same_position, same_any, map_twice}
 use Rattle.link_program.proofs.Chunks.{chunk_is, chunk_itself}

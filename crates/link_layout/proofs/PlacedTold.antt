@@ -1,19 +1,18 @@
 -- Placed columns are those of a program.
-use Rattle.std.proofs.Common.{◌≡◌, ℕ, suc, ◌+◌, ◌-◌, ◌^◌, ◌<◌, ◌≤◌, ◌==◌, Bool, true, false, not, ◌&&◌, ◌||◌, cond, List, [], ◌∷◌, map, filter, length, get_or, slice_get, replicate, position, Option, Some, None, option_map, unwrap_or, Result, Ok, Err, refl, sym, ap, subst, ◌∙◌, arith, pos, ℤ}
+use Rattle.std.proofs.Common.{◌≡◌, ℕ, suc, ◌-◌, ◌<◌, ◌≤◌, ◌==◌, Bool, false, not, List, [], ◌∷◌, map, filter, length, get_or, slice_get, replicate, position, Option, Some, None, option_map, unwrap_or, Result, Ok, Err, refl, sym, ap, subst, ◌∙◌, arith, pos, ℤ}
 use Rattle.std.specs.Prelude.{slice_index_or, if◌then◌else◌}
-use Rattle.std.specs.List.{list_any, AllPairs}
+use Rattle.std.specs.List.{AllPairs}
 use Rattle.std.proofs.lemmas.List.{length-map, length-replicate, get_or-replicate, get_or_default}
 use Rattle.std.proofs.lemmas.List.Kept.{AllPairs-filter}
-use Rattle.std.proofs.lemmas.List.Quantifiers.{position-Some}
-use Rattle.std.proofs.lemmas.Option.{slice_get_within, slice_get-get_or}
+use Rattle.std.proofs.lemmas.Option.{slice_get_within}
 use Rattle.link_program.specs.wl_base.Choice.{unless}
 use Rattle.link_program.specs.wl_base.declared.fault.What.{What}
 use Rattle.link_program.specs.wl_base.declared.layout_error.LayoutError.{LayoutError}
 use Rattle.link_program.specs.wl_base.declared.layout_error.LayoutError.TheVariants.{Overflow, OutOfMemory}
-use Rattle.link_program.specs.made_symbols.declared.mode.Mode.TheVariants.{Plain}
-use Rattle.link_program.specs.mark_bits.declared.chunk.Chunk.{Chunk}
-use Rattle.link_program.specs.memory_layout.Memory.{Passed, places, places_by, addresses, base_of, last_end, solid, memory_overflow, memory_of, too_much_of, address_after, end_after}
-use Rattle.link_program.specs.memory_layout.Steps.{AreRules, IsPages}
+use Rattle.link_program.specs.made_symbols.declared.mode.Mode.{Mode}
+use Rattle.link_program.specs.made_symbols.declared.mode.Mode.TheVariants.{Plain, Shared}
+use Rattle.link_program.specs.memory_layout.Memory.{Passed, places, addresses, base_of, last_end, solid, memory_overflow, memory_of, too_much_of, end_after}
+use Rattle.link_program.specs.memory_layout.Steps.{AreRules}
 use Rattle.link_program.specs.memory_layout.declared.rules.MemoryRules.{MemoryRules}
 use Rattle.link_program.specs.memory_layout.declared.rules.SegmentShape.{SegmentShape}
 use Rattle.link_program.specs.memory_layout.declared.rules.Places.{Places}
@@ -21,23 +20,23 @@ use Rattle.link_program.specs.link_plan.declared.plan.Plan.{Plan}
 use Rattle.link_program.specs.link_plan.Plan.{IsPlan}
 use Rattle.link_program.specs.name_rules.Entries.{ImportKey}
 use Rattle.link_program.specs.link_rules.Program as rules
-use Rattle.link_program.specs.link_rules.Program.{same_chunk}
-use Rattle.link_program.specs.link_rules.Values.{rules_of, segments, solid_segments, shapes, shape_of, is_zero}
+use Rattle.link_program.specs.link_rules.Values.{rules_of, segments, solid_segments, shapes, is_zero}
 use Rattle.link_program.specs.declared.program.Tables.{Tables}
 use Rattle.link_program.specs.Seen.{seen_part, told_part}
-use Rattle.link_program.specs.Program.{AreTables, ChunksDiffer}
+use Rattle.link_program.specs.Program.{AreTables}
 use Rattle.link_program.specs.Live.{AreLive}
 use Rattle.link_layout.specs.declared.placing.Placed.{Placed}
 use Rattle.link_layout.specs.Segments.{segment_numbers, shape_at, set_each}
-use Rattle.link_layout.specs.Placed.{address_among, chunks_of, is_solid, IsPlaced, AnswersPlaced, AreColumns, AnswersColumns}
+use Rattle.link_layout.specs.Placed.{address_among, chunks_of, is_solid, IsPlacedIn, AnswersPlacedIn, AreColumns, AnswersColumns}
 use Rattle.link_layout.proofs.Filled.{value_at, set_each_at, set_each_long, flag_kept}
-use Rattle.link_layout.proofs.Pairs.{map_pairs, filter_pairs, same_any, list_is, map_twice}
+use Rattle.link_layout.proofs.Pairs.{filter_pairs, list_is, map_twice}
 use Rattle.link_layout.proofs.Parts.{segments_are, shapes_are, place_by_number, among_by_number, shape_told}
 
 -- ---- what the words let through
 
-pub are_rules : (plan : Plan) → IsPlan plan → AreRules (rules_of Plain plan)
-are_rules plan is = (is.initial, is.max)
+pub are_rules : (mode : Mode) (plan : Plan) → IsPlan plan → AreRules (rules_of mode plan)
+are_rules Plain plan is = (is.initial, is.max)
+are_rules Shared plan is = tt
 
 -- ---- as many addresses as segments
 
@@ -72,7 +71,7 @@ first_or : (xs : List ℕ) (o : Option ℕ) → value_at xs o (slice_index_or xs
 first_or xs None = refl
 first_or xs (Some k) = refl
 
-module _ (names : List (List ℕ)) (imports : List ImportKey) (t : Tables) (p : rules.Program) (are : AreTables names imports t p)
+module _ (mode : Mode) (names : List (List ℕ)) (imports : List ImportKey) (t : Tables) (p : rules.Program) (are : AreTables names imports t p)
     (live : List ℕ) (parts : List rules.Part) (lives : AreLive p live parts) where
   numbers_rise : AllPairs (λ a b. a < b) (segment_numbers t live)
   numbers_rise = AllPairs-filter (λ a b. a < b) _ live lives.rise
@@ -127,49 +126,49 @@ module _ (names : List (List ℕ)) (imports : List ImportKey) (t : Tables) (p : 
     flags_same : map (λ (s : SegmentShape). not s.zero) (map (shape_at t files) (segment_numbers t live)) ≡ map (solid_at t files) (segment_numbers t live)
     flags_same = map_twice (λ (s : SegmentShape). not s.zero) (shape_at t files) (segment_numbers t live)
 
-    module _ (d : Placed) (rules : MemoryRules) (by : rules ≡ rules_of Plain p.plan)
+    module _ (d : Placed) (rules : MemoryRules) (by : rules ≡ rules_of mode p.plan)
         (said : memory_of rules (map (shape_at t files) (segment_numbers t live)) ≡ Ok d.places)
         (columns : AreColumns (segment_numbers t live) (map (shape_at t files) (segment_numbers t live)) (length p.parts) d) where
       shaped : map (shape_at t files) (segment_numbers t live) ≡ shapes p parts
       shaped = shapes_are names imports t p are live parts lives files same
 
-      placed_said : unless (option_map too_much_of (memory_overflow (rules_of Plain p.plan) (shapes p parts))) (places (rules_of Plain p.plan) (shapes p parts)) ≡ Ok d.places
+      placed_said : unless (option_map too_much_of (memory_overflow (rules_of mode p.plan) (shapes p parts))) (places (rules_of mode p.plan) (shapes p parts)) ≡ Ok d.places
       unfolding memory_of
       placed_said = (λ i. memory_of (sym by i) (sym shaped i)) ∙ said
 
-      fits : memory_overflow (rules_of Plain p.plan) (shapes p parts) ≡ None
-      fits = none_of (memory_overflow (rules_of Plain p.plan) (shapes p parts)) (placed_of _ _ d.places placed_said).0
+      fits : memory_overflow (rules_of mode p.plan) (shapes p parts) ≡ None
+      fits = none_of (memory_overflow (rules_of mode p.plan) (shapes p parts)) (placed_of _ _ d.places placed_said).0
 
-      places_are : d.places ≡ places (rules_of Plain p.plan) (shapes p parts)
+      places_are : d.places ≡ places (rules_of mode p.plan) (shapes p parts)
       places_are = sym (placed_of _ _ d.places placed_said).1
 
       long_enough : length (segment_numbers t live) ≤ length d.places.addresses
       long_enough =
-          let a : length d.places.addresses ≡ length (shapes p parts) = ap (λ (x : Places). length x.addresses) places_are ∙ places_long (rules_of Plain p.plan) (shapes p parts) in
+          let a : length d.places.addresses ≡ length (shapes p parts) = ap (λ (x : Places). length x.addresses) places_are ∙ places_long (rules_of mode p.plan) (shapes p parts) in
           let b : length (shapes p parts) ≡ length (segment_numbers t live) = ap length (sym shaped) ∙ length-map (segment_numbers t live) (shape_at t files) in
           omega (arith, a, b)
 
-      pub placed : IsPlaced p parts d
+      pub placed : IsPlacedIn mode p parts d
       placed = record {
         places = places_are;
         addresses = columns.addresses ∙ addresses_are d.places.addresses long_enough;
         solid = columns.solid ∙ ap (λ xs. set_each (segment_numbers t live) xs (replicate (length p.parts) false)) flags_same ∙ solid_are;
       }
 
-    pub answers : (rules : MemoryRules) → rules ≡ rules_of Plain p.plan → (count : ℕ) → count ≡ length p.parts → (result : Result Placed LayoutError)
-        → AnswersColumns rules (segment_numbers t live) (map (shape_at t files) (segment_numbers t live)) count result → AnswersPlaced p parts result
+    pub answers : (rules : MemoryRules) → rules ≡ rules_of mode p.plan → (count : ℕ) → count ≡ length p.parts → (result : Result Placed LayoutError)
+        → AnswersColumns rules (segment_numbers t live) (map (shape_at t files) (segment_numbers t live)) count result → AnswersPlacedIn mode p parts result
     unfolding memory_of
     answers rules by count long (Ok d) is =
         let columns : AreColumns (segment_numbers t live) (map (shape_at t files) (segment_numbers t live)) (length p.parts) d =
         subst (λ n. AreColumns (segment_numbers t live) (map (shape_at t files) (segment_numbers t live)) n d) long is.1 in
         (fits d rules by is.0 columns, placed d rules by is.0 columns)
     answers rules by count long (Err (Overflow what needed)) is =
-        passed_of (memory_overflow (rules_of Plain p.plan) (shapes p parts)) (places (rules_of Plain p.plan) (shapes p parts)) what needed
+        passed_of (memory_overflow (rules_of mode p.plan) (shapes p parts)) (places (rules_of mode p.plan) (shapes p parts)) what needed
         ((λ i. memory_of (sym by i) (sym (shapes_are names imports t p are live parts lives files same) i)) ∙ is)
     answers rules by count long (Err OutOfMemory) is = tt
 
-    pub answers_by : (rules : MemoryRules) → rules ≡ rules_of Plain p.plan → (numbers : List ℕ) → numbers ≡ segment_numbers t live → (shaped : List SegmentShape) → shaped ≡ map (shape_at t files) numbers
-        → (count : ℕ) → count ≡ length t.parts → (result : Result Placed LayoutError) → AnswersColumns rules numbers shaped count result → AnswersPlaced p parts result
+    pub answers_by : (rules : MemoryRules) → rules ≡ rules_of mode p.plan → (numbers : List ℕ) → numbers ≡ segment_numbers t live → (shaped : List SegmentShape) → shaped ≡ map (shape_at t files) numbers
+        → (count : ℕ) → count ≡ length t.parts → (result : Result Placed LayoutError) → AnswersColumns rules numbers shaped count result → AnswersPlacedIn mode p parts result
     answers_by rules by numbers nums shaped shapes count long result is =
         let e : shaped ≡ map (shape_at t files) (segment_numbers t live) = shapes ∙ ap (map (shape_at t files)) nums in
         let parts_long : length t.parts ≡ length p.parts = sym (length-map t.parts (seen_part t.types)) ∙ ap length are.parts ∙ length-map p.parts told_part in

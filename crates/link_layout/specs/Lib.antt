@@ -1,6 +1,9 @@
 pub mod Segments
 pub mod Placed
 pub mod Seen
+pub mod Cells
+pub mod Rows
+pub mod Put
 pub mod Layout
 pub mod Sources
 pub mod Parts

@@ -1,10 +1,10 @@
 -- How the sources of windows are divided among workers, and what these leave.
 use Rattle.std.specs.Prelude.{◌≡◌, ℕ, ◌+◌, List, [], length, slice_get, slice_range, Option, Some, Ok}
 use Rattle.link_program.specs.reloc_apply.declared.window.Patches.{Patches}
-use Rattle.link_program.specs.reloc_apply.Windows.{patched_on}
 use Rattle.wl_rows.specs.Ranges.{first_at, Rising}
 use Rattle.link_layout.specs.declared.gathering.Source.{Source}
 use Rattle.link_layout.specs.Seen.{Looked}
+use Rattle.link_layout.specs.Put.{written_on}
 use Rattle.link_layout.specs.Sources.{windows_of}
 
 -- the sources of a worker
@@ -13,7 +13,7 @@ sources_in sources cuts count worker = slice_range sources (first_at cuts count 
 
 -- what belongs into the windows of these sources
 abbrev pub IsWritten : Looked → List Source → Patches → Type 0
-IsWritten k sources patches = patched_on [] (windows_of k sources) ≡ Ok patches.patches
+IsWritten k sources patches = written_on k.mode [] (windows_of k sources) ≡ Ok patches.patches
 
 -- The first slot has what belongs into the windows of these sources, or nothing.
 abbrev pub IsFirst : Looked → List Source → List (Option Patches) → Type 0

@@ -1,15 +1,17 @@
 -- What stands in windows, as the data show it.
-use Rattle.std.specs.Prelude.{◌≡◌, ◌<◌, ◌^◌, ℕ, ◌+◌, ◌==◌, Bool, true, false, not, List, [], ◌∷◌, ◌++◌, map, filter, drop, length, slice_index_or, if◌then◌else◌, Option, Some, None, All, ℤ, pos}
-use Rattle.link_program.specs.wasm_types.declared.function.FuncType.{FuncType}
+use Rattle.std.specs.Prelude.{◌≡◌, ◌<◌, ◌^◌, ℕ, ◌+◌, ◌==◌, Bool, true, false, List, [], map, filter, drop, length, slice_index_or, if◌then◌else◌, Option, Some, None, All, ℤ, pos}
 use Rattle.link_program.specs.linking_section.declared.symbol.SymbolKind.{SymbolKind}
 use Rattle.link_program.specs.linking_section.declared.symbol.SymbolKind.TheVariants.{GlobalVar}
 use Rattle.link_program.specs.linking_section.declared.symbol.SymbolKind.TheVariants as kinds
 use Rattle.link_program.specs.linking_section.Flags.{kind_code}
 use Rattle.link_program.specs.mark_bits.declared.chunk.Chunk.{Chunk}
 use Rattle.link_program.specs.index_layout.Numbers.{number_by}
+use Rattle.link_program.specs.made_symbols.declared.mode.Mode.{Mode}
+use Rattle.link_program.specs.name_meanings.Means.{Answers}
 use Rattle.link_program.specs.reloc_apply.declared.window.Form.TheVariants.{Unsigned5}
 use Rattle.link_program.specs.reloc_apply.declared.window.Window.{Window}
 use Rattle.link_program.specs.link_rules.Program.{chunk_at}
+use Rattle.link_program.specs.link_rules.Marks.{by_mode}
 use Rattle.link_program.specs.link_rules.Values.{Asks, a_function, a_slot, an_address, a_global, a_table, asks, form_of, made_data}
 use Rattle.link_program.specs.declared.symbol.Definition.{Definition}
 use Rattle.link_program.specs.declared.symbol.Symbol.{Symbol}
@@ -17,26 +19,27 @@ use Rattle.link_program.specs.declared.symbol.Lead.{Lead}
 use Rattle.link_program.specs.declared.symbol.Lead.TheVariants as leads
 use Rattle.link_program.specs.declared.keys.FunctionKey.{FunctionKey}
 use Rattle.link_program.specs.declared.keys.FunctionKey.TheVariants as functions
-use Rattle.link_program.specs.declared.keys.GotKey.{GotKey}
 use Rattle.link_program.specs.declared.keys.GotKey.TheVariants as cells
 use Rattle.link_program.specs.declared.keys.GlobalKey.{GlobalKey}
 use Rattle.link_program.specs.declared.keys.GlobalKey.TheVariants as globals
 use Rattle.link_program.specs.declared.named.Named.{Named}
 use Rattle.link_program.specs.declared.named.Named.TheVariants as names
 use Rattle.link_program.specs.declared.program.Tables.{Tables}
-use Rattle.link_program.specs.Look.{row_at, chunk_number}
+use Rattle.link_program.specs.Look.{chunk_number}
 use Rattle.link_program.specs.Meant.{index_of, function_of, function_meant, cell_meant}
 use Rattle.link_program.specs.Seen.{no_symbol}
 use Rattle.link_program.specs.Keys.{same_function_key, same_global_key}
-use Rattle.link_program.specs.Moved.{moved_windows}
 use Rattle.link_numbers.specs.Numbered.{Numbered, is_import}
 use Rattle.link_layout.specs.declared.placing.Placed.{Placed}
 
--- What is looked up: all numbers, the tables, and where segments stand.
+-- What is looked up: which output is made, all numbers, the tables, where segments stand, the names, and what symbols mean.
 pub record Looked : Type 0 where
+  pub mode : Mode
   pub numbers : Numbered
   pub tables : Tables
   pub placed : Placed
+  pub names : List (List ℕ)
+  pub answers : Answers
 
 -- ---- addresses
 
@@ -45,9 +48,10 @@ abbrev pub column_at : Placed → Option ℕ → ℕ
 column_at d None = slice_index_or d.places.addresses 0 0
 column_at d (Some n) = slice_index_or d.addresses n 0
 
+-- In a shared output addresses count from `__memory_base`, where the linker's one datum is.
 abbrev pub address_of : Looked → Definition → ℕ
 address_of k d =
-    if d.input == 0 then slice_index_or (made_data k.placed.places) d.place 0
+    if d.input == 0 then slice_index_or (by_mode k.mode (made_data k.placed.places) []) d.place 0
     else column_at k.placed (chunk_number k.tables.chunks (chunk_at d.input 1 d.index)) + d.offset
 
 -- ---- keys
@@ -155,31 +159,14 @@ pub record AreTargets (k : Looked) (targets : List ℕ) : Type 0 where
 
 -- ---- sources
 
-abbrev pub row_windows : Looked → ℕ → List Window
-row_windows k n = map (window_of k) (row_at k.tables n)
-
-abbrev pub part_windows : Looked → Option ℕ → List Window
-part_windows k None = []
-part_windows k (Some n) = row_windows k n
-
 -- The number of the part that has the body of a function. What the linker makes has its numbers already.
 abbrev pub body_number : List Chunk → FunctionKey → Option ℕ
 body_number chunks (functions.Import n) = None
 body_number chunks (functions.Own input index) = if input == 0 then None else chunk_number chunks (chunk_at input 0 index)
 body_number chunks (functions.Stub n) = None
 
-abbrev pub body_windows : Looked → FunctionKey → List Window
-body_windows k f = part_windows k (body_number k.tables.chunks f)
-
 abbrev pub is_solid_at : Looked → ℕ → Bool
 is_solid_at k n = slice_index_or k.placed.solid n false
 
 abbrev pub defined : List FunctionKey → List FunctionKey
 defined fs = drop (length (filter is_import fs)) fs
-
--- The windows of the bodies of functions behind the imports, then of the live segments that aren't zero, each as much later as the place of
--- its source says.
-abbrev pub moved_sources : Looked → List ℕ → List ℕ → List Window
-moved_sources k live places =
-    moved_windows places (map (body_windows k) (defined k.numbers.functions))
-    ++ moved_windows (drop (length (defined k.numbers.functions)) places) (map (row_windows k) (filter (is_solid_at k) live))

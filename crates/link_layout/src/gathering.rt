@@ -1,7 +1,8 @@
 //! The sources of windows, one behind another: the bodies of functions, then the live segments.
 ghost use Rattle.std.specs.Prelude.{◌≡◌, ◌++◌, false, map, filter, drop, slice_index_or, IfOk, OnOk};
 ghost use Rattle.link_program.specs.Moved.{moved_window, moved_windows};
-ghost use Rattle.link_layout.specs.Seen.{body_number, row_windows, part_windows, moved_sources};
+ghost use Rattle.link_layout.specs.Seen.{body_number};
+ghost use Rattle.link_layout.specs.Rows.{row_windows, part_windows, moved_sources};
 ghost use Rattle.link_layout.specs.Sources.{no_key, windows_of};
 ghost use Rattle.link_layout.specs.Layout.{looked};
 

@@ -1,8 +1,10 @@
 //! Where data segments stand, and what the windows of the output hold.
 #![tactic(auto)]
 
+mod cells;
 mod columns;
 mod gathering;
+mod held;
 mod keys;
 mod patches;
 mod placing;

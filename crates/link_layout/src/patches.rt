@@ -1,17 +1,21 @@
 //! What is written into the windows of all sources.
-ghost use Rattle.std.specs.Prelude.{◌∷◌, []};
+ghost use Rattle.std.specs.Prelude.{◌∷◌, [], flat_map};
 ghost use Rattle.link_program.specs.wl_base.Answers.{Answers};
-ghost use Rattle.link_program.specs.reloc_apply.Windows.{IsSum, patches_of, patched_on, Puts};
+ghost use Rattle.link_program.specs.made_symbols.declared.mode.Mode.TheVariants.{Plain};
+ghost use Rattle.link_program.specs.reloc_apply.Windows.{IsSum, Puts};
 ghost use Rattle.link_program.specs.Moved.{moved_window};
-ghost use Rattle.link_layout.specs.Seen.{AreTargets, moved_sources};
-ghost use Rattle.link_layout.specs.Sources.{source_windows, windows_of};
+ghost use Rattle.link_layout.specs.Seen.{AreTargets};
+ghost use Rattle.link_layout.specs.Rows.{moved_sources};
+ghost use Rattle.link_layout.specs.Put.{written_on, written_of};
+ghost use Rattle.link_layout.specs.Sources.{plain_windows, windows_of};
 ghost use Rattle.link_layout.specs.Layout.{looked, AreThere};
 
 use crate::Layout;
 use crate::gathering::{Source, count_windows, sources_of};
+use crate::held::push_held_sources;
 use crate::sharing::shared_patches;
 use crate::usual::usual_targets;
-use link_program::row_at;
+use link_program::{Mode, mode_of, row_at};
 use patch_pieces::Pieces;
 use reloc_apply::{Patches, Window};
 use std::alloc::Global;
@@ -25,7 +29,7 @@ const LEAST_SHARED: usize = 200_000;
 /// Puts what is written into a window behind the others, so much later.
 fn push_patch(patches: &mut Patches, window: Window, by: u64) -> Result<(), LayoutError>
     requires { IsSum window }
-    ensures { Puts result patches.new.patches (patched_on patches.old.patches (moved_window by window ∷ [])) }
+    ensures { Puts result patches.new.patches (written_on Plain patches.old.patches (moved_window by window ∷ [])) }
 {
     let Some(place) = by.checked_add(window.place) else {
         return Err(LayoutError::OutOfMemory);
@@ -33,8 +37,8 @@ fn push_patch(patches: &mut Patches, window: Window, by: u64) -> Result<(), Layo
     patches.push(&Window { place, ..window })
 }
 
-/// Puts what is written into the windows of a source behind the others.
-pub(crate) fn push_source(
+/// Puts what is written into the windows of a source of a plain output behind the others.
+fn push_source(
     patches: &mut Patches,
     layout: Layout<'_>,
     targets: &[u64],
@@ -42,7 +46,7 @@ pub(crate) fn push_source(
 ) -> Result<(), LayoutError>
     requires there { AreThere layout }
     requires targets { AreTargets (looked layout) targets.now }
-    ensures { Puts result patches.new.patches (patched_on patches.old.patches (source_windows (looked layout.entry) source)) }
+    ensures { Puts result patches.new.patches (written_on Plain patches.old.patches (plain_windows (looked layout.entry) source)) }
 {
     let row = row_at(layout.program.tables, source.number);
     for named in row {
@@ -52,7 +56,25 @@ pub(crate) fn push_source(
     Ok(())
 }
 
+/// Puts what is written into the windows of sources of a plain output behind the others.
+fn push_plain_sources(
+    patches: &mut Patches,
+    layout: Layout<'_>,
+    targets: &[u64],
+    sources: &[Source],
+) -> Result<(), LayoutError>
+    requires there { AreThere layout }
+    requires targets { AreTargets (looked layout) targets.now }
+    ensures { Puts result patches.new.patches (written_on Plain patches.old.patches (flat_map (plain_windows (looked layout.entry)) sources.now)) }
+{
+    for source in sources {
+        push_source(patches, layout, targets, *source)?;
+    }
+    Ok(())
+}
+
 /// Puts what is written into the windows of sources behind the others.
+#[tactic(auto, using(crate::proofs::Patched::puts_plain, crate::proofs::Patched::puts_shared))]
 pub(crate) fn push_sources(
     patches: &mut Patches,
     layout: Layout<'_>,
@@ -61,12 +83,12 @@ pub(crate) fn push_sources(
 ) -> Result<(), LayoutError>
     requires there { AreThere layout }
     requires targets { AreTargets (looked layout) targets.now }
-    ensures { Puts result patches.new.patches (patched_on patches.old.patches (windows_of (looked layout.entry) sources.now)) }
+    ensures { Puts result patches.new.patches (written_on (looked layout.entry).mode patches.old.patches (windows_of (looked layout.entry) sources.now)) }
 {
-    for source in sources {
-        push_source(patches, layout, targets, *source)?;
+    match mode_of(layout.program.plan) {
+        Mode::Plain => push_plain_sources(patches, layout, targets, sources),
+        Mode::Shared => push_held_sources(patches, layout, targets, sources),
     }
-    Ok(())
 }
 
 /// What is written into the windows of sources, of which there are so many, one after another.
@@ -79,7 +101,7 @@ fn patches_in_turn(
 ) -> Result<Pieces, LayoutError>
     requires there { AreThere layout }
     requires targets { AreTargets (looked layout) targets.now }
-    ensures { Answers result (patches_of (windows_of (looked layout.entry) sources.now)) }
+    ensures { Answers result (written_of (looked layout.entry).mode (windows_of (looked layout.entry) sources.now)) }
 {
     let mut patches = Patches::with_capacity(alloc, count)?;
     push_sources(&mut patches, layout, targets, sources)?;
@@ -99,7 +121,7 @@ fn patches_by<R: Threads + Sync>(
 ) -> Result<Pieces, LayoutError>
     requires there { AreThere layout }
     requires targets { AreTargets (looked layout) targets.now }
-    ensures { Answers result (patches_of (windows_of (looked layout.entry) sources.now)) }
+    ensures { Answers result (written_of (looked layout.entry).mode (windows_of (looked layout.entry) sources.now)) }
 {
     let count = count_windows(layout.program.tables, sources);
     if workers.count() > 1 && count >= LEAST_SHARED {
@@ -121,7 +143,7 @@ pub(crate) fn all_patches<R: Threads + Sync>(
     workers: Workers,
 ) -> Result<Pieces, LayoutError>
     requires { AreThere layout }
-    ensures { Answers result (patches_of (moved_sources (looked layout.entry) live.now places.now)) }
+    ensures { Answers result (written_of (looked layout.entry).mode (moved_sources (looked layout.entry) live.now places.now)) }
 {
     let sources = sources_of(rt, alloc, layout, live, places, workers)?;
     let targets = usual_targets(rt, alloc, layout, workers)?;

@@ -2,9 +2,9 @@
 ghost use Rattle.std.specs.Prelude.{◌≡◌};
 ghost use Rattle.link_program.specs.memory_layout.Steps.{AreRules, AreAligned};
 ghost use Rattle.link_program.specs.link_plan.Plan.{IsPlan};
-ghost use Rattle.link_program.specs.made_symbols.declared.mode.Mode.TheVariants as modes;
+ghost use Rattle.link_program.specs.link_rules.ModeOf.{mode_of};
 ghost use Rattle.link_program.specs.link_rules.Values.{rules_of};
-ghost use Rattle.link_program.specs.Program.{IsProgramOf};
+ghost use Rattle.link_program.specs.Program.{IsProgram};
 ghost use Rattle.link_program.specs.Stand.{PartsStand};
 ghost use Rattle.link_program.specs.Live.{Stage, AreLive};
 ghost use Rattle.link_layout.specs.Placed.{AnswersColumns, AnswersPlaced};
@@ -12,7 +12,7 @@ ghost use Rattle.link_layout.specs.Placed.{AnswersColumns, AnswersPlaced};
 use crate::columns::{address_column, solid_column};
 use crate::segments::{segment_numbers, shapes_of};
 use link_plan::Plan;
-use link_program::Program;
+use link_program::{Mode, Program, mode_of};
 use memory_layout::{MemoryRules, Places, SegmentShape, place};
 use std::alloc::Global;
 use wl_base::{LayoutError, Seq};
@@ -28,16 +28,19 @@ pub struct Placed {
     pub solid: Seq<bool>,
 }
 
-/// What the words say of memory.
+/// What the words say of memory. The data of a shared output count from 0, and its loader finds room for them.
 fn rules_of(plan: &Plan) -> MemoryRules
-    ensures { result ≡ rules_of modes.Plain plan.now }
+    ensures { result ≡ rules_of (mode_of plan.now) plan.now }
 {
-    MemoryRules::Absolute {
-        stack_first: plan.stack_first,
-        base: plan.global_base,
-        stack: plan.stack_size,
-        initial: plan.initial_memory,
-        max: plan.max_memory,
+    match mode_of(plan) {
+        Mode::Plain => MemoryRules::Absolute {
+            stack_first: plan.stack_first,
+            base: plan.global_base,
+            stack: plan.stack_size,
+            initial: plan.initial_memory,
+            max: plan.max_memory,
+        },
+        Mode::Shared => MemoryRules::Relative,
     }
 }
 
@@ -73,7 +76,7 @@ pub fn place_segments(
     live: &[u32],
 ) -> Result<Placed, LayoutError>
     ghost s: { Stage }
-    requires program { IsProgramOf modes.Plain program s.program }
+    requires program { IsProgram program s.program }
     requires stand { PartsStand s.program }
     requires live { AreLive s.program live.now s.parts }
     requires files { files.now ≡ s.program.files }

@@ -1,9 +1,9 @@
 //! What is written into windows, by several workers: each makes the list of a range of sources.
 ghost use Rattle.std.specs.Prelude.{◌≡◌, ◌+◌, ◌<◌, ◌≤◌, ◌^◌, map, length, slice_range, Ok, All, IfOk, IfSome};
-ghost use Rattle.link_program.specs.reloc_apply.Windows.{patches_of};
 ghost use Rattle.link_program.specs.Seen.{NamesOne};
 ghost use Rattle.wl_rows.specs.Ranges.{Rising, AreRanges};
 ghost use Rattle.link_layout.specs.Seen.{AreTargets, usual_target};
+ghost use Rattle.link_layout.specs.Put.{written_of};
 ghost use Rattle.link_layout.specs.Sources.{windows_of};
 ghost use Rattle.link_layout.specs.Parts.{sources_in, IsWritten, AreWritten, AreJoined};
 ghost use Rattle.link_layout.specs.PartLaws.{rows_prop};
@@ -196,7 +196,7 @@ pub(crate) fn shared_patches<R: Threads + Sync>(
 ) -> Result<Option<Pieces>, OutOfMemory>
     requires there { AreThere layout }
     requires targets { AreTargets (looked layout) targets.now }
-    ensures { IfOk result (λ shared. IfSome shared (λ pieces. patches_of (windows_of (looked layout.entry) sources.now) ≡ Ok pieces)) }
+    ensures { IfOk result (λ shared. IfSome shared (λ pieces. written_of (looked layout.entry).mode (windows_of (looked layout.entry) sources.now) ≡ Ok pieces)) }
 {
     let ranges = ranges_for(alloc, layout.program.tables, sources, count, workers)?;
     let slots = made_slots(rt, alloc, layout, targets, sources, &ranges)?;

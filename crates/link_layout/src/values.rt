@@ -1,25 +1,28 @@
 //! What windows hold.
-ghost use Rattle.std.specs.Prelude.{◌≡◌, ◌<◌, ◌^◌, length, slice_index_or, IsTrue};
+ghost use Rattle.std.specs.Prelude.{◌≡◌, ◌<◌, ◌^◌, [], length, slice_index_or, IsTrue};
 ghost use Rattle.link_program.specs.name_rules.Entries.{InputSymbol};
 ghost use Rattle.link_program.specs.wl_base.Answers.{Answers};
-ghost use Rattle.link_program.specs.reloc_apply.Windows.{IsSum, patches_of};
-ghost use Rattle.link_program.specs.made_symbols.declared.mode.Mode.TheVariants as modes;
+ghost use Rattle.link_program.specs.reloc_apply.Windows.{IsSum};
+ghost use Rattle.patch_pieces.specs.Judged.{judged_patches};
+ghost use Rattle.link_program.specs.link_rules.ModeOf.{mode_of};
+ghost use Rattle.link_program.specs.link_rules.Marks.{by_mode};
 ghost use Rattle.link_program.specs.link_rules.Values as values;
 ghost use Rattle.link_program.specs.link_rules.Values.{asks, form_of, made_address, made_data};
-ghost use Rattle.link_program.specs.link_rules.Output.{layout, source_windows};
+ghost use Rattle.link_program.specs.link_rules.Output.{layout, source_windows, held};
 ghost use Rattle.link_program.specs.Told.{told_definition};
 ghost use Rattle.link_program.specs.Seen.{NamesOne, no_symbol};
 ghost use Rattle.link_program.specs.Moved.{moved_windows};
 ghost use Rattle.link_program.specs.Live.{Stage, AreLive};
-ghost use Rattle.link_layout.specs.Seen.{column_at, address_of, slot_meant, address_meant, target_of, is_address, is_null, addend_of, window_to, type_window, window_of, usual, AreTargets};
+ghost use Rattle.link_layout.specs.Seen.{column_at, address_of, slot_meant, address_meant, target_of, is_address, is_null, addend_of, window_to, symbol_window, type_window, window_of, usual, AreTargets};
 ghost use Rattle.link_layout.specs.Layout.{looked, IsLayout};
 
 use crate::Placed;
+use crate::cells::are_told;
 use crate::keys::global_named;
 use crate::patches::all_patches;
 use link_numbers::{Numbering, keys_are_told};
 use link_program::{
-    Definition, Lead, Named, Program, Symbol, chunk_number, function_meant, symbol_at,
+    Definition, Lead, Named, Program, Symbol, chunk_number, function_meant, mode_of, symbol_at,
 };
 use linking_section::SymbolKind;
 use made_symbols::{Mode, Role, count, role};
@@ -61,15 +64,25 @@ fn address_by(places: &Places, role: Role) -> u32
     }
 }
 
-/// The address of the linker-made datum of a number.
+/// The address of the linker-made datum of a number, in a plain output.
 #[tactic(auto, using(crate::proofs::MadeData::named, crate::proofs::MadeData::none))]
-fn made_address(places: &Places, number: u32) -> u32
+fn plain_address(places: &Places, number: u32) -> u32
     ensures { result ≡ slice_index_or (made_data places.now) number 0 }
 {
     if number < count(Mode::Plain) {
         address_by(places, role(Mode::Plain, number))
     } else {
         0
+    }
+}
+
+/// The same in either output: in a shared one the linker's one datum stands where its data begin.
+fn made_address(mode: Mode, places: &Places, number: u32) -> u32
+    ensures { result ≡ slice_index_or (by_mode mode (made_data places.now) []) number 0 }
+{
+    match mode {
+        Mode::Plain => plain_address(places, number),
+        Mode::Shared => 0,
     }
 }
 
@@ -203,7 +216,8 @@ impl<'a> Layout<'a> {
         ensures small { result < 2 ^ 33 }
     {
         if definition.input == 0 {
-            return u64::from(made_address(&self.placed.places, definition.place));
+            let mode = mode_of(self.program.plan);
+            return u64::from(made_address(mode, &self.placed.places, definition.place));
         }
         let chunk = Chunk {
             input: definition.input,
@@ -296,7 +310,21 @@ impl<'a> Layout<'a> {
         }
     }
 
-    /// A window, by the numbers that usual references stand for.
+    /// The window of a reference to the symbol of a place, by the numbers that usual references stand for.
+    #[inline(always)]
+    fn symbol_window(self, targets: &[u64], place: u32, kind: u8, addend: i32, at: u32) -> Window
+        requires targets { AreTargets (looked self) targets.now }
+        requires there { at < length self.program.tables.now.symbols }
+        ensures is { result ≡ symbol_window (looked self.entry) place kind addend (slice_index_or self.entry.program.tables.now.symbols at no_symbol) }
+        ensures sum { IsSum result }
+    {
+        let symbol = symbol_at(self.program.tables.symbols.as_slice(), at);
+        let target = self.target_by(targets, kind, at, symbol.kind);
+        window_to(place, kind, addend, symbol.lead, target)
+    }
+
+    /// A window, by the numbers that usual references stand for. It is the body of two loops.
+    #[inline(always)]
     pub(crate) fn window_by(self, targets: &[u64], named: &Named) -> Window
         requires targets { AreTargets (looked self) targets.now }
         requires one { NamesOne self.program.tables.now.symbols self.program.tables.now.types named.now }
@@ -310,11 +338,7 @@ impl<'a> Layout<'a> {
                 place,
                 addend,
                 symbol: at,
-            } => {
-                let symbol = symbol_at(self.program.tables.symbols.as_slice(), at);
-                let target = self.target_by(targets, kind, at, symbol.kind);
-                window_to(place, kind, addend, symbol.lead, target)
-            }
+            } => self.symbol_window(targets, place, kind, addend, at),
             Named::Type { place, number } => self.type_window(place, number),
         }
     }
@@ -323,14 +347,15 @@ impl<'a> Layout<'a> {
     pub fn address(self, definition: Definition) -> u64
         ghost s: { Stage }
         requires { IsLayout s.program s.parts s.exports self }
-        ensures { (e : InputSymbol) → definition ≡ told_definition e → result ≡ values.address_of modes.Plain (layout modes.Plain s.program s.parts s.exports) e }
+        ensures { (e : InputSymbol) → definition ≡ told_definition e → result ≡ values.address_of (mode_of s.program.plan) (layout (mode_of s.program.plan) s.program s.parts s.exports) e }
     {
         keys_are_told();
         self.address_seen(definition)
     }
 
     /// What is written into the windows of all sources of the output, by their places there: of the bodies of functions, then of the live
-    /// segments that aren't zero. `places` has the place of each source. A place of 2^64 and more is answered as want of memory.
+    /// segments that aren't zero. `places` has the place of each source. A place of 2^64 and more is answered as want of memory. In a shared
+    /// output the windows of data are judged by their values, and hold 0 until it is loaded.
     ///
     /// The windows are divided among the workers, where there are many. The answer doesn't depend on them.
     ///
@@ -348,9 +373,15 @@ impl<'a> Layout<'a> {
         ghost s: { Stage }
         requires is { IsLayout s.program s.parts s.exports self }
         requires live { AreLive s.program live.now s.parts }
-        ensures { Answers result (patches_of (moved_windows places.now (source_windows modes.Plain s.program s.parts s.exports (layout modes.Plain s.program s.parts s.exports)))) }
+        ensures { Answers result (judged_patches
+            (moved_windows places.now (source_windows (mode_of s.program.plan) s.program s.parts s.exports (layout (mode_of s.program.plan) s.program s.parts s.exports)))
+            (moved_windows places.now (held (mode_of s.program.plan)
+            (source_windows (mode_of s.program.plan) s.program s.parts s.exports (layout (mode_of s.program.plan) s.program s.parts s.exports))))) }
     {
         keys_are_told();
+        if !are_told(self, live) {
+            return Err(LayoutError::OutOfMemory);
+        }
         let patches = all_patches(rt, alloc, self, live, places, workers)?;
         Ok(patches)
     }

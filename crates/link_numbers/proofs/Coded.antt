@@ -1,5 +1,5 @@
 -- Numbers of keys by their codes, and slots.
-use Rattle.std.proofs.Common.{◌≡◌, ℕ, ◌+◌, ◌<◌, ◌^◌, List, map, length, position, Option, Some, None, unwrap_or, refl, sym, ap, ◌∙◌, arith}
+use Rattle.std.proofs.Common.{◌≡◌, ℕ, ◌+◌, ◌<◌, ◌^◌, List, map, length, position, Option, Some, None, unwrap_or, refl, arith}
 use Rattle.std.proofs.lemmas.List.Quantifiers.{position-Some}
 use Rattle.link_keys.specs.link_program.index_layout.Numbers.{number_by}
 use Rattle.link_keys.specs.link_program.declared.keys.FunctionKey.{FunctionKey}

@@ -9,7 +9,6 @@ use Rattle.link_keys.specs.link_program.declared.symbol.Winner.{Winner}
 use Rattle.link_keys.specs.link_program.declared.keys.FunctionKey.{FunctionKey}
 use Rattle.link_keys.specs.link_program.declared.keys.GlobalKey.{GlobalKey}
 use Rattle.link_keys.specs.link_program.declared.program.Tables.{Tables}
-use Rattle.link_keys.specs.declared.firsts.At.{At}
 use Rattle.link_keys.specs.Firsts.{firsts_rows}
 use Rattle.link_keys.specs.Noted.{Noted, noted_parts, nothing_noted}
 use Rattle.link_keys.specs.Lists.{functions_listed, slots_listed, globals_listed}

@@ -1,39 +1,34 @@
 -- Functions, slots and globals, as they are told.
-use Rattle.std.proofs.Common.{◌≡◌, ℕ, zero, suc, ◌==◌, Bool, true, false, not, ◌&&◌, ◌||◌, cond, List, [], ◌∷◌, ◌++◌, map, filter, filter_map, flat_map, length, slice_get, Option, Some, None, option_map, refl, sym, ap, subst, ◌∙◌, arith, append_assoc}
+use Rattle.std.proofs.Common.{◌≡◌, ℕ, ◌==◌, Bool, true, false, not, ◌&&◌, cond, List, [], ◌∷◌, ◌++◌, map, filter, filter_map, Option, Some, None, option_map, refl, sym, ap, ◌∙◌, arith}
 use Rattle.std.specs.Prelude.{if◌then◌else◌, bytes_eq}
 use Rattle.std.specs.List.{list_any, All, cons_option}
 use Rattle.std.proofs.lemmas.Bool.Decides.{nat_tests}
 use Rattle.std.proofs.lemmas.List.{map-append}
-use Rattle.std.proofs.lemmas.List.Elements.{All-head, All-tail, All-cons, All-append, filter_map-append, filter-append}
+use Rattle.std.proofs.lemmas.List.Elements.{All-head, All-tail, filter_map-append, filter-append}
 use Rattle.link_keys.specs.link_program.wl_base.Choice.{distinct, given}
-use Rattle.link_keys.specs.link_program.index_layout.Numbers.{number_by}
-use Rattle.link_keys.specs.link_program.linking_section.declared.symbol.SymbolKind.TheVariants.{Function, Datum, GlobalVar}
+use Rattle.link_keys.specs.link_program.linking_section.declared.symbol.SymbolKind.TheVariants.{Datum}
 use Rattle.link_keys.specs.link_program.linking_section.Flags.{kind_code}
-use Rattle.link_keys.specs.link_program.mark_bits.declared.chunk.Chunk.{Chunk}
+use Rattle.link_keys.specs.link_program.made_symbols.declared.mode.Mode.{Mode}
 use Rattle.link_keys.specs.link_program.made_symbols.declared.mode.Mode.TheVariants.{Plain}
-use Rattle.link_keys.specs.link_program.name_rules.Entries.{InputSymbol, ImportKey, same_import, is_kind, name_of}
+use Rattle.link_keys.specs.link_program.name_rules.Entries.{InputSymbol, ImportKey, is_kind, name_of}
 use Rattle.link_keys.specs.link_program.name_rules.Meanings.{Meaning, here, imported, null, nothing}
 use Rattle.link_keys.specs.link_program.link_rules.Program as rules
 use Rattle.link_keys.specs.link_program.link_rules.Program.{Ref, refs}
 use Rattle.link_keys.specs.link_program.link_rules.Marks.{refs_of, reads_cell}
 use Rattle.link_keys.specs.link_program.link_rules.Keys as keys
 use Rattle.link_keys.specs.link_program.link_rules.Keys.{outside, linker_function, stub, own, same_function, got_entry, got_import, got_null, same_got, outside_global, linker_global, own_global, got, exported_datum, meant_function, ref_function, got_of, ref_got, is_null, takes_slot, is_taken, made_function_key, own_function_key, made_global_key, own_global_key, got_entries, parts_of_kind, needs_got, datum_key}
-use Rattle.link_keys.specs.link_program.declared.symbol.Winner.{Winner}
 use Rattle.link_keys.specs.link_program.declared.keys.FunctionKey.{FunctionKey}
 use Rattle.link_keys.specs.link_program.declared.keys.FunctionKey.TheVariants as functions
-use Rattle.link_keys.specs.link_program.declared.keys.GotKey.{GotKey}
-use Rattle.link_keys.specs.link_program.declared.keys.GlobalKey.{GlobalKey}
 use Rattle.link_keys.specs.link_program.declared.keys.GlobalKey.TheVariants as globals
 use Rattle.link_keys.specs.link_program.Told.{told_definition, told_lead, told_winner}
 use Rattle.link_keys.specs.link_program.Keys.{told_function, told_got, told_global, same_function_key, same_got_key}
 use Rattle.link_keys.specs.declared.codes.Code.{Code}
 use Rattle.link_keys.specs.Codes.{same_code, function_code}
-use Rattle.link_keys.specs.LiveRefs.{LiveRef}
 use Rattle.link_keys.specs.link_program.Meant.{function_of, cell_meant}
-use Rattle.link_keys.specs.Noted.{where_so, function_meant, asks_slot, function_taken, cell_read}
-use Rattle.link_keys.specs.Lists.{is_made_by, is_own, own_function_in, own_global_in, is_taken_code, slots_listed, datum_listed}
+use Rattle.link_keys.specs.Noted.{where_so, function_meant, asks_slot}
+use Rattle.link_keys.specs.Lists.{is_own, own_function_in, own_global_in, is_taken_code, slots_listed, datum_listed}
 use Rattle.link_numbers.specs.Knows.{KnowsFunction, KnowsGot}
-use Rattle.link_keys.proofs.Any.{all_each, all_none, all_map, all_filtered}
+use Rattle.link_keys.proofs.Any.{all_each, all_map, all_filtered}
 use Rattle.link_keys.proofs.Equals.{any_distinct}
 use Rattle.link_keys.proofs.Heard.{slot_asked, cell_asked}
 use Rattle.link_keys.proofs.Imports.{both}
@@ -61,15 +56,15 @@ module _ (names : List (List ℕ)) (imports : List ImportKey) where
   own_told d false is = ap (λ r. functions.Own d.input (if r then d.place else d.index)) is
 
   -- what a reference takes, put before others
-  taken_one : (all : List InputSymbol) (e : InputSymbol) (m : Meaning) (a : Bool) (rest : List FunctionKey) → KnownMeaning imports all e m
+  taken_one : (mode : Mode) (all : List InputSymbol) (e : InputSymbol) (m : Meaning) (a : Bool) (rest : List FunctionKey) → KnownMeaning mode imports all e m
       → cons_option (where_so a (function_meant (told_lead imports m))) rest ≡ cond (not (is_null m) && a) (told_function names imports (meant_function (name_of e) m) ∷ rest) rest
-  taken_one all e (here d) true rest known = ap (λ f. f ∷ rest) (own_told d (d.input == 0) refl)
-  taken_one all e (here d) false rest known = refl
-  taken_one all e (imported k) true rest known = refl
-  taken_one all e (imported k) false rest known = refl
-  taken_one all e null true rest known = refl
-  taken_one all e null false rest known = refl
-  taken_one all e nothing a rest known = absurd known
+  taken_one mode all e (here d) true rest known = ap (λ f. f ∷ rest) (own_told d (d.input == 0) refl)
+  taken_one mode all e (here d) false rest known = refl
+  taken_one mode all e (imported k) true rest known = refl
+  taken_one mode all e (imported k) false rest known = refl
+  taken_one mode all e null true rest known = refl
+  taken_one mode all e null false rest known = refl
+  taken_one mode all e nothing a rest known = absurd known
 
   kept_told : {A B : Type 0} (f : A → B) (r : Bool) (x : A) (xs : List A) → cond r (f x ∷ map f xs) (map f xs) ≡ map f (cond r (x ∷ xs) xs)
   kept_told f true x xs = refl
@@ -86,16 +81,16 @@ module _ (names : List (List ℕ)) (imports : List ImportKey) where
   abbrev slot_of_ref : Ref → Option FunctionKey
   slot_of_ref ref = where_so (asks_slot ref.kind ref.entry.symbol.kind) (function_meant (told_lead imports ref.meaning))
 
-  taken_told_refs : (all : List InputSymbol) (rs : List Ref) → All (KnownRef imports all) rs → filter_map slot_of_ref rs ≡ map (told_function names imports) (taken_functions rs)
-  taken_told_refs all [] known = refl
-  taken_told_refs all (ref ∷ rs) known =
-      taken_one all ref.entry ref.meaning (asks_slot ref.kind ref.entry.symbol.kind) (filter_map slot_of_ref rs) (All-head (KnownRef imports all) ref rs known)
-      ∙ ap (λ rest. cond (takes_slot Plain ref) (told_function names imports (ref_function ref) ∷ rest) rest) (taken_told_refs all rs (All-tail (KnownRef imports all) ref rs known))
+  taken_told_refs : (mode : Mode) (all : List InputSymbol) (rs : List Ref) → All (KnownRef mode imports all) rs → filter_map slot_of_ref rs ≡ map (told_function names imports) (taken_functions rs)
+  taken_told_refs mode all [] known = refl
+  taken_told_refs mode all (ref ∷ rs) known =
+      taken_one mode all ref.entry ref.meaning (asks_slot ref.kind ref.entry.symbol.kind) (filter_map slot_of_ref rs) (All-head (KnownRef mode imports all) ref rs known)
+      ∙ ap (λ rest. cond (takes_slot Plain ref) (told_function names imports (ref_function ref) ∷ rest) rest) (taken_told_refs mode all rs (All-tail (KnownRef mode imports all) ref rs known))
       ∙ function_kept (takes_slot Plain ref) ref (filter (takes_slot Plain) rs)
 
   -- The functions whose slots are taken.
-  pub taken_told : (all : List InputSymbol) (parts : List rules.Part) → All (KnownRef imports all) (refs_of parts) → filter_map slot_asked (told_refs names imports parts) ≡ map (told_function names imports) (taken_functions (refs_of parts))
-  taken_told all parts known = chosen_all names imports slot_asked slot_of_ref (λ code ref. refl) parts ∙ taken_told_refs all (refs_of parts) known
+  pub taken_told : (mode : Mode) (all : List InputSymbol) (parts : List rules.Part) → All (KnownRef mode imports all) (refs_of parts) → filter_map slot_asked (told_refs names imports parts) ≡ map (told_function names imports) (taken_functions (refs_of parts))
+  taken_told mode all parts known = chosen_all names imports slot_asked slot_of_ref (λ code ref. refl) parts ∙ taken_told_refs mode all (refs_of parts) known
 
   -- ---- cells
 
@@ -236,34 +231,34 @@ module _ (names : List (List ℕ)) (imports : List ImportKey) where
   function_of_known d true is = tt
   function_of_known d false is = is
 
-  module _ (all : List InputSymbol) (held : (name : List ℕ) → list_any (bytes_eq name) (map name_of all) ≡ true → list_any (bytes_eq name) names ≡ true) where
-    meant_known : (e : InputSymbol) (m : Meaning) → KnownMeaning imports all e m → KnowsFunction names imports (meant_function (name_of e) m)
+  module _ (mode : Mode) (all : List InputSymbol) (held : (name : List ℕ) → list_any (bytes_eq name) (map name_of all) ≡ true → list_any (bytes_eq name) names ≡ true) where
+    meant_known : (e : InputSymbol) (m : Meaning) → KnownMeaning mode imports all e m → KnowsFunction names imports (meant_function (name_of e) m)
     meant_known e (here d) known = function_of_known d (d.input == 0) refl
     meant_known e (imported k) known = known
     meant_known e null known = held (name_of e) known.named
     meant_known e nothing known = absurd known
 
-    pub ref_function_known : (ref : Ref) → KnownRef imports all ref → KnowsFunction names imports (ref_function ref)
+    pub ref_function_known : (ref : Ref) → KnownRef mode imports all ref → KnowsFunction names imports (ref_function ref)
     ref_function_known ref known = meant_known ref.entry ref.meaning known
 
-    got_known : (kind : ℕ) (e : InputSymbol) (m : Meaning) → KnownMeaning imports all e m → KnowsGot imports (got_of kind m)
+    got_known : (kind : ℕ) (e : InputSymbol) (m : Meaning) → KnownMeaning mode imports all e m → KnowsGot imports (got_of kind m)
     got_known kind e (here d) known = tt
     got_known kind e (imported k) known = known
     got_known kind e null known = tt
     got_known kind e nothing known = tt
 
-    pub ref_got_known : (ref : Ref) → KnownRef imports all ref → KnowsGot imports (ref_got ref)
+    pub ref_got_known : (ref : Ref) → KnownRef mode imports all ref → KnowsGot imports (ref_got ref)
     ref_got_known ref known = got_known (kind_code ref.entry.symbol.kind) ref.entry ref.meaning known
 
-    pub all_taken_known : (rs : List Ref) → All (KnownRef imports all) rs → All (KnowsFunction names imports) (taken_functions rs)
+    pub all_taken_known : (rs : List Ref) → All (KnownRef mode imports all) rs → All (KnowsFunction names imports) (taken_functions rs)
     all_taken_known rs known =
         all_map (KnowsFunction names imports) ref_function (filter (takes_slot Plain) rs)
-        (all_each (KnownRef imports all) (λ ref. KnowsFunction names imports (ref_function ref)) ref_function_known (filter (takes_slot Plain) rs) (all_filtered (KnownRef imports all) (takes_slot Plain) rs known))
+        (all_each (KnownRef mode imports all) (λ ref. KnowsFunction names imports (ref_function ref)) ref_function_known (filter (takes_slot Plain) rs) (all_filtered (KnownRef mode imports all) (takes_slot Plain) rs known))
 
-    pub all_cells_known : (rs : List Ref) → All (KnownRef imports all) rs → All (KnowsGot imports) (read_cells rs)
+    pub all_cells_known : (rs : List Ref) → All (KnownRef mode imports all) rs → All (KnowsGot imports) (read_cells rs)
     all_cells_known rs known =
         all_map (KnowsGot imports) ref_got (filter (needs_got Plain) rs)
-        (all_each (KnownRef imports all) (λ ref. KnowsGot imports (ref_got ref)) ref_got_known (filter (needs_got Plain) rs) (all_filtered (KnownRef imports all) (needs_got Plain) rs known))
+        (all_each (KnownRef mode imports all) (λ ref. KnowsGot imports (ref_got ref)) ref_got_known (filter (needs_got Plain) rs) (all_filtered (KnownRef mode imports all) (needs_got Plain) rs known))
 
   -- The cells, each once.
   pub cells_once : (ks : List keys.GotKey) → All (KnowsGot imports) ks → distinct same_got_key (map (told_got imports) ks) ≡ map (told_got imports) (distinct same_got ks)

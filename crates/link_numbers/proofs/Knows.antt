@@ -1,15 +1,8 @@
 -- Keys that are known, and that keys as they are told are one exactly where the keys are.
-use Rattle.std.proofs.Common.{◌≡◌, ℕ, nat_eq, ◌==◌, Bool, true, false, not, ◌&&◌, List, [], ◌∷◌, map, Option, Some, None, unwrap_or, refl, sym, ap, subst, ◌∙◌, arith}
-use Rattle.std.specs.Prelude.{bytes_eq, if◌then◌else◌, position}
-use Rattle.std.specs.List.{list_any, All}
+use Rattle.std.proofs.Common.{◌≡◌, ℕ, ◌==◌, false, ◌&&◌, List, refl, arith}
+use Rattle.std.specs.Prelude.{bytes_eq}
 use Rattle.std.proofs.lemmas.Bool.Decides.{nat_tests}
-use Rattle.link_keys.specs.link_program.wl_base.Names.{number_of}
-use Rattle.link_keys.specs.link_program.index_layout.Numbers.{number_by}
-use Rattle.link_keys.specs.link_program.linking_section.Flags.{kind_code}
-use Rattle.link_keys.specs.link_program.name_rules.Entries.{InputSymbol, ImportKey, same_import, name_of}
-use Rattle.link_keys.specs.link_program.name_rules.Meanings.{Meaning, here, imported, null, nothing}
-use Rattle.link_keys.specs.link_program.made_symbols.declared.mode.Mode.TheVariants.{Plain}
-use Rattle.link_keys.specs.link_program.link_rules.Program.{Ref}
+use Rattle.link_keys.specs.link_program.name_rules.Entries.{ImportKey, same_import}
 use Rattle.link_keys.specs.link_program.link_rules.Keys as rules
 use Rattle.link_keys.specs.link_program.link_rules.Keys.{outside, linker_function, stub, own, same_function, got_entry, got_import, got_null, same_got, outside_global, linker_global, own_global, got, exported_datum, same_global, function_of, meant_function, ref_function, global_of, got_of, ref_got, meant_global, ref_global}
 use Rattle.link_keys.specs.link_program.declared.keys.FunctionKey.{FunctionKey}
@@ -19,7 +12,7 @@ use Rattle.link_keys.specs.link_program.declared.keys.GotKey.{GotKey}
 use Rattle.link_keys.specs.link_program.declared.keys.GotKey.TheVariants as cells
 use Rattle.link_keys.specs.link_program.declared.keys.GlobalKey.{GlobalKey}
 use Rattle.link_keys.specs.link_program.declared.keys.GlobalKey.TheVariants as globals
-use Rattle.link_keys.specs.link_program.Keys.{told_import, told_function, told_got, told_global, same_function_key, same_got_key, same_global_key}
+use Rattle.link_keys.specs.link_program.Keys.{told_function, told_got, told_global, same_function_key, same_got_key, same_global_key}
 use Rattle.link_keys.specs.Codes.{same_code, function_code, got_code, global_code}
 use Rattle.link_numbers.specs.Knows.{KnowsFunction, KnowsGot, KnowsGlobal}
 use Rattle.link_keys.proofs.Equals.{same_numbers}

@@ -13,14 +13,13 @@ use Rattle.link_keys.specs.link_program.wasm_types.declared.function.FuncType.{F
 use Rattle.link_keys.specs.link_program.object_file.declared.object.Object.{Object}
 use Rattle.link_keys.specs.link_program.object_file.Spaces.{no_type}
 use Rattle.link_keys.specs.link_program.mark_bits.declared.chunk.Chunk.{Chunk}
-use Rattle.link_keys.specs.link_program.made_symbols.declared.mode.Mode.TheVariants.{Plain}
+use Rattle.link_keys.specs.link_program.made_symbols.declared.mode.Mode.{Mode}
 use Rattle.link_keys.specs.link_program.made_symbols.Made.{made}
 use Rattle.link_keys.specs.link_program.index_layout.Numbers.{number_by}
 use Rattle.link_keys.specs.link_program.name_rules.Entries.{InputSymbol, ImportKey, same_import, is_entry, is_named, name_of, symbols_of, entries, made_from}
 use Rattle.link_keys.specs.link_program.name_rules.Cases.{first_entry}
 use Rattle.link_keys.specs.link_program.name_entries.View.{entry_at}
 use Rattle.link_keys.specs.link_program.link_rules.Program as rules
-use Rattle.link_keys.specs.link_program.link_rules.Keys as keys
 use Rattle.link_keys.specs.link_program.link_rules.Keys.{outside, linker_function, stub, own, function_type_of, content_type, entry_type, part_type, is_function_at, type_of, made_function_key, own_function_key}
 use Rattle.link_keys.specs.link_program.declared.program.Tables.{Tables}
 use Rattle.link_keys.specs.link_program.Program.{AreTables, ChunksDiffer, variant_names, variant_type}
@@ -175,11 +174,11 @@ first_is objects None (Some l) e = absurd cc
 first_is objects (Some at) None e = absurd cc
 first_is objects (Some at) (Some l) e = let same : entry_at objects at.object at.place ≡ Some l = cc in ap (λ x. function_type_of (symbol_type x)) same
 
-first_entry_is : (objects : List Object) (name : List ℕ) → list_any (is_named name) (made_from 0 (made Plain)) ≡ false → first_entry (entries Plain objects) name ≡ least_of (flat_map (symbols_of objects) objects) name
+first_entry_is : (mode : Mode) (objects : List Object) (name : List ℕ) → list_any (is_named name) (made_from 0 (made mode)) ≡ false → first_entry (entries mode objects) name ≡ least_of (flat_map (symbols_of objects) objects) name
 unfolding entries
-first_entry_is objects name unmade =
-    find-append (is_named name) (made_from 0 (made Plain)) (filter is_entry (flat_map (symbols_of objects) objects))
-    ∙ ap (λ o. option_or o (least_of (flat_map (symbols_of objects) objects) name)) (find_none (is_named name) (made_from 0 (made Plain)) unmade)
+first_entry_is mode objects name unmade =
+    find-append (is_named name) (made_from 0 (made mode)) (filter is_entry (flat_map (symbols_of objects) objects))
+    ∙ ap (λ o. option_or o (least_of (flat_map (symbols_of objects) objects) name)) (find_none (is_named name) (made_from 0 (made mode)) unmade)
 
 -- what stands in a list that is joined of two
 joined_left : {A : Type 0} (xs ys : List A) (i : ℕ) → i < length xs → slice_get (xs ++ ys) i ≡ slice_get xs i
@@ -213,7 +212,7 @@ or_none (Some x) = refl
 none_or : {A : Type 0} (o p : Option A) → o ≡ None → option_or o p ≡ p
 none_or o p none = ap (λ o. option_or o p) none
 
-module _ (names : List (List ℕ)) (p : rules.Program) (parts : List rules.Part) (from : p.entries ≡ entries Plain p.objects) (column : List (Option At)) (firsts : AreFirsts names p.objects (flat_map (symbols_of p.objects) p.objects) column)
+module _ (mode : Mode) (names : List (List ℕ)) (p : rules.Program) (parts : List rules.Part) (from : p.entries ≡ entries mode p.objects) (column : List (Option At)) (firsts : AreFirsts names p.objects (flat_map (symbols_of p.objects) p.objects) column)
     (others : List (List ℕ)) (in_order : names ≡ distinct bytes_eq others ++ distinct bytes_eq (map name_of p.variants)) (apart : All (IsNot (distinct bytes_eq others)) (map name_of p.variants))
     (entries_among : (name : List ℕ) → list_any (bytes_eq name) (map name_of p.entries) ≡ true → Is others name)
     (types : List FuncType) (variants : List ℕ) (typed : map (slice_get types) variants ≡ map (λ name. Some (variant_type p.variants name)) (variant_names p.variants)) where
@@ -233,12 +232,12 @@ module _ (names : List (List ℕ)) (p : rules.Program) (parts : List rules.Part)
   all_as_many = ap length in_order ∙ length-append before last
 
   -- the name of an entry
-  first_type_is : (name : List ℕ) (i : ℕ) → slice_get names i ≡ Some name → Is before name → list_any (is_named name) (made_from 0 (made Plain)) ≡ false
+  first_type_is : (name : List ℕ) (i : ℕ) → slice_get names i ≡ Some name → Is before name → list_any (is_named name) (made_from 0 (made mode)) ≡ false
       → first_type p.objects (get_or column i None) ≡ type_of p parts (stub name)
   first_type_is name i there among unmade =
       let none : first_entry p.variants name ≡ None = no_entry_named p.variants name (not_last name among) in
       first_is p.objects (get_or column i None) (least_of (flat_map (symbols_of p.objects) p.objects) name) (firsts.each i name there)
-      ∙ ap (λ e. function_type_of (entry_type e)) (sym (ap (λ es. first_entry es name) from ∙ first_entry_is p.objects name unmade)
+      ∙ ap (λ e. function_type_of (entry_type e)) (sym (ap (λ es. first_entry es name) from ∙ first_entry_is mode p.objects name unmade)
       ∙ sym (find-append (is_named name) p.entries p.variants ∙ ap (option_or (first_entry p.entries name)) none ∙ or_none (first_entry p.entries name)))
     where
       not_last : (name : List ℕ) → Is before name → list_any (bytes_eq name) (map name_of p.variants) ≡ false
@@ -266,7 +265,7 @@ module _ (names : List (List ℕ)) (p : rules.Program) (parts : List rules.Part)
           let here : slice_get types k ≡ Some (variant_type p.variants name) = let z : Some (slice_get types k) ≡ Some (Some (variant_type p.variants name)) = sym (ap (option_map (slice_get types)) at) ∙ typed_here in cc in
           (k, at, get_or_from_slice_get types k (variant_type p.variants name) no_type here ∙ same_type_of)
 
-  stub_type_is : (name : List ℕ) → list_any (bytes_eq name) names ≡ true → list_any (is_named name) (made_from 0 (made Plain)) ≡ false
+  stub_type_is : (name : List ℕ) → list_any (bytes_eq name) names ≡ true → list_any (is_named name) (made_from 0 (made mode)) ≡ false
       → stub_type lists (length names) (number_by bytes_eq names name) ≡ type_of p parts (stub name)
   stub_type_is name held unmade =
       let s = stands bytes_eq name_equal name_itself names name held in
@@ -291,7 +290,7 @@ module _ (names : List (List ℕ)) (p : rules.Program) (parts : List rules.Part)
           ∙ ap (λ k. stub_by lists i (slice_get variants k)) rest ∙ ap (stub_by lists i) v.1 ∙ v.2
 
   abbrev pub StubKnown : List ℕ → Type 0
-  StubKnown name = (list_any (bytes_eq name) names ≡ true) × (list_any (is_named name) (made_from 0 (made Plain)) ≡ false)
+  StubKnown name = (list_any (bytes_eq name) names ≡ true) × (list_any (is_named name) (made_from 0 (made mode)) ≡ false)
 
   pub stub_types_told : (xs : List (List ℕ)) → All StubKnown xs
       → map (stub_type lists (length names)) (map (number_by bytes_eq names) xs) ≡ map (type_of p parts) (map stub xs)

@@ -1,5 +1,5 @@
 -- Keys that a link knows: of them numbers as they are told are the numbers.
-use Rattle.std.specs.Prelude.{◌≡◌, ℕ, ◌==◌, Bool, true, false, List, bytes_eq}
+use Rattle.std.specs.Prelude.{◌≡◌, ℕ, ◌==◌, true, false, List, bytes_eq}
 use Rattle.std.specs.List.{list_any}
 use Rattle.link_keys.specs.link_program.name_rules.Entries.{ImportKey, same_import}
 use Rattle.link_keys.specs.link_program.link_rules.Keys.{FunctionKey, outside, linker_function, stub, own, GotKey, got_entry, got_import, got_null, GlobalKey, outside_global, linker_global, own_global, got, exported_datum}

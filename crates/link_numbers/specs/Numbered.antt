@@ -5,6 +5,7 @@ use Rattle.link_keys.specs.link_program.wl_base.declared.layout_error.LayoutErro
 use Rattle.link_keys.specs.link_program.wl_base.declared.layout_error.LayoutError.TheVariants.{Overflow, OutOfMemory}
 use Rattle.link_keys.specs.link_program.wasm_types.declared.function.FuncType.{FuncType}
 use Rattle.link_keys.specs.link_program.object_file.declared.object.Object.{Object}
+use Rattle.link_keys.specs.link_program.made_symbols.declared.mode.Mode.{Mode}
 use Rattle.link_keys.specs.link_program.name_rules.Entries.{InputSymbol, ImportKey}
 use Rattle.link_keys.specs.link_program.link_rules.Program as rules
 use Rattle.link_keys.specs.link_program.link_rules.Keys as keys
@@ -81,8 +82,9 @@ is_import_global (globals.Datum d) = false
 
 -- ---- what is linked
 
--- What the definition has of a link: the program, the exports, and the live parts.
+-- What the definition has of a link: the mode, the program, the exports, and the live parts.
 pub record Linked : Type 0 where
+  pub mode : Mode
   pub program : rules.Program
   pub exports : List InputSymbol
   pub parts : List rules.Part

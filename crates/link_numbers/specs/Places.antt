@@ -1,6 +1,6 @@
 -- The first places of codes.
 use Rattle.std.specs.Prelude.{◌≡◌, ℕ, Bool, List, Option, Some, None, position, if◌then◌else◌}
-use Rattle.indexmap.specs.IndexMap.{IndexMap, get}
+use Rattle.indexmap.specs.IndexMap.{get}
 use Rattle.link_keys.specs.Codes.{same_code}
 use Rattle.link_keys.specs.declared.codes.Code.{Code}
 use Rattle.link_numbers.specs.declared.places.Places.{Places}

@@ -3,7 +3,7 @@ ghost use Rattle.std.specs.Prelude.{◌≡◌, ◌+◌, ◌<◌, ◌^◌, List, 
 ghost use Rattle.link_keys.specs.link_program.index_layout.Numbers.{number_by};
 ghost use Rattle.link_keys.specs.link_program.name_entries.Fits.{FitsObjects, Fits};
 ghost use Rattle.link_keys.specs.link_program.table_layout.Slots.{table_overflow};
-ghost use Rattle.link_keys.specs.link_program.made_symbols.declared.mode.Mode.TheVariants as modes;
+ghost use Rattle.link_keys.specs.link_program.link_rules.ModeOf.{mode_of};
 ghost use Rattle.link_keys.specs.link_program.link_rules.Keys.{numbers};
 ghost use Rattle.link_keys.specs.link_program.Told.{told_winner};
 ghost use Rattle.link_keys.specs.link_program.Keys.{same_function_key};
@@ -14,30 +14,33 @@ ghost use Rattle.link_keys.specs.Codes.{global_code};
 ghost use Rattle.link_numbers.specs.Places.{ArePlaces};
 ghost use Rattle.link_keys.specs.Lists.{slots_listed};
 ghost use Rattle.link_keys.specs.Types.{type_number_in};
+ghost use Rattle.link_numbers.specs.Laws.{AreImported};
 ghost use Rattle.link_numbers.specs.Numbered.{Linked, IsNumbering, TellsOverflow, numbered_by, numbered};
 
 use crate::functions::FunctionNumbers;
 use crate::numbering::Numbering;
 use crate::places::Places;
+use crate::shared::shared_numbers;
 use link_keys::{
     Entries, FunctionKey, GlobalKey, Marks, Program, TypeNumbers, Winner, functions_listed,
     global_codes, globals_listed, marks_of, numbers_in, slots_taken, types_told,
 };
+use link_program::{Mode, mode_of};
 use std::alloc::Global;
 use std::thread::Threads;
 use wasm_types::FuncType;
 use wl_base::{LayoutError, OutOfMemory, Seq, What};
 use wl_fan::Workers;
 
-/// The number of the first slot; slot 0 stays empty.
+/// The number of the first slot of a plain output; slot 0 stays empty.
 const FIRST_SLOT: u32 = 1;
 
-/// Refuses more slots than a table can have.
-pub(crate) fn check_slots(count: usize) -> Result<(), LayoutError>
-    ensures end { TellsOverflow result (table_overflow 1 count) }
-    ensures few { IfOk result (λ _. 1 + count < 2 ^ 32) }
+/// Refuses more slots, from the first one on, than a table can have.
+pub(crate) fn check_slots(first: u32, count: usize) -> Result<(), LayoutError>
+    ensures end { TellsOverflow result (table_overflow first count) }
+    ensures few { IfOk result (λ _. first + count < 2 ^ 32) }
 {
-    let Some(end) = count.checked_add(1) else {
+    let Some(end) = (first as usize).checked_add(count) else {
         return Err(LayoutError::OutOfMemory);
     };
     if end > u32::MAX as usize {
@@ -79,17 +82,18 @@ fn places_of_globals(alloc: Global, keys: &[GlobalKey]) -> Result<Places, OutOfM
 #[tactic(auto, using(link_keys::proofs::Steps::longer))]
 pub(crate) fn numbering_of(
     alloc: Global,
+    first_slot: u32,
     functions: Vec<FunctionKey>,
     slots: Vec<FunctionKey>,
     globals: Vec<GlobalKey>,
     types: TypeNumbers,
     known: &[FuncType],
 ) -> Result<Numbering, OutOfMemory>
-    requires { 1 + length slots.items < 2 ^ 32 }
+    requires { first_slot + length slots.items < 2 ^ 32 }
     ensures { IfOk result (λ n. n ≡ record {
       functions = functions.items;
       slots = slots.items;
-      first_slot = 1;
+      first_slot = first_slot;
       globals = globals.items;
       types = types.table;
       function_types = types.numbers;
@@ -107,7 +111,7 @@ pub(crate) fn numbering_of(
         functions,
         slots,
         takers: Seq::from_vec(takers),
-        first_slot: FIRST_SLOT,
+        first_slot,
         globals: Seq::from_vec(globals),
         global_places,
         types: table,
@@ -118,17 +122,18 @@ pub(crate) fn numbering_of(
 }
 
 /// The functions that have slots, where a table can have so many.
-fn slots_of(
+pub(crate) fn slots_of(
     alloc: Global,
+    first: u32,
     marks: &Marks,
     functions: &[FunctionKey],
 ) -> Result<Vec<FunctionKey>, LayoutError>
     ensures slots { IfOk result (λ slots. slots.items ≡ slots_listed marks.now.taken functions.now) }
-    ensures few { IfOk result (λ slots. 1 + length slots.items < 2 ^ 32) }
-    ensures table { TellsOverflow result (table_overflow 1 (length (slots_listed marks.now.taken functions.now))) }
+    ensures few { IfOk result (λ slots. first + length slots.items < 2 ^ 32) }
+    ensures table { TellsOverflow result (table_overflow first (length (slots_listed marks.now.taken functions.now))) }
 {
     let slots = slots_taken(alloc, marks, functions)?;
-    check_slots(slots.len())?;
+    check_slots(first, slots.len())?;
     Ok(slots)
 }
 
@@ -150,15 +155,15 @@ fn numbers_marked(
         live.now marks.now).slots)) }
 {
     let functions = functions_listed(alloc, program, live, marks)?;
-    let slots = slots_of(alloc, marks, functions.as_slice())?;
+    let slots = slots_of(alloc, FIRST_SLOT, marks, functions.as_slice())?;
     let globals = globals_listed(alloc, program, live, exports, marks)?;
     let types = types_told(alloc, program, entries, live, marks)?;
     let known = program.tables.types.as_slice();
-    let numbering = numbering_of(alloc, functions, slots, globals, types, known)?;
+    let numbering = numbering_of(alloc, FIRST_SLOT, functions, slots, globals, types, known)?;
     Ok(numbering)
 }
 
-/// The numbers by what the data tell.
+/// The numbers of a plain output by what the data tell.
 fn numbers_told<R: Threads + Sync>(
     rt: &R,
     alloc: Global,
@@ -195,19 +200,23 @@ pub fn number<R: Threads + Sync>(
     workers: Workers,
 ) -> Result<Numbering, LayoutError>
     ghost link: { Linked }
-    requires fits { Fits modes.Plain entries }
+    requires mode { mode_of program.plan.now ≡ link.mode }
+    requires fits { Fits link.mode entries }
     requires objects { entries.objects.now ≡ program.objects.now }
     requires names { entries.names.now ≡ program.names.now }
-    requires is_program { IsProgramOf modes.Plain program link.program }
+    requires is_program { IsProgramOf link.mode program link.program }
     requires stand { PartsStand link.program }
     requires live { AreLive link.program live.now link.parts }
     requires meant { AllMeant link.parts }
     requires exports { exports.now ≡ map (told_winner program.names.now.names) link.exports }
     ensures numbers { IfOk result (λ n. IsNumbering program.entry.names.now.names program.entry.resolution.now.imports
-        program.entry.tables.now.types link.program link.parts n (numbers modes.Plain link.program link.parts link.exports)) }
-    ensures table { TellsOverflow result (table_overflow (numbers modes.Plain link.program link.parts link.exports).first_slot
-        (length (numbers modes.Plain link.program link.parts link.exports).slots)) }
+        program.entry.tables.now.types link.program link.parts n (numbers link.mode link.program link.parts link.exports)) }
+    ensures imported { IfOk result (λ _. AreImported link.mode program.entry.resolution.now.imports link.program link.parts) }
+    ensures table { TellsOverflow result (table_overflow (numbers link.mode link.program link.parts link.exports).first_slot
+        (length (numbers link.mode link.program link.parts link.exports).slots)) }
 {
-    let numbering = numbers_told(rt, alloc, program, entries, exports, live, workers)?;
-    Ok(numbering)
+    match mode_of(program.plan) {
+        Mode::Plain => numbers_told(rt, alloc, program, entries, exports, live, workers),
+        Mode::Shared => shared_numbers(rt, alloc, program, entries, exports, live, workers),
+    }
 }

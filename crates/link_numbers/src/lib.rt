@@ -6,6 +6,7 @@ mod giving;
 mod laws;
 mod numbering;
 mod places;
+mod shared;
 
 pub use giving::number;
 pub use laws::keys_are_told;

@@ -11,7 +11,8 @@ use Rattle.link_program.specs.wl_base.declared.layout_error.LayoutError.TheVaria
 use Rattle.link_program.specs.reloc_apply.declared.window.Window.{Window}
 use Rattle.link_program.specs.reloc_apply.declared.window.Patch.{Patch}
 use Rattle.link_program.specs.reloc_apply.declared.window.Patches.{Patches}
-use Rattle.link_program.specs.reloc_apply.Windows.{patches_of, value_overflow, patch_of, filled}
+use Rattle.link_program.specs.reloc_apply.Windows.{value_overflow, patch_of, filled}
+use Rattle.patch_pieces.specs.Judged.{judged_patches}
 use Rattle.link_program.specs.reloc_apply.Apart.{AreApart}
 use Rattle.link_program.specs.wl_base.Answers.{Answers}
 use Rattle.link_program.specs.image_emit.declared.tree.Image.{Image}
@@ -83,44 +84,51 @@ given_by (Some v) windows p e = absurd (differ e)
     differ : {p : Patches} {f : LayoutError} → (let r : Result Patches LayoutError = Err f in r ≡ Ok p) → ⊥
     differ e = subst Is e tt
 
-module _ (files : List (List ℕ)) (i : Image) (m : Measured) (wss : List (List Window)) (windows : List Window) (lie : LieIn files i) (measured : image_measure i ≡ Ok m)
-    (are : windows ≡ moved_windows m.places wss) (stand : StandInSources wss (sources (tree_of files i))) where
+module _ (files : List (List ℕ)) (i : Image) (m : Measured) (wss : List (List Window)) (windows written : List Window) where
   abbrev t : Tree
   t = tree_of files i
 
-  at : m.places ≡ source_places t
-  at = (measures files i (Ok m) lie measured refl).1
+  module _ (vss : List (List Window)) (lie : LieIn files i) (measured : image_measure i ≡ Ok m) (are : windows ≡ moved_windows m.places wss) (stand : StandInSources wss (sources t)) where
+    at : m.places ≡ source_places t
+    at = (measures files i (Ok m) lie measured refl).1
 
-  same_values : value_overflow windows ≡ value_overflow (flat_map (λ ws. ws) wss)
-  same_values = ap value_overflow are ∙ all_values m.places wss (ap length at ∙ as_many t wss stand)
+    same_values : value_overflow windows ≡ value_overflow (flat_map (λ ws. ws) wss)
+    same_values = ap value_overflow are ∙ all_values m.places wss (ap length at ∙ as_many t wss stand)
 
-  same_patches : map patch_of windows ≡ all_moved (source_places t) (map (map patch_of) wss)
-  same_patches = ap (map patch_of) are ∙ all_patches m.places wss ∙ ap (λ ks. all_moved ks (map (map patch_of) wss)) at
+    pub refuses : (f : LayoutError) → Answers {A = Patches} (Err f) (judged_patches windows written) → Writes (Err f) wss vss files i
+    refuses (Overflow what needed) e =
+        let both = told_by (value_overflow windows) written what needed e in
+        (both.0, sym same_values ∙ both.1)
+    refuses OutOfMemory e = tt
 
-  pub refuses : (f : LayoutError) → Answers (Err f) (patches_of windows) → Writes (Err f) wss files i
-  unfolding patches_of
-  refuses (Overflow what needed) e =
-      let both = told_by (value_overflow windows) windows what needed e in
-      (both.0, sym same_values ∙ both.1)
-  refuses OutOfMemory e = tt
+    in_range : (p : Patches) → judged_patches windows written ≡ Ok p → value_overflow (flat_map (λ ws. ws) wss) ≡ None
+    in_range p e = sym same_values ∙ (given_by (value_overflow windows) written p e).0
 
-  in_range : (p : Patches) → patches_of windows ≡ Ok p → value_overflow (flat_map (λ ws. ws) wss) ≡ None
-  unfolding patches_of
-  in_range p e = sym same_values ∙ (given_by (value_overflow windows) windows p e).0
+    module _ (same : written ≡ moved_windows m.places vss) (stand_written : StandInSources vss (sources t)) where
+      same_patches : map patch_of written ≡ all_moved (source_places t) (map (map patch_of) vss)
+      same_patches = ap (map patch_of) same ∙ all_patches m.places vss ∙ ap (λ ks. all_moved ks (map (map patch_of) vss)) at
 
-  patches_are : (p : Patches) → patches_of windows ≡ Ok p → p.patches ≡ all_moved (source_places t) (map (map patch_of) wss)
-  unfolding patches_of
-  patches_are p e = (given_by (value_overflow windows) windows p e).1 ∙ same_patches
+      patches_are : (p : Patches) → judged_patches windows written ≡ Ok p → p.patches ≡ all_moved (source_places t) (map (map patch_of) vss)
+      patches_are p e = (given_by (value_overflow windows) written p e).1 ∙ same_patches
 
-  pub apart : (ps : List Patch) → Answers (Ok (record { patches = ps })) (patches_of windows) → AreApart 0 (length (bytes_of (tree_of files i))) ps
-  apart ps e = subst (AreApart 0 (length (bytes_of t))) (sym (patches_are (record { patches = ps }) e)) (all_apart t wss stand)
+      pub lie_apart : (ps : List Patch) → judged_patches windows written ≡ Ok (record { patches = ps }) → AreApart 0 (length (bytes_of t)) ps
+      lie_apart ps e = subst (AreApart 0 (length (bytes_of t))) (sym (patches_are (record { patches = ps }) e)) (all_apart t vss stand_written)
 
-  written : (ps : List Patch) → patches_of windows ≡ Ok (record { patches = ps }) → filled ps (bytes_of (tree_of files i)) ≡ bytes_of (tree_filled (map (map patch_of) wss) (tree_of files i))
-  written ps e = ap (λ ps. filled ps (bytes_of t)) (patches_are (record { patches = ps }) e) ∙ fill_law (map (map patch_of) wss) t (all_lie t wss stand)
+      bytes_are : (ps : List Patch) → judged_patches windows written ≡ Ok (record { patches = ps }) → filled ps (bytes_of t) ≡ bytes_of (tree_filled (map (map patch_of) vss) t)
+      bytes_are ps e = ap (λ ps. filled ps (bytes_of t)) (patches_are (record { patches = ps }) e) ∙ fill_law (map (map patch_of) vss) t (all_lie t vss stand_written)
 
-  pub writes : (ps : List Patch) (bytes : List ℕ) → Answers (Ok (record { patches = ps })) (patches_of windows) → bytes ≡ filled ps (bytes_of (tree_of files i))
-      → (value_overflow (flat_map (λ ws. ws) wss) ≡ None) × (bytes ≡ bytes_of (tree_filled (map (map patch_of) wss) (tree_of files i)))
-  writes ps bytes e is = (in_range (record { patches = ps }) e, is ∙ written ps e)
+-- The judged windows are these, and the written ones those, each as much later as its source stands.
+module _ (files : List (List ℕ)) (i : Image) (m : Measured) (wss vss : List (List Window)) (windows written : List Window) (lie : LieIn files i) (measured : image_measure i ≡ Ok m)
+    (are : windows ≡ moved_windows m.places wss) (same : written ≡ moved_windows m.places vss) (stand : StandInSources wss (sources (tree_of files i))) (stand_written : StandInSources vss (sources (tree_of files i))) where
+  pub apart : (ps : List Patch) → judged_patches windows written ≡ Ok (record { patches = ps }) → AreApart 0 (length (bytes_of (tree_of files i))) ps
+  apart ps e = lie_apart files i m wss windows written vss lie measured are stand same stand_written ps e
+
+  pub writes : (ps : List Patch) (bytes : List ℕ) → judged_patches windows written ≡ Ok (record { patches = ps }) → bytes ≡ filled ps (bytes_of (tree_of files i))
+      → (value_overflow (flat_map (λ ws. ws) wss) ≡ None) × (bytes ≡ bytes_of (tree_filled (map (map patch_of) vss) (tree_of files i)))
+  writes ps bytes e is = (
+    in_range files i m wss windows written vss lie measured are stand (record { patches = ps }) e,
+    is ∙ bytes_are files i m wss windows written vss lie measured are stand same stand_written ps e,
+  )
 
 -- what was written over all of a buffer
 pub front_is : (n : ℕ) (xs items : List ℕ) → length xs ≡ n → take n (xs ++ drop (length xs) items) ≡ xs

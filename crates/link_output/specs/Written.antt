@@ -38,9 +38,10 @@ is_exact (Err OutOfMemory) = true
 abbrev pub StandInSources : List (List Window) → List (List ℕ) → Type 0
 StandInSources wss sources = AllZip (λ ws bytes. AreApart 0 (length bytes) (map patch_of ws)) wss sources
 
--- All values are in range, and the bytes are those of the image with each window written; or the first value that isn't is told.
-abbrev pub Writes : Result (List ℕ) LayoutError → List (List Window) → List (List ℕ) → Image → Type 0
-Writes (Ok bytes) wss files i =
-    (value_overflow (flat_map (λ ws. ws) wss) ≡ None) × (bytes ≡ bytes_of (tree_filled (map (map patch_of) wss) (tree_of files i)))
-Writes (Err (Overflow what needed)) wss files i = (what ≡ Reference) × (value_overflow (flat_map (λ ws. ws) wss) ≡ Some needed)
-Writes (Err OutOfMemory) wss files i = Unit {0}
+-- All values of the first windows are in range, and the bytes are those of the image with each of the second ones written; or the first
+-- value that isn't in range is told.
+abbrev pub Writes : Result (List ℕ) LayoutError → List (List Window) → List (List Window) → List (List ℕ) → Image → Type 0
+Writes (Ok bytes) wss vss files i =
+    (value_overflow (flat_map (λ ws. ws) wss) ≡ None) × (bytes ≡ bytes_of (tree_filled (map (map patch_of) vss) (tree_of files i)))
+Writes (Err (Overflow what needed)) wss vss files i = (what ≡ Reference) × (value_overflow (flat_map (λ ws. ws) wss) ≡ Some needed)
+Writes (Err OutOfMemory) wss vss files i = Unit {0}

@@ -1,5 +1,5 @@
 -- When the data are those of a program.
-use Rattle.std.specs.Prelude.{◌≡◌, ℕ, ◌-◌, ◌<◌, ◌^◌, ◌++◌, false, List, length, map, slice_get, Some, All, bytes_eq}
+use Rattle.std.specs.Prelude.{◌≡◌, ℕ, ◌-◌, ◌<◌, ◌^◌, ◌++◌, false, List, length, map, slice_get, None, Some, All, bytes_eq}
 use Rattle.std.specs.List.{list_any}
 use Rattle.name_meanings.specs.name_entries.wl_base.Choice.{distinct}
 use Rattle.name_meanings.specs.name_entries.wasm_types.declared.function.FuncType.{FuncType}
@@ -8,7 +8,7 @@ use Rattle.name_meanings.specs.name_entries.link_names.Numbered.{AreNumbers, dif
 use Rattle.link_rules.specs.round_rules.Rounds.{Candidate}
 use Rattle.name_meanings.specs.name_entries.name_rules.Entries.{InputSymbol, ImportKey, entries, name_of}
 use Rattle.name_meanings.specs.name_entries.name_rules.Meanings.{resolve}
-use Rattle.name_meanings.specs.name_entries.name_rules.Cases.{first_entry}
+use Rattle.name_meanings.specs.name_entries.name_rules.Cases.{first_entry, clash_by}
 use Rattle.name_meanings.specs.name_entries.made_symbols.declared.mode.Mode.{Mode}
 use Rattle.name_meanings.specs.name_entries.View.{InputsRise, WinnersAre}
 use Rattle.name_meanings.specs.Means.{IsResolution}
@@ -55,6 +55,7 @@ pub record IsProgramOf (mode : Mode) (d : Program) (p : rules.Program) : Type 0 
   pub objects : d.objects.now ≡ p.objects
   pub rise : InputsRise 0 p.objects
   pub entries : p.entries ≡ entries mode p.objects
+  pub unclashed : clash_by p.plan.loose_calls p.entries ≡ None
   pub winners_are : p.winners ≡ winners_of p.entries
   pub resolved : p.resolved ≡ resolve mode p.plan.allow_undefined p.entries p.objects
   pub parts_are : (all : List Candidate) × (p.parts ≡ loose_parts p.plan.loose_calls p.entries (parts_of mode all p.objects p.resolved))

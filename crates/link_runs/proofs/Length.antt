@@ -76,7 +76,7 @@ pub short : (p : Program) (exports : List InputSymbol) → PartsStand p → outp
     → IsU32 (length (bytes_of (linked_tree p (live p exports) exports (layout_of p exports))))
 short p exports stand e =
     let v = lives p exports in
-    let s = windows_stand p v.0 (live p exports) exports stand v.1 in
+    let s = windows_stand Plain p v.0 (live p exports) exports stand v.1 in
     let k = same_long (tree_of p.files (image Plain p (live p exports) exports (layout_of p exports))) (source_windows Plain p (live p exports) exports (layout_of p exports)) s in
     let t = tree_short p exports e in
     omega (arith, k, t)

@@ -1,12 +1,12 @@
 -- Items without a fault are whole.
-use Rattle.std.proofs.Common.{◌≡◌, ◌<◌, ◌&&◌, ℕ, Bool, true, false, not, List, ◌∷◌, length, nat_lt, is_some, Option, Some, None, IsSome, IsNone, IsTrue, refl, sym, ap, subst, ◌∙◌, arith}
+use Rattle.std.proofs.Common.{◌≡◌, ◌<◌, ◌&&◌, ◌||◌, ℕ, Bool, true, false, not, List, ◌∷◌, length, nat_lt, is_some, Option, Some, None, IsSome, IsNone, IsTrue, refl, sym, ap, subst, ◌∙◌, arith}
 use Rattle.std.proofs.lemmas.Bool.Decides.{nat_tests}
 use Rattle.std.specs.Option.{option_map}
 use Rattle.wl_base.specs.Choice.{first_some, given}
 use Rattle.wl_base.specs.declared.usage.Usage.{Usage}
 use Rattle.wl_base.specs.declared.usage.Usage.TheVariants.{OpenGroup, CaseAndInput, NoInput, NoOutput, PartialClash}
 use Rattle.link_plan.specs.declared.plan.Plan.{Plan}
-use Rattle.link_words.specs.declared.kind.Kind.TheVariants.{Input, Output, Partial}
+use Rattle.link_words.specs.declared.kind.Kind.TheVariants.{Input, Output, Partial, Shared}
 use Rattle.link_words.specs.Items.{Said}
 use Rattle.link_words.specs.Fields.{has, text, open_group, case, inputs}
 use Rattle.link_words.specs.Faults.{first_fault, group_fault}
@@ -38,9 +38,9 @@ named (Some k) t e none = cc
 named None (Some name) e _ = refl
 named None None e _ = cc
 
-not_partial : (o : Option ℕ) (b : Bool) → (is_some o && b) ≡ false → IsTrue b → IsNone o
-not_partial None b e _ = refl
-not_partial (Some k) b e partial = cc
+not_partial : (o : Option ℕ) (shared b : Bool) → ((is_some o || shared) && b) ≡ false → IsTrue b → IsNone o
+not_partial None shared b e _ = refl
+not_partial (Some k) shared b e partial = cc
 
 -- a generated case stands alone and isn't partial, and other items have inputs and an output
 record AreWhole (items : List Said) : Type 0 where
@@ -61,12 +61,12 @@ whole items stop e =
     let both = not_given (is_some (case items) && has Input items) CaseAndInput (head_none _ _ e₃) in
     let neither = not_given (not (is_some (case items)) && not (has Input items)) NoInput (head_none _ _ e₄) in
     let no_output = not_given (not (is_some (case items)) && not (is_some (text Output items))) NoOutput (head_none _ _ e₅) in
-    let no_case = not_given (is_some (case items) && has Partial items) PartialClash (head_none _ _ e₆) in
+    let no_case = not_given ((is_some (case items) || has Shared items) && has Partial items) PartialClash (head_none _ _ e₆) in
     record {
       alone = alone (case items) (length (inputs items)) (ap (λ b. is_some (case items) && b) (some_input items) ∙ both);
       input = some (case items) (length (inputs items)) (ap (λ b. not (is_some (case items)) && not b) (some_input items) ∙ neither);
       output = named (case items) (text Output items) no_output;
-      partial = not_partial (case items) (has Partial items) no_case;
+      partial = not_partial (case items) (has Shared items) (has Partial items) no_case;
     }
 
 -- so is their plan

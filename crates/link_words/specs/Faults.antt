@@ -4,7 +4,7 @@ use Rattle.std.specs.Option.{option_map}
 use Rattle.wl_base.specs.Choice.{first_some, given}
 use Rattle.wl_base.specs.declared.usage.Usage.{Usage}
 use Rattle.wl_base.specs.declared.usage.Usage.TheVariants.{OpenGroup, CaseAndInput, NoInput, NoOutput, PartialClash}
-use Rattle.link_words.specs.declared.kind.Kind.TheVariants.{Input, Output, StartLib, EndLib, Partial}
+use Rattle.link_words.specs.declared.kind.Kind.TheVariants.{Input, Output, StartLib, EndLib, Partial, Shared}
 use Rattle.link_words.specs.Kinds.{same}
 use Rattle.link_words.specs.Items.{Said}
 use Rattle.link_words.specs.Cut.{Cutting}
@@ -26,5 +26,5 @@ first_fault c = first_some (
     ∷ given (is_some (case c.0) && has Input c.0) CaseAndInput
     ∷ given (not (is_some (case c.0)) && not (has Input c.0)) NoInput
     ∷ given (not (is_some (case c.0)) && not (is_some (text Output c.0))) NoOutput
-    ∷ given (is_some (case c.0) && has Partial c.0) PartialClash
+    ∷ given ((is_some (case c.0) || has Shared c.0) && has Partial c.0) PartialClash
     ∷ [])

@@ -1,11 +1,11 @@
 -- What items say together: each field of the plan is a filter of the items.
-use Rattle.std.specs.Prelude.{ℕ, Bool, true, false, List, [], ◌∷◌, ◌++◌, codes, if◌then◌else◌, fold, unwrap_or, is_some, Option, Some, None}
+use Rattle.std.specs.Prelude.{ℕ, Bool, true, false, List, [], ◌∷◌, ◌++◌, codes, if◌then◌else◌, fold, unwrap_or, is_some, not, ◌&&◌, ◌||◌, Option, Some, None}
 use Rattle.std.specs.List.{list_any, filter_map}
 use Rattle.std.specs.Option.{option_or}
 use Rattle.wl_base.specs.Choice.{given}
 use Rattle.link_plan.specs.declared.plan.InputWord.{InputWord}
 use Rattle.link_words.specs.declared.kind.Kind.{Kind}
-use Rattle.link_words.specs.declared.kind.Kind.TheVariants.{Input, Entry, NoEntry, Export, ExportTable, WholeArchive, NoWholeArchive, StartLib, EndLib, MakeCase}
+use Rattle.link_words.specs.declared.kind.Kind.TheVariants.{Input, Entry, NoEntry, Export, ExportTable, WholeArchive, NoWholeArchive, StartLib, EndLib, MakeCase, KeepDebug, Shared}
 use Rattle.link_words.specs.declared.range.Range.{Range}
 use Rattle.link_words.specs.declared.range.Range.TheVariants.{Cases}
 use Rattle.link_words.specs.Kinds.{same}
@@ -65,9 +65,13 @@ inputs items = inputs_from false false items
 abbrev pub entry : Option (List ℕ) → List Said → Option (List ℕ)
 entry usual items = latest (λ said. option_or (saying Entry (λ s. Some s.value) said) (saying NoEntry (λ _. None) said)) usual items
 
--- a generated case is as if `--no-entry` stood before the first word
+-- a generated case and a shared output are as if `--no-entry` stood before the first word
 abbrev pub usual_entry : List Said → Option (List ℕ)
-usual_entry items = if is_some (case items) then None else Some (codes "_start")
+usual_entry items = if is_some (case items) || has Shared items then None else Some (codes "_start")
+
+-- debug sections are kept where a word asks for them, but none yet in a shared output
+abbrev pub keeps_debug : List Said → Bool
+keeps_debug items = has KeepDebug items && not (has Shared items)
 
 -- the name that an item exports
 abbrev pub exported : Said → Option (List ℕ)

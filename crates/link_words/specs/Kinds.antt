@@ -1,7 +1,7 @@
 -- Kinds, told apart by their numbers.
 use Rattle.std.specs.Prelude.{ℕ, Bool, ◌==◌}
 use Rattle.link_words.specs.declared.kind.Kind.{Kind}
-use Rattle.link_words.specs.declared.kind.Kind.TheVariants.{Input, OnlyInputs, Output, Entry, NoEntry, Export, ExportTable, ExportIfDefined, ExportDynamic, AllowUndefined, Wanted, GlobalBase, StackFirst, StackSize, InitialMemory, MaxMemory, ImportMemory, GcSections, NoGcSections, WholeArchive, NoWholeArchive, StartLib, EndLib, Threads, MakeCase, Validate, KeepDebug, Partial, Accepted}
+use Rattle.link_words.specs.declared.kind.Kind.TheVariants.{Input, OnlyInputs, Output, Entry, NoEntry, Export, ExportTable, ExportIfDefined, ExportDynamic, AllowUndefined, Wanted, GlobalBase, StackFirst, StackSize, InitialMemory, MaxMemory, ImportMemory, GcSections, NoGcSections, WholeArchive, NoWholeArchive, StartLib, EndLib, Threads, MakeCase, Validate, KeepDebug, Partial, Shared, Accepted}
 
 abbrev pub code : Kind → ℕ
 code Input = 0
@@ -32,7 +32,8 @@ code MakeCase = 24
 code Validate = 25
 code KeepDebug = 26
 code Partial = 27
-code Accepted = 28
+code Shared = 28
+code Accepted = 29
 
 -- whether two kinds are one
 abbrev pub same : Kind → Kind → Bool

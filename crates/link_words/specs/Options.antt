@@ -3,7 +3,7 @@ use Rattle.std.specs.Prelude.{ℕ, List, [], ◌∷◌, codes, if◌then◌else�
 use Rattle.std.specs.Str.{bytes_eq}
 use Rattle.link_words.specs.declared.range.Range.TheVariants.{Address, Memory, Workers, Cases}
 use Rattle.link_words.specs.declared.kind.Kind.{Kind}
-use Rattle.link_words.specs.declared.kind.Kind.TheVariants.{Output, Entry, NoEntry, Export, ExportTable, ExportIfDefined, ExportDynamic, AllowUndefined, Wanted, GlobalBase, StackFirst, StackSize, InitialMemory, MaxMemory, ImportMemory, GcSections, NoGcSections, WholeArchive, NoWholeArchive, StartLib, EndLib, Threads, MakeCase, Validate, KeepDebug, Partial, Accepted}
+use Rattle.link_words.specs.declared.kind.Kind.TheVariants.{Output, Entry, NoEntry, Export, ExportTable, ExportIfDefined, ExportDynamic, AllowUndefined, Wanted, GlobalBase, StackFirst, StackSize, InitialMemory, MaxMemory, ImportMemory, GcSections, NoGcSections, WholeArchive, NoWholeArchive, StartLib, EndLib, Threads, MakeCase, Validate, KeepDebug, Partial, Shared, Accepted}
 use Rattle.link_words.specs.declared.options.Form.TheVariants.{Text, Machine, Number}
 use Rattle.link_words.specs.declared.options.Form.TheVariants as forms
 use Rattle.link_words.specs.declared.options.Takes.{Takes}
@@ -42,6 +42,7 @@ options =
     ∷ row (codes "--validate") Validate Nothing
     ∷ row (codes "--keep-debug") KeepDebug Nothing
     ∷ row (codes "-r") Partial Nothing
+    ∷ row (codes "-shared") Shared Nothing
     ∷ row (codes "-m") Accepted (Next Machine)
     ∷ row (codes "-s") Accepted Nothing
     ∷ row (codes "-S") Accepted Nothing

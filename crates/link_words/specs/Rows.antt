@@ -87,6 +87,11 @@ partial_case_and_input : plan_of (codes "--make-case=2" ∷ codes "-r" ∷ codes
 unfolding plan_of first_fault
 partial_case_and_input = refl
 
+-- nor is a shared output one
+shared_and_partial : plan_of (codes "a.o" ∷ codes "-o" ∷ codes "r" ∷ codes "-r" ∷ codes "-shared" ∷ []) ≡ Err PartialClash
+unfolding plan_of first_fault
+shared_and_partial = refl
+
 -- `-r` takes no value, and asks for an input and an output as any link does
 partial_without_output : plan_of (codes "a.o" ∷ codes "-r" ∷ []) ≡ Err NoOutput
 unfolding plan_of first_fault
@@ -134,6 +139,36 @@ partial : plan_of (codes "-r" ∷ codes "a.o" ∷ codes "b.o" ∷ codes "--valid
     })
 unfolding plan_of plan_from first_fault
 partial = refl
+
+-- a plan of a shared output: it has no entry but a given one, and no debug sections
+shared : plan_of (codes "a.o" ∷ codes "-o" ∷ codes "out" ∷ codes "-shared" ∷ codes "--export=d" ∷ codes "--keep-debug" ∷ [])
+    ≡ Ok (record {
+      inputs = record { place = 0; lazy = false; whole = false } ∷ [];
+      output = Some (codes "out");
+      entry = None;
+      exports = codes "d" ∷ [];
+      exports_if = [];
+      wanted = [];
+      export_dynamic = false;
+      allow_undefined = false;
+      import_memory = false;
+      gc = true;
+      stack_first = false;
+      global_base = None;
+      stack_size = 65536;
+      initial_memory = 0;
+      max_memory = None;
+      threads = 4;
+      make_case = None;
+      shared = true;
+      partial = false;
+      validate = false;
+      keep_debug = false;
+      like_lld = false;
+      loose_calls = false;
+    })
+unfolding plan_of plan_from first_fault
+shared = refl
 
 -- a plan of a generated case: it has no entry, its first function is exported, and its output is checked
 case : plan_of (codes "--export=g" ∷ codes "-z" ∷ codes "stack-size=0x20" ∷ codes "--no-gc-sections" ∷ codes "--validate" ∷ codes "--make-case=2" ∷ codes "--export-table" ∷ [])

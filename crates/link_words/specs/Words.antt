@@ -5,11 +5,11 @@ use Rattle.wl_base.specs.declared.usage.Usage.{Usage}
 use Rattle.link_plan.specs.declared.plan.Plan.{Plan}
 use Rattle.link_words.specs.declared.error.WordError.{WordError}
 use Rattle.link_words.specs.declared.error.WordError.TheVariants as errors
-use Rattle.link_words.specs.declared.kind.Kind.TheVariants.{Output, ExportIfDefined, ExportDynamic, AllowUndefined, Wanted, GlobalBase, StackFirst, StackSize, InitialMemory, MaxMemory, ImportMemory, GcSections, NoGcSections, Threads, Validate, KeepDebug, Partial}
+use Rattle.link_words.specs.declared.kind.Kind.TheVariants.{Output, ExportIfDefined, ExportDynamic, AllowUndefined, Wanted, GlobalBase, StackFirst, StackSize, InitialMemory, MaxMemory, ImportMemory, GcSections, NoGcSections, Threads, Validate, Partial, Shared}
 use Rattle.link_words.specs.declared.range.Range.TheVariants.{Address, Stack, Memory, Workers}
 use Rattle.link_words.specs.Items.{Said}
 use Rattle.link_words.specs.Cut.{cut_of}
-use Rattle.link_words.specs.Fields.{inputs, text, entry, usual_entry, all_exports, texts, has, latest, switch, numeral, case}
+use Rattle.link_words.specs.Fields.{inputs, text, entry, usual_entry, all_exports, keeps_debug, texts, has, latest, switch, numeral, case}
 use Rattle.link_words.specs.Faults.{first_fault}
 
 -- what the items say together
@@ -32,10 +32,10 @@ plan_from items = record {
   max_memory = numeral MaxMemory Memory items;
   threads = unwrap_or (numeral Threads Workers items) 4;
   make_case = case items;
-  shared = false;
+  shared = has Shared items;
   partial = has Partial items;
   validate = has Validate items;
-  keep_debug = has KeepDebug items;
+  keep_debug = keeps_debug items;
   like_lld = false;
   loose_calls = false;
 }

@@ -32,7 +32,7 @@ pub fn first_fault(items: &[Item<'_>], stop: Option<Usage>) -> Option<Usage>
     if !generated && text(items, Kind::Output).is_none() {
         return Some(Usage::NoOutput);
     }
-    if generated && has(items, Kind::Partial) {
+    if (generated || has(items, Kind::Shared)) && has(items, Kind::Partial) {
         return Some(Usage::PartialClash);
     }
     None

@@ -61,6 +61,8 @@ pub enum Kind {
     KeepDebug,
     /// `-r`.
     Partial,
+    /// `-shared`.
+    Shared,
     /// `-m wasm32` and the options to strip, which have no effect.
     Accepted,
 }

@@ -77,6 +77,7 @@ pub fn option_of(word: &str) -> Option<Rule>
         "--validate" => found(Kind::Validate, Takes::Nothing),
         "--keep-debug" => found(Kind::KeepDebug, Takes::Nothing),
         "-r" => found(Kind::Partial, Takes::Nothing),
+        "-shared" => found(Kind::Shared, Takes::Nothing),
         "-m" => found(Kind::Accepted, Takes::Next(Form::Machine)),
         "-s" => found(Kind::Accepted, Takes::Nothing),
         "-S" => found(Kind::Accepted, Takes::Nothing),

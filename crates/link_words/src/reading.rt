@@ -9,8 +9,8 @@ use crate::WordError;
 use crate::cut::cut_words;
 use crate::faults::first_fault;
 use crate::fields::{
-    add_exports, case, entry, has, initial_memory, inputs, is_on, names, numeral, small_numeral,
-    stack_size, text, threads,
+    add_exports, case, entry, has, initial_memory, inputs, is_on, keeps_debug, names, numeral,
+    small_numeral, stack_size, text, threads,
 };
 use crate::item::Item;
 use crate::kind::Kind;
@@ -71,10 +71,10 @@ fn plan(alloc: Global, items: &[Item<'_>]) -> Result<Plan, OutOfMemory>
         max_memory: numeral(items, Kind::MaxMemory, Range::Memory),
         threads: threads(items),
         make_case: case(items),
-        shared: false,
+        shared: has(items, Kind::Shared),
         partial: has(items, Kind::Partial),
         validate: has(items, Kind::Validate),
-        keep_debug: has(items, Kind::KeepDebug),
+        keep_debug: keeps_debug(items),
         like_lld: false,
         loose_calls: false,
     })
@@ -89,11 +89,11 @@ fn own_text(alloc: Global, text: Option<&str>) -> Result<Option<Text>, OutOfMemo
     }
 }
 
-// The entry function; a generated case has none where no word tells.
+// The entry function; a generated case and a shared output have none where no word tells.
 fn entry_name(alloc: Global, items: &[Item<'_>]) -> Result<Option<Name>, OutOfMemory>
     ensures { IfOk result (λ name. name ≡ entry_of (usual_entry items.now) items.now) }
 {
-    let usual = if case(items).is_some() {
+    let usual = if case(items).is_some() || has(items, Kind::Shared) {
         None
     } else {
         Some("_start")

@@ -4,6 +4,7 @@ use Rattle.std.specs.Prelude.{map, flat_map, if◌then◌else◌, slice_get, opt
 use Rattle.std.proofs.lemmas.Grind.{flat_map-append}
 use Rattle.std.proofs.lemmas.Option.{get_or_from_slice_get, slice_get-map}
 use Rattle.program_tables.specs.link_program.object_file.declared.object.Object.{Object}
+use Rattle.program_tables.specs.link_program.made_symbols.declared.mode.Mode.{Mode}
 use Rattle.program_tables.specs.link_program.name_entries.View.{rows_of}
 use Rattle.program_tables.specs.Loose.{all_symbols, loosens}
 use Rattle.program_tables.proofs.Lists.{at_take}
@@ -120,8 +121,8 @@ flat_one f xs i x at = ap (flat_map f) (at_take xs i x at) ∙ flat_map-append f
 pub row_at_place : (objects : List Object) (i : ℕ) (o : Object) → slice_get objects i ≡ Some o → get_or (rows_of objects) i [] ≡ symbols_of objects o
 row_at_place objects i o at = get_or_from_slice_get (rows_of objects) i (symbols_of objects o) [] (slice_get-map (symbols_of objects) objects i ∙ ap (option_map (symbols_of objects)) at)
 
-pub are_calls : (allow : Bool) (objects : List Object) (count : ℕ) (c : Calls) → count ≡ length (all_symbols objects)
-    → Grows (loosens true allow objects) count (all_symbols objects) (record { called = []; variants = [] }) c → AreCalls allow objects c
-are_calls allow objects count c is g =
+pub are_calls : (mode : Mode) (allow : Bool) (objects : List Object) (count : ℕ) (c : Calls) → count ≡ length (all_symbols objects)
+    → Grows (loosens mode true allow objects) count (all_symbols objects) (record { called = []; variants = [] }) c → AreCalls mode allow objects c
+are_calls mode allow objects count c is g =
     let z : count + 0 ≡ length (all_symbols objects) = omega (arith, is) in
-    record { called = g.called ∙ ap (λ n. called_onto (loosens true allow objects) n 0 (all_symbols objects)) z; variants = g.variants }
+    record { called = g.called ∙ ap (λ n. called_onto (loosens mode true allow objects) n 0 (all_symbols objects)) z; variants = g.variants }

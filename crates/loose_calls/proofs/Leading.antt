@@ -6,7 +6,7 @@ use Rattle.program_tables.specs.link_program.linking_section.declared.symbol.Sym
 use Rattle.program_tables.specs.link_program.linking_section.declared.symbol.SymbolKind.TheVariants.{Function, Datum, GlobalVar, Section, Table}
 use Rattle.program_tables.specs.link_program.object_file.declared.object.Object.{Object}
 use Rattle.program_tables.specs.link_program.object_file.Spaces.{no_type}
-use Rattle.program_tables.specs.link_program.made_symbols.declared.mode.Mode.TheVariants.{Plain}
+use Rattle.program_tables.specs.link_program.made_symbols.declared.mode.Mode.{Mode}
 use Rattle.program_tables.specs.link_program.made_symbols.Made.{MadeSymbol, made_at}
 use Rattle.program_tables.specs.link_program.name_rules.declared.meaning.Meaning.{Meaning as Answer}
 use Rattle.program_tables.specs.link_program.name_rules.declared.meaning.Meaning.TheVariants.{Here, Made, Import, Null, Nothing}
@@ -46,14 +46,14 @@ definition_in leads.Nothing = no_definition
 
 -- ---- a definition of an object
 
-here_leads : (objects : List Object) (input place : ℕ) (d : InputSymbol) → InputsRise 0 objects → Stands objects d → definition_of objects input place ≡ told_definition d
-    → IsThere objects (Here input place) → LeadsTo objects (Here input place) d
-here_leads objects input place d rise stands is (i, o, at, of, some) =
+here_leads : (mode : Mode) (objects : List Object) (input place : ℕ) (d : InputSymbol) → InputsRise 0 objects → Stands mode objects d → definition_of objects input place ≡ told_definition d
+    → IsThere mode objects (Here input place) → LeadsTo objects (Here input place) d
+here_leads mode objects input place d rise stands is (i, o, at, of, some) =
     let (x, found) = an_entry (entry_at objects i place) some in
     let there : symbol_of objects input place ≡ Some x = ap (λ n. symbol_of objects n place) (sym of) ∙ symbol_found objects i place o x rise at found in
     let same : told_definition x ≡ told_definition d = sym (ap (λ s. unwrap_or (option_map told_definition s) no_definition) there) ∙ is in
     let one : x ≡ d =
-    one_entry objects x d rise (inr (of_object objects i place x found)) stands (ap (λ (t : Definition). t.input) same) (ap (λ (t : Definition). t.place) same) in
+    one_entry mode objects x d rise (inr (of_object objects i place x found)) stands (ap (λ (t : Definition). t.input) same) (ap (λ (t : Definition). t.place) same) in
     let from = of_object objects i place x found in
     let input_is : x.input ≡ input = ap (λ (y : InputSymbol). y.input) (entry_is objects i place o x at found).is ∙ of in
     (ap (λ (y : InputSymbol). y.input) (sym one) ∙ input_is, there ∙ ap Some one)
@@ -67,31 +67,31 @@ made_of place m GlobalVar = refl
 made_of place m Section = refl
 made_of place m Table = refl
 
-made_leads : (objects : List Object) (number : ℕ) (d : InputSymbol) → InputsRise 0 objects → Stands objects d → made_definition number ≡ told_definition d → LeadsTo objects (Made number) d
-made_leads objects number d rise (inl a) is =
-    let m : MadeSymbol = made_at Plain d.place in
+made_leads : (mode : Mode) (objects : List Object) (number : ℕ) (d : InputSymbol) → InputsRise 0 objects → Stands mode objects d → made_definition mode number ≡ told_definition d → LeadsTo objects (Made number) d
+made_leads mode objects number d rise (inl a) is =
+    let m : MadeSymbol = made_at mode d.place in
     (ap (λ (x : InputSymbol). x.input) a.is, ap (λ (x : InputSymbol). function_type_of x.type) a.is ∙ made_of d.place m m.kind)
-made_leads objects number d rise (inr a) is =
+made_leads mode objects number d rise (inr a) is =
     let some = no_input objects d rise a in
     let none : 0 ≡ d.input = ap (λ (t : Definition). t.input) is in
     absurd (omega (arith, some, none))
 
 -- ---- an answer
 
-leads_by : (objects : List Object) (imports : List ImportKey) (answer : Answer) (d : InputSymbol) → InputsRise 0 objects → Stands objects d
-    → lead_from objects answer ≡ told_lead imports (here d) → IsThere objects answer → LeadsTo objects answer d
+leads_by : (mode : Mode) (objects : List Object) (imports : List ImportKey) (answer : Answer) (d : InputSymbol) → InputsRise 0 objects → Stands mode objects d
+    → lead_from mode objects answer ≡ told_lead imports (here d) → IsThere mode objects answer → LeadsTo objects answer d
 unfolding definition_in
-leads_by objects imports (Here input place) d rise stands lead there = here_leads objects input place d rise stands (ap definition_in lead) there
-leads_by objects imports (Made number) d rise stands lead there = made_leads objects number d rise stands (ap definition_in lead)
-leads_by objects imports (Import number) d rise stands lead there = absurd cc
-leads_by objects imports Null d rise stands lead there = absurd cc
-leads_by objects imports Nothing d rise stands lead there = absurd cc
+leads_by mode objects imports (Here input place) d rise stands lead there = here_leads mode objects input place d rise stands (ap definition_in lead) there
+leads_by mode objects imports (Made number) d rise stands lead there = made_leads mode objects number d rise stands (ap definition_in lead)
+leads_by mode objects imports (Import number) d rise stands lead there = absurd cc
+leads_by mode objects imports Null d rise stands lead there = absurd cc
+leads_by mode objects imports Nothing d rise stands lead there = absurd cc
 
-pub answer_leads : (objects : List Object) (allow : Bool) (r : Answers) (i k : ℕ) (e d : InputSymbol) (answer : Answer) → InputsRise 0 objects → entry_at objects i k ≡ Some e
-    → (a : Answered objects r (meant allow objects e) e) → a.answer ≡ answer → meant allow objects e ≡ here d → LeadsTo objects answer d
-answer_leads objects allow r i k e d answer rise at a is means =
-    let stands : Stands objects d = subst (MeansThere objects) means (meaning_stands objects allow e (of_object objects i k e at)) in
-    subst (λ x. LeadsTo objects x d) is (leads_by objects r.imports a.answer d rise stands (a.leads.lead ∙ ap (told_lead r.imports) means) a.leads.there)
+pub answer_leads : (mode : Mode) (objects : List Object) (allow : Bool) (r : Answers) (i k : ℕ) (e d : InputSymbol) (answer : Answer) → InputsRise 0 objects → entry_at objects i k ≡ Some e
+    → (a : Answered mode objects r (meant mode allow objects e) e) → a.answer ≡ answer → meant mode allow objects e ≡ here d → LeadsTo objects answer d
+answer_leads mode objects allow r i k e d answer rise at a is means =
+    let stands : Stands mode objects d = subst (MeansThere mode objects) means (meaning_stands mode objects allow e (of_object objects i k e at)) in
+    subst (λ x. LeadsTo objects x d) is (leads_by mode objects r.imports a.answer d rise stands (a.leads.lead ∙ ap (told_lead r.imports) means) a.leads.there)
 
 -- ---- what is there
 

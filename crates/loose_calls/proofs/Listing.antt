@@ -5,7 +5,7 @@ use Rattle.std.specs.List.{list_any, cons_option}
 use Rattle.std.proofs.lemmas.List.Elements.{filter_map-append}
 use Rattle.program_tables.specs.link_program.wl_base.Choice.{given, distinct, distinct_onto}
 use Rattle.program_tables.specs.link_program.object_file.declared.object.Object.{Object}
-use Rattle.program_tables.specs.link_program.made_symbols.declared.mode.Mode.TheVariants.{Plain}
+use Rattle.program_tables.specs.link_program.made_symbols.declared.mode.Mode.{Mode}
 use Rattle.program_tables.specs.link_program.name_rules.Entries.{InputSymbol, entries, symbols_of}
 use Rattle.program_tables.specs.link_program.name_rules.Cases.{has_other_type}
 use Rattle.program_tables.specs.link_program.name_rules.Meanings.{Meaning, here, imported, null, nothing, Resolved, resolve}
@@ -42,37 +42,37 @@ told_not all e nothing so = refl
 
 -- ---- symbols in turn
 
-module _ (allow : Bool) (objects : List Object) where
-  pub of_one : (e : InputSymbol) (o : Option Mismatch) → mismatch_by (entries Plain objects) e (meant allow objects e) ≡ o → told_of allow objects (e ∷ []) ≡ cons_option o []
+module _ (mode : Mode) (allow : Bool) (objects : List Object) where
+  pub of_one : (e : InputSymbol) (o : Option Mismatch) → mismatch_by (entries mode objects) e (meant mode allow objects e) ≡ o → told_of mode allow objects (e ∷ []) ≡ cons_option o []
   of_one e o is = ap (λ o. cons_option o []) is
 
-  pub of_more : (xs ys : List InputSymbol) (old now new : List Mismatch) → now ≡ distinct_onto same_call old (told_of allow objects xs)
-      → new ≡ distinct_onto same_call now (told_of allow objects ys) → new ≡ distinct_onto same_call old (told_of allow objects (xs ++ ys))
+  pub of_more : (xs ys : List InputSymbol) (old now new : List Mismatch) → now ≡ distinct_onto same_call old (told_of mode allow objects xs)
+      → new ≡ distinct_onto same_call now (told_of mode allow objects ys) → new ≡ distinct_onto same_call old (told_of mode allow objects (xs ++ ys))
   of_more xs ys old now new before is =
-      is ∙ ap (λ l. distinct_onto same_call l (told_of allow objects ys)) before
-      ∙ sym (onto_append same_call old (told_of allow objects xs) (told_of allow objects ys))
-      ∙ ap (distinct_onto same_call old) (sym (filter_map-append (λ e. mismatch_by (entries Plain objects) e (meant allow objects e)) xs ys))
+      is ∙ ap (λ l. distinct_onto same_call l (told_of mode allow objects ys)) before
+      ∙ sym (onto_append same_call old (told_of mode allow objects xs) (told_of mode allow objects ys))
+      ∙ ap (distinct_onto same_call old) (sym (filter_map-append (λ e. mismatch_by (entries mode objects) e (meant mode allow objects e)) xs ys))
 
   -- ---- the whole
 
-  among_is : (es : List InputSymbol) → mismatches_among (entries Plain objects) es (map (meant allow objects) es) ≡ told_of allow objects es
+  among_is : (es : List InputSymbol) → mismatches_among (entries mode objects) es (map (meant mode allow objects) es) ≡ told_of mode allow objects es
   among_is [] = refl
-  among_is (e ∷ es) = by (mismatch_by (entries Plain objects) e (meant allow objects e)) (among_is es)
+  among_is (e ∷ es) = by (mismatch_by (entries mode objects) e (meant mode allow objects e)) (among_is es)
     where
-      by : (o : Option Mismatch) → mismatches_among (entries Plain objects) es (map (meant allow objects) es) ≡ told_of allow objects es
-          → option_onto o (mismatches_among (entries Plain objects) es (map (meant allow objects) es)) ≡ cons_option o (told_of allow objects es)
+      by : (o : Option Mismatch) → mismatches_among (entries mode objects) es (map (meant mode allow objects) es) ≡ told_of mode allow objects es
+          → option_onto o (mismatches_among (entries mode objects) es (map (meant mode allow objects) es)) ≡ cons_option o (told_of mode allow objects es)
       by None rest = rest
       by (Some m) rest = ap (λ l. m ∷ l) rest
 
-  from_objects : (os : List Object) → flat_map (λ (r : Resolved). mismatches_among (entries Plain objects) r.symbols r.meanings) (map (resolved_of objects allow) os)
-      ≡ told_of allow objects (flat_map (symbols_of objects) os)
+  from_objects : (os : List Object) → flat_map (λ (r : Resolved). mismatches_among (entries mode objects) r.symbols r.meanings) (map (resolved_of mode objects allow) os)
+      ≡ told_of mode allow objects (flat_map (symbols_of objects) os)
   from_objects [] = refl
   from_objects (o ∷ os) =
       (λ i. among_is (symbols_of objects o) i ++ from_objects os i)
-      ∙ sym (filter_map-append (λ e. mismatch_by (entries Plain objects) e (meant allow objects e)) (symbols_of objects o) (flat_map (symbols_of objects) os))
+      ∙ sym (filter_map-append (λ e. mismatch_by (entries mode objects) e (meant mode allow objects e)) (symbols_of objects o) (flat_map (symbols_of objects) os))
 
-  pub all_are : (p : Program) → p.entries ≡ entries Plain objects → p.resolved ≡ resolve Plain allow (entries Plain objects) objects
-      → mismatches p ≡ distinct same_call (told_of allow objects (all_symbols objects))
+  pub all_are : (p : Program) → p.entries ≡ entries mode objects → p.resolved ≡ resolve mode allow (entries mode objects) objects
+      → mismatches p ≡ distinct same_call (told_of mode allow objects (all_symbols objects))
   unfolding mismatches resolve
   all_are p is are =
       (λ i. distinct same_call (flat_map (λ (r : Resolved). mismatches_among (is i) r.symbols r.meanings) (are i)))

@@ -9,7 +9,7 @@ use Rattle.program_tables.specs.link_program.wl_base.Choice.{distinct}
 use Rattle.program_tables.specs.link_program.wl_base.Names.{number_of}
 use Rattle.program_tables.specs.link_program.object_file.declared.object.Object.{Object}
 use Rattle.program_tables.specs.link_program.object_file.Spaces.{no_type}
-use Rattle.program_tables.specs.link_program.made_symbols.declared.mode.Mode.TheVariants.{Plain}
+use Rattle.program_tables.specs.link_program.made_symbols.declared.mode.Mode.{Mode}
 use Rattle.program_tables.specs.link_program.link_names.Numbered.{Numbered}
 use Rattle.program_tables.specs.link_program.name_rules.Entries.{InputSymbol, ImportKey, entries, symbols_of, name_of, is_named}
 use Rattle.program_tables.specs.link_program.name_rules.Meanings.{Meaning, resolve}
@@ -41,21 +41,21 @@ among_is all m (e ∷ es) = by (is_mismatch all e (m e)) (among_is all m es)
     by true rest = ap (λ l. variant e ∷ l) rest
     by false rest = rest
 
-module _ (allow : Bool) (objects : List Object) where
+module _ (mode : Mode) (allow : Bool) (objects : List Object) where
   abbrev test : InputSymbol → Bool
-  test = loosens true allow objects
+  test = loosens mode true allow objects
 
   abbrev loose : List InputSymbol
   loose = filter test (all_symbols objects)
 
-  from_objects : (os : List Object) → variants_of (entries Plain objects) (map (resolved_of objects allow) os) ≡ map variant (filter test (flat_map (symbols_of objects) os))
+  from_objects : (os : List Object) → variants_of (entries mode objects) (map (resolved_of mode objects allow) os) ≡ map variant (filter test (flat_map (symbols_of objects) os))
   from_objects [] = refl
   from_objects (o ∷ os) =
-      (λ i. among_is (entries Plain objects) (meant objects allow) (symbols_of objects o) i ++ from_objects os i)
+      (λ i. among_is (entries mode objects) (meant mode objects allow) (symbols_of objects o) i ++ from_objects os i)
       ∙ sym (map-append variant (filter test (symbols_of objects o)) (filter test (flat_map (symbols_of objects) os)))
       ∙ ap (map variant) (sym (filter-append test (symbols_of objects o) (flat_map (symbols_of objects) os)))
 
-  pub variants_are : variants_in true allow objects ≡ map variant loose
+  pub variants_are : variants_in mode true allow objects ≡ map variant loose
   unfolding resolve
   variants_are = from_objects objects
 
@@ -93,60 +93,60 @@ all_unmapped P f (x ∷ xs) all = All-cons (λ x. P (f x)) x xs (All-head P (f x
 
 -- ---- the whole
 
-module _ (allow : Bool) (objects : List Object) (imports : List ImportKey) (old new : Numbered) (calls : Calls) (i : Interned) (are : AreCalls allow objects calls) (interns : Interns old new calls.variants i) where
+module _ (mode : Mode) (allow : Bool) (objects : List Object) (imports : List ImportKey) (old new : Numbered) (calls : Calls) (i : Interned) (are : AreCalls mode allow objects calls) (interns : Interns old new calls.variants i) where
   abbrev lo : Loose
   lo = record { called = calls.called; symbols = i.symbols; types = i.types }
 
-  names_are : names_in calls.variants ≡ map name_of (variants_in true allow objects)
-  names_are = ap names_in are.variants ∙ names_same (loose allow objects) ∙ ap (map name_of) (sym (variants_are allow objects))
+  names_are : names_in calls.variants ≡ map name_of (variants_in mode true allow objects)
+  names_are = ap names_in are.variants ∙ names_same (loose mode allow objects) ∙ ap (map name_of) (sym (variants_are mode allow objects))
 
-  row_is : (e : InputSymbol) → test allow objects e ≡ true → variant_row new.names (variant_seen e) ≡ told_variant new.names imports (variant e)
+  row_is : (e : InputSymbol) → test mode allow objects e ≡ true → variant_row new.names (variant_seen e) ≡ told_variant new.names imports (variant e)
   row_is e is =
-      let entry = mismatch_entry (entries Plain objects) e (meant objects allow e) is in
+      let entry = mismatch_entry (entries mode objects) e (meant mode objects allow e) is in
       ap (λ b. let s : Symbol = record { kind = e.symbol.kind; name = if b then number_of new.names (renamed e.type (name_of e)) else None; lead = Null } in s) (sym entry)
 
-  symbols_are : i.symbols ≡ map (told_variant new.names imports) (map variant (loose allow objects))
+  symbols_are : i.symbols ≡ map (told_variant new.names imports) (map variant (loose mode allow objects))
   symbols_are =
       interns.symbols ∙ ap (map (variant_row new.names)) are.variants
-      ∙ kept_maps (test allow objects) (variant_row new.names) variant_seen (told_variant new.names imports) variant row_is (all_symbols objects)
+      ∙ kept_maps (test mode allow objects) (variant_row new.names) variant_seen (told_variant new.names imports) variant row_is (all_symbols objects)
 
-  types_each : (names : List (List ℕ)) → map (named_type calls.variants) names ≡ map (variant_type (variants_in true allow objects)) names
+  types_each : (names : List (List ℕ)) → map (named_type calls.variants) names ≡ map (variant_type (variants_in mode true allow objects)) names
   types_each [] = refl
   types_each (n ∷ ns) =
-      let one : named_type calls.variants n ≡ variant_type (variants_in true allow objects) n =
-      ap (λ vs. named_type vs n) are.variants ∙ type_same (loose allow objects) n ∙ ap (λ vs. variant_type vs n) (sym (variants_are allow objects)) in
+      let one : named_type calls.variants n ≡ variant_type (variants_in mode true allow objects) n =
+      ap (λ vs. named_type vs n) are.variants ∙ type_same (loose mode allow objects) n ∙ ap (λ vs. variant_type vs n) (sym (variants_are mode allow objects)) in
       λ k. one k ∷ types_each ns k
 
   called_is : (n : ℕ) (e : InputSymbol) → slice_get (all_symbols objects) n ≡ Some e
-      → IsCalled (test allow objects e) (told_variant new.names imports (variant e)) (length (all_symbols objects)) i.symbols n (unwrap_or (slice_get calls.called n) n)
-  called_is n e at = by (test allow objects e) refl
+      → IsCalled (test mode allow objects e) (told_variant new.names imports (variant e)) (length (all_symbols objects)) i.symbols n (unwrap_or (slice_get calls.called n) n)
+  called_is n e at = by (test mode allow objects e) refl
     where
       count : ℕ
       count = length (all_symbols objects)
 
-      by : (b : Bool) → test allow objects e ≡ b → IsCalled b (told_variant new.names imports (variant e)) (length (all_symbols objects)) i.symbols n (unwrap_or (slice_get calls.called n) n)
+      by : (b : Bool) → test mode allow objects e ≡ b → IsCalled b (told_variant new.names imports (variant e)) (length (all_symbols objects)) i.symbols n (unwrap_or (slice_get calls.called n) n)
       by true is =
-          let found = called_other (test allow objects) (length (all_symbols objects)) 0 n (all_symbols objects) e at is in
+          let found = called_other (test mode allow objects) (length (all_symbols objects)) 0 n (all_symbols objects) e at is in
           let there : slice_get calls.called n ≡ Some (length (all_symbols objects) + found.0) = ap (λ l. slice_get l n) are.called ∙ found.1 in (
             found.0,
             ap (λ o. unwrap_or o n) there,
-            ap (λ l. slice_get l found.0) symbols_are ∙ slice_get-map (told_variant new.names imports) (map variant (loose allow objects)) found.0
-                ∙ ap (option_map (told_variant new.names imports)) (slice_get-map variant (loose allow objects) found.0 ∙ ap (option_map variant) found.2),
+            ap (λ l. slice_get l found.0) symbols_are ∙ slice_get-map (told_variant new.names imports) (map variant (loose mode allow objects)) found.0
+                ∙ ap (option_map (told_variant new.names imports)) (slice_get-map variant (loose mode allow objects) found.0 ∙ ap (option_map variant) found.2),
           )
       by false is =
-          let there : slice_get calls.called n ≡ Some (0 + n) = ap (λ l. slice_get l n) are.called ∙ called_itself (test allow objects) (length (all_symbols objects)) 0 n (all_symbols objects) e at is in
+          let there : slice_get calls.called n ≡ Some (0 + n) = ap (λ l. slice_get l n) are.called ∙ called_itself (test mode allow objects) (length (all_symbols objects)) 0 n (all_symbols objects) e at is in
           let z : 0 + n ≡ n = omega arith in
           ap (λ o. unwrap_or o n) there ∙ z
 
-  pub is_loose : IsLoose true allow new.names imports objects lo
+  pub is_loose : IsLoose mode true allow new.names imports objects lo
   is_loose = record {
-    called = λ n e at. subst (IsCalled (test allow objects e) (told_variant new.names imports (variant e)) (length (all_symbols objects)) i.symbols n) (unwrap_or-slice_get calls.called n n) (called_is n e at);
-    symbols = symbols_are ∙ ap (map (told_variant new.names imports)) (sym (variants_are allow objects));
-    types = interns.types ∙ types_each (distinct bytes_eq (names_in calls.variants)) ∙ ap (λ ns. map (variant_type (variants_in true allow objects)) (distinct bytes_eq ns)) names_are;
+    called = λ n e at. subst (IsCalled (test mode allow objects e) (told_variant new.names imports (variant e)) (length (all_symbols objects)) i.symbols n) (unwrap_or-slice_get calls.called n n) (called_is n e at);
+    symbols = symbols_are ∙ ap (map (told_variant new.names imports)) (sym (variants_are mode allow objects));
+    types = interns.types ∙ types_each (distinct bytes_eq (names_in calls.variants)) ∙ ap (λ ns. map (variant_type (variants_in mode true allow objects)) (distinct bytes_eq ns)) names_are;
   }
 
-  pub names_behind : new.names ≡ old.names ++ variant_names (variants_in true allow objects)
+  pub names_behind : new.names ≡ old.names ++ variant_names (variants_in mode true allow objects)
   names_behind = interns.names ∙ ap (λ ns. old.names ++ distinct bytes_eq ns) names_are
 
-  pub all_apart : All (λ (v : InputSymbol). list_any (bytes_eq (name_of v)) old.names ≡ false) (variants_in true allow objects)
-  all_apart = all_unmapped (λ name. list_any (bytes_eq name) old.names ≡ false) name_of (variants_in true allow objects) (subst (All (λ name. list_any (bytes_eq name) old.names ≡ false)) names_are interns.apart)
+  pub all_apart : All (λ (v : InputSymbol). list_any (bytes_eq (name_of v)) old.names ≡ false) (variants_in mode true allow objects)
+  all_apart = all_unmapped (λ name. list_any (bytes_eq name) old.names ≡ false) name_of (variants_in mode true allow objects) (subst (All (λ name. list_any (bytes_eq name) old.names ≡ false)) names_are interns.apart)

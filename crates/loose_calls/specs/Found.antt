@@ -2,7 +2,7 @@
 use Rattle.std.specs.Prelude.{◌≡◌, ℕ, ◌+◌, ◌∷◌, ◌++◌, Bool, true, false, List, [], map, filter, length, if◌then◌else◌, unwrap_or}
 use Rattle.program_tables.specs.link_program.linking_section.declared.symbol.Symbol.{Symbol}
 use Rattle.program_tables.specs.link_program.object_file.declared.object.Object.{Object}
-use Rattle.program_tables.specs.link_program.made_symbols.declared.mode.Mode.TheVariants.{Plain}
+use Rattle.program_tables.specs.link_program.made_symbols.declared.mode.Mode.{Mode}
 use Rattle.program_tables.specs.link_program.name_rules.declared.meaning.Meaning.{Meaning as Answer}
 use Rattle.program_tables.specs.link_program.name_rules.declared.meaning.Meaning.TheVariants.{Here, Made, Import, Null, Nothing}
 use Rattle.program_tables.specs.link_program.name_rules.Entries.{InputSymbol, SymbolType, entries}
@@ -43,13 +43,13 @@ pub record Grows (test : InputSymbol → Bool) (count : ℕ) (es : List InputSym
   pub variants : new.variants ≡ old.variants ++ map variant_seen (filter test es)
 
 -- They are those of the symbols of all objects, in a link with loose calls.
-pub record AreCalls (allow : Bool) (objects : List Object) (c : Calls) : Type 0 where
-  pub called : c.called ≡ called_onto (loosens true allow objects) (length (all_symbols objects)) 0 (all_symbols objects)
-  pub variants : c.variants ≡ map variant_seen (filter (loosens true allow objects) (all_symbols objects))
+pub record AreCalls (mode : Mode) (allow : Bool) (objects : List Object) (c : Calls) : Type 0 where
+  pub called : c.called ≡ called_onto (loosens mode true allow objects) (length (all_symbols objects)) 0 (all_symbols objects)
+  pub variants : c.variants ≡ map variant_seen (filter (loosens mode true allow objects) (all_symbols objects))
 
 -- Symbols can be asked about.
 pub record CanAsk (allow : Bool) (a : Asking) : Type 0 where
-  pub fits : Fits Plain a.entries
-  pub resolution : IsResolution Plain (entries Plain a.entries.objects.now) a.resolution.now (resolve Plain allow (entries Plain a.entries.objects.now) a.entries.objects.now)
-  pub judges : AreJudges Plain a.entries.objects.now a.entries.names.now.names a.judges.now
+  pub fits : Fits a.mode a.entries
+  pub resolution : IsResolution a.mode (entries a.mode a.entries.objects.now) a.resolution.now (resolve a.mode allow (entries a.mode a.entries.objects.now) a.entries.objects.now)
+  pub judges : AreJudges a.mode a.entries.objects.now a.entries.names.now.names a.judges.now
   pub count : a.count ≡ length (all_symbols a.entries.objects.now)

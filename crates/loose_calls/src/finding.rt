@@ -3,7 +3,6 @@ ghost use Rattle.std.specs.Prelude.{◌≡◌, ◌<◌, ◌+◌, ◌∷◌, ◌+
 ghost use Rattle.program_tables.specs.link_program.linking_section.declared.symbol.SymbolKind.TheVariants as kinds;
 ghost use Rattle.program_tables.specs.link_program.linking_section.Flags.{kind_code};
 ghost use Rattle.program_tables.specs.link_program.object_columns.Seen.{symbol_seen};
-ghost use Rattle.program_tables.specs.link_program.made_symbols.declared.mode.Mode.TheVariants as modes;
 ghost use Rattle.program_tables.specs.link_program.name_rules.Entries.{InputSymbol, entries as all_entries};
 ghost use Rattle.program_tables.specs.link_program.name_rules.Meanings.{resolve};
 ghost use Rattle.program_tables.specs.link_program.name_entries.View.{rows_of, entry_at};
@@ -30,6 +29,7 @@ pub(crate) struct Calls {
 #[derive(Clone, Copy)]
 pub(crate) struct Asking<'a> {
     pub(crate) entries: Entries<'a>,
+    pub(crate) mode: Mode,
     pub(crate) resolution: &'a Resolution,
     pub(crate) judges: &'a Judges,
     /// How many symbols all objects have.
@@ -78,7 +78,7 @@ impl Asking<'_> {
         requires there { IsSome (entry_at self.entries.objects.now object place) }
         requires object { object < length self.entries.objects.now }
         ensures { (e : InputSymbol) → entry_at self.entry.entries.objects.now object place ≡ Some e
-            → result ≡ loosens true allow self.entry.entries.objects.now e }
+            → result ≡ loosens self.entry.mode true allow self.entry.entries.objects.now e }
     {
         let Some(entry) = self.entries.entry(object, place) else {
             unreachable!()
@@ -90,7 +90,7 @@ impl Asking<'_> {
         if !is_here(meaning) {
             return false;
         }
-        has_other_type(self.judges, self.entries, Mode::Plain, object, place)
+        has_other_type(self.judges, self.entries, self.mode, object, place)
     }
 }
 
@@ -159,7 +159,7 @@ impl Calls {
         ghost allow: { Bool }
         requires asked { CanAsk allow asking }
         requires object { object < length asking.entries.objects.now }
-        ensures { OnOk result (Grows (loosens true allow asking.entry.entries.objects.now) asking.entry.count
+        ensures { OnOk result (Grows (loosens asking.entry.mode true allow asking.entry.entries.objects.now) asking.entry.count
             (slice_index_or (rows_of asking.entry.entries.objects.now) object []) self.old self.new) }
     {
         for place in 0..asking.entries.symbols(object) {
@@ -189,7 +189,7 @@ pub(crate) fn count_symbols(entries: Entries<'_>) -> Result<u32, OutOfMemory>
 fn all_calls(alloc: Global, asking: Asking<'_>) -> Result<Calls, OutOfMemory>
     ghost allow: { Bool }
     requires { CanAsk allow asking }
-    ensures { IfOk result (λ calls. AreCalls allow asking.entry.entries.objects.now calls) }
+    ensures { IfOk result (λ calls. AreCalls asking.entry.mode allow asking.entry.entries.objects.now calls) }
 {
     let mut calls = Calls {
         called: Seq::new(alloc),
@@ -206,16 +206,18 @@ pub(crate) fn calls_in(
     alloc: Global,
     entries: Entries<'_>,
     resolution: &Resolution,
+    mode: Mode,
 ) -> Result<Calls, OutOfMemory>
     ghost allow: { Bool }
-    requires fits { Fits modes.Plain entries }
-    requires resolution { IsResolution modes.Plain (all_entries modes.Plain entries.objects.now) resolution.now (resolve modes.Plain allow (all_entries modes.Plain entries.objects.now) entries.objects.now) }
-    ensures { IfOk result (λ calls. AreCalls allow entries.entry.objects.now calls) }
+    requires fits { Fits mode entries }
+    requires resolution { IsResolution mode (all_entries mode entries.objects.now) resolution.now (resolve mode allow (all_entries mode entries.objects.now) entries.objects.now) }
+    ensures { IfOk result (λ calls. AreCalls mode allow entries.entry.objects.now calls) }
 {
-    let judges = judges_of(alloc, entries, Mode::Plain)?;
+    let judges = judges_of(alloc, entries, mode)?;
     let count = count_symbols(entries)?;
     let asking = Asking {
         entries,
+        mode,
         resolution,
         judges: &judges,
         count,

@@ -1,7 +1,6 @@
 //! What calls name in a link, by whether calls are loose.
 ghost use Rattle.std.specs.Prelude.{◌≡◌, ◌++◌, ◌<◌, ◌^◌, false, Bool, IfOk, OnOk, All, bytes_eq, length};
 ghost use Rattle.std.specs.List.{list_any};
-ghost use Rattle.program_tables.specs.link_program.made_symbols.declared.mode.Mode.TheVariants as modes;
 ghost use Rattle.program_tables.specs.link_program.link_names.Numbered.{AreNumbers};
 ghost use Rattle.program_tables.specs.link_program.name_rules.Entries.{entries as all_entries, name_of};
 ghost use Rattle.program_tables.specs.link_program.name_rules.Meanings.{resolve};
@@ -14,7 +13,7 @@ ghost use Rattle.loose_calls.specs.Interned.{Stays};
 
 use crate::finding::calls_in;
 use crate::interning::intern_all;
-use program_tables::{EntryTable, Loose, Names, Object, Resolution};
+use program_tables::{EntryTable, Loose, Mode, Names, Object, Resolution};
 use std::alloc::Global;
 use wl_base::OutOfMemory;
 
@@ -27,23 +26,24 @@ pub fn loosened(
     objects: &[Object],
     resolution: &Resolution,
     loose_calls: bool,
+    mode: Mode,
 ) -> Result<Loose, OutOfMemory>
     ghost allow: { Bool }
-    requires numbers { AreNumbers modes.Plain objects.now names.old }
+    requires numbers { AreNumbers mode objects.now names.old }
     requires rise { InputsRise 0 objects.now }
     requires table { IsTable objects.now names.old entries.now }
-    requires resolution { IsResolution modes.Plain (all_entries modes.Plain objects.now) resolution.now (resolve modes.Plain allow (all_entries modes.Plain objects.now) objects.now) }
-    ensures loose { IfOk result (IsLoose loose_calls allow names.new.names resolution.now.imports objects.now) }
-    ensures names { OnOk result (names.new.names ≡ names.old.names ++ variant_names (variants_in loose_calls allow objects.now)) }
+    requires resolution { IsResolution mode (all_entries mode objects.now) resolution.now (resolve mode allow (all_entries mode objects.now) objects.now) }
+    ensures loose { IfOk result (IsLoose mode loose_calls allow names.new.names resolution.now.imports objects.now) }
+    ensures names { OnOk result (names.new.names ≡ names.old.names ++ variant_names (variants_in mode loose_calls allow objects.now)) }
     ensures stays { OnOk result (Stays names.old names.new) }
     ensures few { OnOk result (length names.new.names < 2 ^ 32) }
-    ensures apart { OnOk result (All (λ v. list_any (bytes_eq (name_of v)) names.old.names ≡ false) (variants_in loose_calls allow objects.now)) }
+    ensures apart { OnOk result (All (λ v. list_any (bytes_eq (name_of v)) names.old.names ≡ false) (variants_in mode loose_calls allow objects.now)) }
 {
     if !loose_calls {
         names.count();
         return Ok(Loose::none(alloc));
     }
-    let calls = calls_in(alloc, entries.view(objects, names), resolution)?;
+    let calls = calls_in(alloc, entries.view(objects, names), resolution, mode)?;
     let named = intern_all(alloc, names, calls.variants.as_slice())?;
     Ok(Loose {
         called: calls.called,

@@ -3,7 +3,6 @@ ghost use Rattle.std.specs.Prelude.{◌≡◌, ◌<◌, ◌∷◌, [], Bool, IsS
 ghost use Rattle.std.specs.List.{list_any};
 ghost use Rattle.program_tables.specs.link_program.wl_base.Choice.{distinct, distinct_onto};
 ghost use Rattle.program_tables.specs.link_program.object_file.declared.object.Object.{Object as TheObject};
-ghost use Rattle.program_tables.specs.link_program.made_symbols.declared.mode.Mode.TheVariants as modes;
 ghost use Rattle.program_tables.specs.link_program.name_rules.Entries.{InputSymbol, entries as all_entries};
 ghost use Rattle.program_tables.specs.link_program.name_rules.Meanings.{here, resolve};
 ghost use Rattle.program_tables.specs.link_program.name_entries.View.{rows_of, entry_at};
@@ -99,7 +98,7 @@ fn mismatch_at(
     requires asked { CanAsk allow asking }
     requires there { IsSome (entry_at asking.entries.objects.now object place) }
     ensures { IfOk result (λ m. (e d : InputSymbol) → entry_at asking.entry.entries.objects.now object place ≡ Some e
-        → meant allow asking.entry.entries.objects.now e ≡ here d → m ≡ beside e d) }
+        → meant asking.entry.mode allow asking.entry.entries.objects.now e ≡ here d → m ≡ beside e d) }
 {
     let Some(entry) = asking.entries.entry(object, place) else {
         unreachable!()
@@ -152,7 +151,7 @@ fn tell_symbol(
     requires there { IsSome (entry_at asking.entries.objects.now object place) }
     requires object { object < length asking.entries.objects.now }
     ensures { OnOk result ((e : InputSymbol) → entry_at asking.entry.entries.objects.now object place ≡ Some e
-        → told.new ≡ distinct_onto same_call told.old (told_of allow asking.entry.entries.objects.now (e ∷ []))) }
+        → told.new ≡ distinct_onto same_call told.old (told_of asking.entry.mode allow asking.entry.entries.objects.now (e ∷ []))) }
 {
     if !asking.is_loose(object, place) {
         return Ok(());
@@ -173,7 +172,7 @@ fn tell_object(
     requires asked { CanAsk allow asking }
     requires object { object < length asking.entries.objects.now }
     ensures { OnOk result (told.new ≡ distinct_onto same_call told.old
-        (told_of allow asking.entry.entries.objects.now (slice_index_or (rows_of asking.entry.entries.objects.now) object []))) }
+        (told_of asking.entry.mode allow asking.entry.entries.objects.now (slice_index_or (rows_of asking.entry.entries.objects.now) object []))) }
 {
     for place in 0..asking.entries.symbols(object) {
         tell_symbol(alloc, asking, object, place, told)?;
@@ -185,7 +184,7 @@ fn tell_object(
 fn tell_all(alloc: Global, asking: Asking<'_>) -> Result<Seq<Mismatch>, OutOfMemory>
     ghost allow: { Bool }
     requires { CanAsk allow asking }
-    ensures { IfOk result (λ told. told ≡ distinct same_call (told_of allow asking.entry.entries.objects.now (all_symbols asking.entry.entries.objects.now))) }
+    ensures { IfOk result (λ told. told ≡ distinct same_call (told_of asking.entry.mode allow asking.entry.entries.objects.now (all_symbols asking.entry.entries.objects.now))) }
 {
     let mut told = Seq::new(alloc);
     for object in 0..asking.entries.count() {
@@ -200,17 +199,19 @@ pub fn mismatches(
     alloc: Global,
     entries: Entries<'_>,
     resolution: &Resolution,
+    mode: Mode,
 ) -> Result<Seq<Mismatch>, OutOfMemory>
     ghost allow: { Bool }
-    requires fits { Fits modes.Plain entries }
-    requires resolution { IsResolution modes.Plain (all_entries modes.Plain entries.objects.now) resolution.now (resolve modes.Plain allow (all_entries modes.Plain entries.objects.now) entries.objects.now) }
-    ensures { IfOk result (λ told. (p : Program) → p.entries ≡ all_entries modes.Plain entries.entry.objects.now
-        → p.resolved ≡ resolve modes.Plain allow (all_entries modes.Plain entries.entry.objects.now) entries.entry.objects.now → told ≡ mismatches_of p) }
+    requires fits { Fits mode entries }
+    requires resolution { IsResolution mode (all_entries mode entries.objects.now) resolution.now (resolve mode allow (all_entries mode entries.objects.now) entries.objects.now) }
+    ensures { IfOk result (λ told. (p : Program) → p.entries ≡ all_entries mode entries.entry.objects.now
+        → p.resolved ≡ resolve mode allow (all_entries mode entries.entry.objects.now) entries.entry.objects.now → told ≡ mismatches_of p) }
 {
-    let judges = judges_of(alloc, entries, Mode::Plain)?;
+    let judges = judges_of(alloc, entries, mode)?;
     let count = count_symbols(entries)?;
     let asking = Asking {
         entries,
+        mode,
         resolution,
         judges: &judges,
         count,

@@ -9,6 +9,6 @@ mod lost;
 mod words;
 
 pub use link_marks::{
-    Live, Mode, all_are_meant, exports, live_parts, mode_of, repeated_export, unresolved,
+    Live, all_are_meant, exports, first_fixed, live_parts, mode_of, repeated_export, unresolved,
 };
 pub use lost::uncalled;

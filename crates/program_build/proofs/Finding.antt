@@ -4,14 +4,13 @@ use Rattle.std.specs.Prelude.{map, flat_map, filter_map, bytes_eq, All, IsErr}
 use Rattle.std.specs.List.{list_any}
 use Rattle.std.proofs.lemmas.List.Elements.{All-cons, All-nil, All-head, All-tail}
 use Rattle.std.specs.Result.{IsErrAnd}
-use Rattle.loose_calls.specs.link_program.wl_base.Choice.{distinct, unless}
+use Rattle.loose_calls.specs.link_program.wl_base.Choice.{distinct, distinct_onto, unless, first_some}
 use Rattle.loose_calls.specs.link_program.wl_base.declared.name_table.NameFault.{NameFault}
 use Rattle.loose_calls.specs.link_program.wl_base.declared.name_table.NameFault.TheVariants.{TooMany}
 use Rattle.loose_calls.specs.link_program.wl_base.declared.fault.Fault.{Fault}
 use Rattle.loose_calls.specs.link_program.wl_base.declared.fault.Fault.TheVariants.{TooManyNames}
 use Rattle.loose_calls.specs.link_program.object_file.declared.object.Object.{Object}
 use Rattle.loose_calls.specs.link_program.made_symbols.declared.mode.Mode.{Mode}
-use Rattle.loose_calls.specs.link_program.made_symbols.declared.mode.Mode.TheVariants.{Plain}
 use Rattle.loose_calls.specs.link_program.link_names.Numbered.{AreNumbers}
 use Rattle.loose_calls.specs.link_program.name_entries.View.{WinnersAre}
 use Rattle.loose_calls.specs.link_program.declared.program.Tables.{Tables}
@@ -19,12 +18,13 @@ use Rattle.loose_calls.specs.link_program.Program.{AreTables, variant_names}
 use Rattle.loose_calls.specs.link_program.link_names.Numbered as names
 use Rattle.loose_calls.specs.link_program.name_rules.Entries.{InputSymbol, entries, name_of, same_import}
 use Rattle.loose_calls.specs.link_program.name_rules.Meanings.{Meaning, here, imported, null, nothing}
+use Rattle.loose_calls.specs.link_program.name_rules.Further.{further_imports}
 use Rattle.loose_calls.specs.link_program.name_entries.Fits.{IsTable}
 use Rattle.loose_calls.specs.link_program.name_entries.declared.table.EntryTable.{EntryTable}
-use Rattle.loose_calls.specs.link_program.name_meanings.Means.{import_meant, imports_meant}
+use Rattle.loose_calls.specs.link_program.name_meanings.Means.{Answers, IsResolution, import_meant, imports_meant}
 use Rattle.loose_calls.specs.link_program.link_plan.declared.plan.Plan.{Plan}
 use Rattle.loose_calls.specs.link_program.link_rules.Program.{Program, program_of}
-use Rattle.loose_calls.specs.link_program.link_rules.Keys.{import_of, imports_in_order}
+use Rattle.loose_calls.specs.link_program.link_rules.Keys.{import_of, imports_in_order, all_imports}
 use Rattle.loose_calls.specs.link_program.declared.home.Home.{Home}
 use Rattle.loose_calls.specs.link_program.Loaded.{Origin, IsLoaded}
 use Rattle.loose_calls.specs.link_program.declared.error.LinkError.{LinkError}
@@ -52,6 +52,10 @@ import_is nothing = refl
 imports_are : (p : Program) → imports_meant (flat_map (λ r. r.meanings) p.resolved) ≡ imports_in_order p
 unfolding imports_in_order
 imports_are p = λ i. distinct same_import (filter_map (λ m. import_is m i) (flat_map (λ r. r.meanings) p.resolved))
+
+-- Behind them stands what may be imported besides, in the order of both.
+all_imports_are : (mode : Mode) (p : Program) (r : Answers) → IsResolution mode p.entries r p.resolved → r.imports ≡ all_imports mode p
+all_imports_are mode p r is = is.imports ∙ ap (λ keys. distinct_onto same_import keys (further_imports mode p.entries p.resolved)) (imports_are p)
 
 -- ---- the whole
 
@@ -99,36 +103,42 @@ module _ (mode : Mode) (origin : Origin) (objects : List Object) where
       → IsFound mode origin.plan objects f (program mode origin objects) → Finds mode (Ok f) origin.plan objects (program mode origin objects)
   all_found n m f numbered told found = (case_is n None numbered told.0, found)
 
+-- Of two faults neither is there where the first of them isn't.
+pub first_none : (a : Option Fault) (rest : List (Option Fault)) → first_some (a ∷ rest) ≡ None → a ≡ None
+first_none None rest e = refl
+first_none (Some fault) rest e = absurd cc
+
 all_mapped : {A B : Type 0} (P : B → Type 0) (f : A → B) (xs : List A) → All (λ x. P (f x)) xs → All P (map f xs)
 all_mapped P f [] all = All-nil P
 all_mapped P f (x ∷ xs) all = All-cons P (f x) (map f xs) (All-head (λ x. P (f x)) x xs all) (all_mapped P f xs (All-tail (λ x. P (f x)) x xs all))
 
-module _ (origin : Origin) (objects : List Object) (n m : names.Numbered) (table : EntryTable) (ms : Meanings) (homes : List Home) (loaded : IsLoaded origin.files origin.all objects homes)
-    (meant : AreMeant Plain origin objects n table ms) (stays : Stays n m) (few : length m.names < 2 ^ 32) where
+module _ (mode : Mode) (origin : Origin) (objects : List Object) (n m : names.Numbered) (table : EntryTable) (ms : Meanings) (homes : List Home) (loaded : IsLoaded origin.files origin.all objects homes)
+    (meant : AreMeant mode origin objects n table ms) (stays : Stays n m) (few : length m.names < 2 ^ 32) where
   abbrev variants : List InputSymbol
-  variants = variants_in origin.plan.loose_calls origin.plan.allow_undefined objects
+  variants = variants_in mode origin.plan.loose_calls origin.plan.allow_undefined objects
 
   module _ (behind : m.names ≡ n.names ++ variant_names variants) (apart : All (λ (v : InputSymbol). list_any (bytes_eq (name_of v)) n.names ≡ false) variants) where
     all_apart : All (IsNot n.names) (map name_of variants)
     all_apart = all_mapped (IsNot n.names) name_of variants apart
 
-    pub numbers_are : AreNumbers Plain objects m
-    numbers_are = numbers_grown Plain objects n m (map name_of variants) meant.numbered.2 (behind ∙ sym (all_behind n.names (map name_of variants) all_apart)) stays few
+    pub numbers_are : AreNumbers mode objects m
+    numbers_are = numbers_grown mode objects n m (map name_of variants) meant.numbered.2 (behind ∙ sym (all_behind n.names (map name_of variants) all_apart)) stays few
 
     pub table_is : IsTable objects m table
     table_is = table_grown objects n m table stays meant.looked_up
 
-    pub ranks_are : WinnersAre m.names (entries Plain objects) ms.ranks
-    ranks_are = winners_grown Plain objects n m (map name_of variants) ms.ranks meant.numbered.2 behind all_apart meant.meanings.past meant.meanings.ranked
+    pub ranks_are : WinnersAre m.names (entries mode objects) ms.ranks
+    ranks_are = winners_grown mode objects n m (map name_of variants) ms.ranks meant.numbered.2 behind all_apart meant.meanings.past meant.meanings.ranked
 
-    pub is_found : (t : Tables) → AreTables m.names ms.resolution.imports t (program Plain origin objects)
-        → IsFound Plain origin.plan objects (record { names = m; entries = table; ranks = ms.ranks; resolution = ms.resolution; tables = t }) (program Plain origin objects)
+    pub is_found : (t : Tables) → AreTables m.names ms.resolution.imports t (program mode origin objects)
+        → IsFound mode origin.plan objects (record { names = m; entries = table; ranks = ms.ranks; resolution = ms.resolution; tables = t }) (program mode origin objects)
     unfolding program_of names_of
     is_found t tables = record {
       plan = refl;
       objects = refl;
       rise = loaded.rise;
       entries = refl;
+      unclashed = meant.unclashed;
       winners_are = refl;
       resolved = refl;
       parts_are = (origin.all, refl);
@@ -139,7 +149,7 @@ module _ (origin : Origin) (objects : List Object) (n m : names.Numbered) (table
       looked_up = table_is;
       ranks = ranks_are;
       resolution = meant.meanings.resolved;
-      imports = meant.meanings.resolved.imports ∙ imports_are (program Plain origin objects);
+      imports = all_imports_are mode (program mode origin objects) ms.resolution meant.meanings.resolved;
       tables = tables;
     }
 

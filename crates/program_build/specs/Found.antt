@@ -1,5 +1,5 @@
 -- What is found of the loaded objects.
-use Rattle.std.specs.Prelude.{◌≡◌, ◌++◌, false, List, Result, Ok, Err, All, bytes_eq}
+use Rattle.std.specs.Prelude.{◌≡◌, ◌++◌, false, List, None, Result, Ok, Err, All, bytes_eq}
 use Rattle.std.specs.List.{list_any}
 use Rattle.loose_calls.specs.link_program.wl_base.Choice.{unless, ◌>>=◌}
 use Rattle.loose_calls.specs.link_program.wl_base.declared.fault.Fault.{Fault}
@@ -35,6 +35,7 @@ pub record IsFound (mode : Mode) (asked : Plan) (loaded : List Object) (f : Foun
   pub objects : loaded ≡ p.objects
   pub rise : InputsRise 0 p.objects
   pub entries : p.entries ≡ entries mode p.objects
+  pub unclashed : clash_by p.plan.loose_calls p.entries ≡ None
   pub winners_are : p.winners ≡ winners_of p.entries
   pub resolved : p.resolved ≡ resolve mode p.plan.allow_undefined p.entries p.objects
   pub parts_are : (all : List Candidate) × (p.parts ≡ loose_parts p.plan.loose_calls p.entries (parts_of mode all p.objects p.resolved))

@@ -57,3 +57,4 @@ pub record AreMeant (mode : Mode) (origin : Origin) (objects : List Object) (n :
   pub numbered : Numbered mode (Ok n) origin.plan objects
   pub looked_up : IsTable objects n table
   pub meanings : AreMeanings mode m origin objects n.names
+  pub unclashed : clash_by origin.plan.loose_calls (entries mode objects) ≡ None

@@ -1,7 +1,6 @@
 //! What is found of the loaded objects, in order: the numbers of names, the winners of groups and of names, the least clash and the least
 //! duplicate, what symbols mean, and the tables of parts.
 ghost use Rattle.std.specs.Prelude.{◌≡◌, IfOk};
-ghost use Rattle.loose_calls.specs.link_program.made_symbols.declared.mode.Mode.TheVariants as modes;
 ghost use Rattle.loose_calls.specs.link_program.link_plan.Plan.{IsPlan};
 ghost use Rattle.loose_calls.specs.link_program.link_rules.ModeOf.{mode_of};
 ghost use Rattle.loose_calls.specs.link_program.link_rules.Program.{program_of};
@@ -13,7 +12,7 @@ use crate::found::Found;
 use crate::meanings::{Meanings, meanings_of};
 use crate::numbers::numbers_of;
 use link_plan::Plan;
-use loose_calls::{EntryTable, Home, LinkError, Mode, Names, Object, loosened, mode_of, tables_of};
+use loose_calls::{EntryTable, Home, LinkError, Names, Object, loosened, mode_of, tables_of};
 use name_jobs::group_winners;
 use std::alloc::Global;
 use std::thread::Threads;
@@ -36,9 +35,11 @@ fn found_by<R: Threads + Sync>(
     ghost origin: { Origin }
     requires same { origin.plan ≡ plan.now }
     requires loaded { IsLoaded origin.files origin.all objects.now homes.now }
-    requires meant { AreMeant modes.Plain origin objects.now names entries meanings }
-    ensures { IfOk result (λ found. IsFound modes.Plain plan.now objects.now found (program_of modes.Plain plan.now origin.files origin.all objects.now)) }
+    requires meant { AreMeant (mode_of plan.now) origin objects.now names entries meanings }
+    ensures { IfOk result (λ found. IsFound (mode_of plan.now) plan.now objects.now found
+        (program_of (mode_of plan.now) plan.now origin.files origin.all objects.now)) }
 {
+    let mode = mode_of(plan);
     let Meanings { ranks, resolution } = meanings;
     let loose = loosened(
         alloc,
@@ -47,9 +48,20 @@ fn found_by<R: Threads + Sync>(
         objects,
         &resolution,
         plan.loose_calls,
+        mode,
     )?;
     let view = entries.view(objects, &names);
-    let tables = tables_of(rt, alloc, view, &ranks, &resolution, homes, &loose, workers)?;
+    let tables = tables_of(
+        rt,
+        alloc,
+        view,
+        &ranks,
+        &resolution,
+        homes,
+        &loose,
+        mode,
+        workers,
+    )?;
     Ok(Found {
         names,
         entries,
@@ -59,40 +71,12 @@ fn found_by<R: Threads + Sync>(
     })
 }
 
-/// What is found of the loaded objects for a plain output.
-fn find_plain<G: Gate, R: Threads + Sync>(
-    rt: &R,
-    alloc: Global,
-    plan: &Plan,
-    objects: &[Object],
-    homes: &[Home],
-    workers: Workers,
-    gate: &G,
-) -> Result<Found, LinkError>
-    ghost origin: { Origin }
-    requires plan { IsPlan plan.now }
-    requires same { origin.plan ≡ plan.now }
-    requires loaded { IsLoaded origin.files origin.all objects.now homes.now }
-    ensures { Finds modes.Plain result plan.now objects.now (program_of modes.Plain plan.now origin.files origin.all objects.now) }
-{
-    let names = numbers_of(alloc, plan, objects, Mode::Plain)?;
-    let groups = group_winners(rt, alloc, objects, &names, workers, gate)?;
-    let entries = EntryTable::by_workers(rt, alloc, objects, &names, &groups, workers)?;
-    let view = entries.view(objects, &names);
-    let meanings = meanings_of(rt, alloc, plan, view, Mode::Plain, workers, gate)?;
-    let found = found_by(
-        rt, alloc, plan, objects, homes, names, entries, meanings, workers,
-    )?;
-    Ok(found)
-}
-
 /// What the loaded objects are as a program: the numbers of their names, who wins each name, what each symbol means, and the tables of
-/// their symbols, parts and references. `homes` has where the bytes of each candidate stand.
+/// their symbols, parts and references, for the output that the plan asks for. `homes` has where the bytes of each candidate stand.
 ///
 /// It is `Refused` by the first of these faults: there are more than 2^24 different names; two entries of one name clash; a name has two
 /// strong definitions. The races for groups and names are the gate's phases `Groups` and `Names`, by these workers;
 /// what is answered doesn't depend on their number. `origin` has the files and the candidates, by which the program is defined.
-/// What is found for a shared output isn't told yet: that is answered as want of memory.
 pub fn find<G: Gate, R: Threads + Sync>(
     rt: &R,
     alloc: Global,
@@ -108,8 +92,14 @@ pub fn find<G: Gate, R: Threads + Sync>(
     requires loaded { IsLoaded origin.files origin.all objects.now homes.now }
     ensures { Finds (mode_of plan.now) result plan.now objects.now (program_of (mode_of plan.now) plan.now origin.files origin.all objects.now) }
 {
-    match mode_of(plan) {
-        Mode::Plain => find_plain(rt, alloc, plan, objects, homes, workers, gate),
-        Mode::Shared => Err(LinkError::OutOfMemory),
-    }
+    let mode = mode_of(plan);
+    let names = numbers_of(alloc, plan, objects, mode)?;
+    let groups = group_winners(rt, alloc, objects, &names, workers, gate)?;
+    let entries = EntryTable::by_workers(rt, alloc, objects, &names, &groups, workers)?;
+    let view = entries.view(objects, &names);
+    let meanings = meanings_of(rt, alloc, plan, view, mode, workers, gate)?;
+    let found = found_by(
+        rt, alloc, plan, objects, homes, names, entries, meanings, workers,
+    )?;
+    Ok(found)
 }

@@ -8,7 +8,7 @@ use Rattle.link_program.specs.linking_section.declared.symbol.Symbol.{Symbol}
 use Rattle.link_program.specs.linking_section.Flags.{is_weak}
 use Rattle.link_program.specs.symbol_race.Ranks.{rank_of}
 use Rattle.link_program.specs.object_file.declared.object.Object.{Object}
-use Rattle.link_program.specs.made_symbols.declared.mode.Mode.TheVariants.{Plain}
+use Rattle.link_program.specs.made_symbols.declared.mode.Mode.{Mode}
 use Rattle.link_program.specs.made_symbols.Made.{MadeSymbol, made, made_at}
 use Rattle.link_program.specs.link_names.Numbered.{Numbered, AreNumbers}
 use Rattle.link_program.specs.name_rules.Entries.{InputSymbol, entry_in, made_entry}
@@ -155,6 +155,6 @@ made_numbers names numbers ms k name d same at =
     by (Some m) at_m is =
         ap (λ (x : MadeSymbol). number_of names x.name) (get_or_from_slice_get ms k m d at_m) ∙ same_Some (number_of names m.name) (Some name) is
 
-pub made_number : (objects : List Object) (n : Numbered) (k name : ℕ) → AreNumbers Plain objects n → slice_get n.made k ≡ Some name
-    → entry_number n.names (made_entry k (made_at Plain k)) ≡ Some name
-made_number objects n k name numbers at = made_numbers n.names n.made (made Plain) k name _ numbers.made at
+pub made_number : (mode : Mode) (objects : List Object) (n : Numbered) (k name : ℕ) → AreNumbers mode objects n → slice_get n.made k ≡ Some name
+    → entry_number n.names (made_entry k (made_at mode k)) ≡ Some name
+made_number mode objects n k name numbers at = made_numbers n.names n.made (made mode) k name _ numbers.made at

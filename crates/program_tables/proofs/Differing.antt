@@ -6,8 +6,8 @@ use Rattle.std.proofs.lemmas.Option.{slice_get_within, slice_get-map, slice_get-
 use Rattle.link_program.specs.mark_bits.declared.chunk.Chunk.{Chunk}
 use Rattle.link_program.specs.mark_bits.Chunks.{Differ, Lacks}
 use Rattle.link_program.specs.object_file.declared.object.Object.{Object}
-use Rattle.link_program.specs.made_symbols.declared.mode.Mode.TheVariants.{Plain}
-use Rattle.link_program.specs.made_symbols.Made.{made, MadeSymbol}
+use Rattle.link_program.specs.made_symbols.declared.mode.Mode.{Mode}
+use Rattle.link_program.specs.made_symbols.Made.{made, MadeSymbol, call_ctors}
 use Rattle.link_program.specs.name_entries.View.{InputsRise}
 use Rattle.link_program.specs.link_rules.Program.{indexed, option_onto, made_kind, no_source}
 use Rattle.link_program.specs.declared.named.Named.{Named}
@@ -148,7 +148,7 @@ made_line calls (m ∷ ms) number cs own =
         → ((kind : ℕ) → Line ((cs ++ chunk 0 kind number ∷ []) ++ map chunk_of (made_rows calls (number + 1) ms)) 1 0 0)
         → Line (cs ++ map chunk_of (option_onto (option_map (λ kind. record {
           part = record { chunk = record { input = 0; kind = kind; index = number }; content = contents.Made; source = no_source };
-          named = if (kind == 0) && (number == 0) then calls else [];
+          named = if (kind == 0) && (number == call_ctors) then calls else [];
         }) kind) (made_rows calls (number + 1) ms))) 1 0 0
     by None same more = same
     by (Some kind) same more = subst (λ ds. Line ds 1 0 0) (append_assoc cs (chunk 0 kind number ∷ []) (map chunk_of (made_rows calls (number + 1) ms))) (more kind)
@@ -215,13 +215,13 @@ lines_upto l others line rise (suc n) le =
 none_there : (j : ℕ) (c : Chunk) → slice_get [] j ≡ Some c → ⊥
 none_there j c at = absurd cc
 
-pub all_differ : (l : Lookups) → InputsRise 0 l.entries.objects.now → Differ (map chunk_of (all_rows l))
-all_differ l rise =
+pub all_differ : (mode : Mode) (l : Lookups) → InputsRise 0 l.entries.objects.now → Differ (map chunk_of (all_rows mode l))
+all_differ mode l rise =
     let calls = call_names l in
-    let cs = map chunk_of (made_rows calls 0 (made Plain)) in
-    let own : Line cs 1 0 0 = made_line calls (made Plain) 0 [] (record { differ = λ j k c at _. absurd (none_there j c at); own = tt }) in
+    let cs = map chunk_of (made_rows calls 0 (made mode)) in
+    let own : Line cs 1 0 0 = made_line calls (made mode) 0 [] (record { differ = λ j k c at _. absurd (none_there j c at); own = tt }) in
     let lines = lines_upto l cs own rise (length l.entries.objects.now) (omega arith) in
-    subst Differ (sym (map-append chunk_of (made_rows calls 0 (made Plain)) (rows_upto l (length l.entries.objects.now)))) lines.line.differ
+    subst Differ (sym (map-append chunk_of (made_rows calls 0 (made mode)) (rows_upto l (length l.entries.objects.now)))) lines.line.differ
 
 -- the chunks of parts that are those of all rows
 map_both : {A B C : Type 0} (f : B → C) (g : A → B) (xs : List A) → map f (map g xs) ≡ map (λ x. f (g x)) xs
@@ -231,8 +231,8 @@ map_both f g (x ∷ xs) = ap (λ l. f (g x) ∷ l) (map_both f g xs)
 pub chunks_are : (rows : List Row) (parts : List Part) → parts ≡ map (λ (row : Row). row.part) rows → map (λ (part : Part). part.chunk) parts ≡ map (λ (row : Row). row.part.chunk) rows
 chunks_are rows parts is = ap (map (λ (part : Part). part.chunk)) is ∙ map_both (λ (part : Part). part.chunk) (λ (row : Row). row.part) rows
 
-pub parts_differ : (l : Lookups) (parts : List Part) → InputsRise 0 l.entries.objects.now → parts ≡ map (λ (row : Row). row.part) (all_rows l) → Differ (map (λ (part : Part). part.chunk) parts)
-parts_differ l parts rise is = subst Differ (sym (chunks_are (all_rows l) parts is)) (all_differ l rise)
+pub parts_differ : (mode : Mode) (l : Lookups) (parts : List Part) → InputsRise 0 l.entries.objects.now → parts ≡ map (λ (row : Row). row.part) (all_rows mode l) → Differ (map (λ (part : Part). part.chunk) parts)
+parts_differ mode l parts rise is = subst Differ (sym (chunks_are (all_rows mode l) parts is)) (all_differ mode l rise)
 
 -- no chunk stands twice in front of another one
 pub lacks_next : (chunks : List Chunk) (i : ℕ) (c : Chunk) → Differ chunks → slice_get chunks i ≡ Some c → Lacks (take i chunks) c

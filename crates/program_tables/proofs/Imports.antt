@@ -47,7 +47,7 @@ differ_by : (held : Bool) (ks : List ImportKey) (x : ImportKey) → Differ ks �
 differ_by true ks x differ e = differ
 differ_by false ks x differ e = differ_more ks x differ e
 
-differ_onto : (seen xs : List ImportKey) → Differ seen → Differ (distinct_onto same_import seen xs)
+pub differ_onto : (seen xs : List ImportKey) → Differ seen → Differ (distinct_onto same_import seen xs)
 differ_onto seen [] differ = differ
 differ_onto seen (x ∷ xs) differ =
     differ_onto (if list_any (same_import x) seen then seen else seen ++ x ∷ []) xs (differ_by (list_any (same_import x) seen) seen x differ refl)

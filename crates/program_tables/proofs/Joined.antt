@@ -3,7 +3,7 @@ use Rattle.std.proofs.Common.{◌≡◌, ℕ, zero, suc, ◌+◌, ◌-◌, ◌<�
 use Rattle.std.specs.Prelude.{slice_get, slice_set, map, flat_map, replicate}
 use Rattle.std.proofs.lemmas.List.{map-append, append_assoc, append-nil, length-replicate}
 use Rattle.std.proofs.lemmas.Option.{same_Some, slice_get_within}
-use Rattle.link_program.specs.made_symbols.declared.mode.Mode.TheVariants.{Plain}
+use Rattle.link_program.specs.made_symbols.declared.mode.Mode.{Mode}
 use Rattle.link_program.specs.made_symbols.Made.{made}
 use Rattle.link_program.specs.wl_fan.Slices.{piece, Works}
 use Rattle.program_tables.specs.declared.pieces.Piece.{Piece}
@@ -94,18 +94,18 @@ module _ (l : Lookups) (cuts : List ℕ) (count : ℕ) (rising : Rising cuts cou
       ∙ sym (map-append f made (rows_upto l count))
 
 -- all rows, from pieces of which none is short
-pub all_joined : (l : Lookups) (cuts : List ℕ) (count : ℕ) (first : Piece) (new : List Piece) → Rising cuts count → count ≡ length l.entries.objects.now
-    → AreGained (made_rows (call_names l) 0 (made Plain)) first → AreGrown l cuts count (first ∷ replicate (length cuts) no_piece) new
+pub all_joined : (mode : Mode) (l : Lookups) (cuts : List ℕ) (count : ℕ) (first : Piece) (new : List Piece) → Rising cuts count → count ≡ length l.entries.objects.now
+    → AreGained (made_rows (call_names l) 0 (made mode)) first → AreGrown l cuts count (first ∷ replicate (length cuts) no_piece) new
     → ((k : ℕ) (p : Piece) → slice_get new k ≡ Some p → p.is_short ≡ false)
-    → (flat_map (λ (p : Piece). p.parts) new ≡ map (λ (row : Row). row.part) (all_rows l)) × (flat_map (λ (p : Piece). p.named) new ≡ map (λ (row : Row). row.named) (all_rows l))
-all_joined l cuts count first new rising whole gained grown kept =
-    let rows = made_rows (call_names l) 0 (made Plain) in
+    → (flat_map (λ (p : Piece). p.parts) new ≡ map (λ (row : Row). row.part) (all_rows mode l)) × (flat_map (λ (p : Piece). p.named) new ≡ map (λ (row : Row). row.named) (all_rows mode l))
+all_joined mode l cuts count first new rising whole gained grown kept =
+    let rows = made_rows (call_names l) 0 (made mode) in
     let long : length new ≡ length cuts + 1 = omega (arith, grown.same, length-replicate (length cuts) no_piece) in
     let own : (k : ℕ) (p q : Piece) → slice_get (first ∷ replicate (length cuts) no_piece) k ≡ Some p → slice_get new k ≡ Some q
     → Gains (rows_from l (first_at cuts count k) (first_at cuts count (k + 1) - first_at cuts count k)) p q = λ k p q at_p at_q. grown.each k p q at_p at_q (kept k q at_q) in
     let other : (i : ℕ) (q : Piece) → slice_get new (suc i) ≡ Some q → slice_get (first ∷ replicate (length cuts) no_piece) (suc i) ≡ Some no_piece =
     λ i q at. let lt = slice_get_within new (suc i) q at in same_at no_piece (length cuts) i (omega (arith, lt, long)) in
-    let all : rows ++ rows_upto l count ≡ all_rows l = ap (λ (n : ℕ). rows ++ rows_upto l n) whole in (
+    let all : rows ++ rows_upto l count ≡ all_rows mode l = ap (λ (n : ℕ). rows ++ rows_upto l n) whole in (
       pieces_joined l cuts count rising (λ (row : Row). row.part) (λ (p : Piece). p.parts) rows new long
           (λ q at. (own 0 first q refl at).parts ∙ ap (λ xs. xs ++ own_rows l cuts count rising (λ (row : Row). row.part) (λ (p : Piece). p.parts) 0) gained.parts)
           (λ i q at. let e : suc i ≡ 1 + i = omega arith in (own (suc i) no_piece q (other i q at) at).parts ∙ ap (own_rows l cuts count rising (λ (row : Row). row.part) (λ (p : Piece). p.parts)) e)

@@ -1,16 +1,18 @@
 -- Entries and what they mean stand among the symbols of the objects.
 use Rattle.std.proofs.Common.{◌≡◌, ◌⊎◌, ℕ, zero, suc, ◌+◌, ◌<◌, Bool, true, false, cond, ◌∙◌, List, [], ◌∷◌, refl, ap, sym, subst, arith, Option, Some, None, length, get_or, inl, inr, nat_lt}
-use Rattle.std.specs.Prelude.{◌==◌, ◌&&◌, slice_get, flat_map, filter, if◌then◌else◌, option_map, option_and_then, unwrap_or}
+use Rattle.std.specs.Prelude.{◌==◌, ◌&&◌, ◌||◌, slice_get, flat_map, filter, if◌then◌else◌, option_map, option_and_then, unwrap_or}
 use Rattle.std.proofs.lemmas.Bool.{eq-eqb}
 use Rattle.std.proofs.lemmas.Bool.Decides.{nat_tests}
 use Rattle.std.proofs.lemmas.Option.{same_Some, slice_get_within, get_or_from_slice_get, slice_get-get_or}
 use Rattle.link_program.specs.wl_base.Choice.{first_some, given}
 use Rattle.link_program.specs.linking_section.declared.symbol.Symbol.{Symbol}
+use Rattle.link_program.specs.linking_section.declared.symbol.SymbolKind.TheVariants.{GlobalVar}
 use Rattle.link_program.specs.object_file.declared.object.Object.{Object}
-use Rattle.link_program.specs.made_symbols.declared.mode.Mode.TheVariants.{Plain}
+use Rattle.link_program.specs.made_symbols.declared.mode.Mode.{Mode}
+use Rattle.link_program.specs.made_symbols.declared.mode.Mode.TheVariants.{Plain, Shared}
 use Rattle.link_program.specs.made_symbols.Made.{MadeSymbol, made, made_at}
-use Rattle.link_program.specs.name_rules.Entries.{InputSymbol, ImportKey, entries_from, symbols_of, made_entry, made_from, is_entry, entries, name_of, is_named, named}
-use Rattle.link_program.specs.name_rules.Meanings.{Meaning, here, imported, null, nothing, entry_rank, lesser, least, meaning, no_uses, by_rules, own_meaning, references, least_import, may_import, may_be_null, where_given}
+use Rattle.link_program.specs.name_rules.Entries.{InputSymbol, ImportKey, entries_from, symbols_of, made_entry, made_from, is_entry, is_kind, entries, name_of, is_named, named}
+use Rattle.link_program.specs.name_rules.Meanings.{Meaning, here, imported, null, nothing, Uses, uses_of, entry_rank, lesser, least, meaning, by_rules, own_meaning, references, least_import, may_import, may_be_null, where_given, is_called, is_address, cell_of}
 use Rattle.link_program.specs.linking_section.Flags.{is_explicit}
 use Rattle.link_program.specs.name_entries.View.{InputsRise, rows_of, entry_at}
 use Rattle.link_program.proofs.name_entries_lemmas.Found.{mapped}
@@ -58,12 +60,12 @@ pub record OfObject (objects : List Object) (e : InputSymbol) : Type 0 where
   pub input : e.input ≡ object.input
   pub there : entry_at objects place e.place ≡ Some e
 
-pub record OfLinker (e : InputSymbol) : Type 0 where
-  pub below : e.place < length (made Plain)
-  pub is : e ≡ made_entry e.place (made_at Plain e.place)
+pub record OfLinker (mode : Mode) (e : InputSymbol) : Type 0 where
+  pub below : e.place < length (made mode)
+  pub is : e ≡ made_entry e.place (made_at mode e.place)
 
-abbrev pub Stands : List Object → InputSymbol → Type 0
-Stands objects e = OfLinker e ⊎ OfObject objects e
+abbrev pub Stands : Mode → List Object → InputSymbol → Type 0
+Stands mode objects e = OfLinker mode e ⊎ OfObject objects e
 
 row_stands : (objects : List Object) (i k : ℕ) (o : Object) (ss : List Symbol) → slice_get objects i ≡ Some o → ((j : ℕ) → slice_get ss j ≡ slice_get o.symbols (k + j))
     → Each (OfObject objects) (entries_from objects o k ss)
@@ -89,38 +91,38 @@ objects_stand objects (o ∷ os) i same =
 pub symbols_stand : (objects : List Object) → Each (OfObject objects) (flat_map (symbols_of objects) objects)
 symbols_stand objects = objects_stand objects objects 0 (λ j. let e : j ≡ 0 + j = omega arith in ap (slice_get objects) e)
 
-made_stand : (k : ℕ) (ms : List MadeSymbol) → k + length ms ≡ length (made Plain) → ((j : ℕ) (d : MadeSymbol) → j < length ms → get_or ms j d ≡ made_at Plain (k + j)) → Each OfLinker (made_from k ms)
-made_stand k [] counted same = tt
-made_stand k (m ∷ ms) counted same =
-    let lt : k < length (made Plain) = omega arith in
+made_stand : (mode : Mode) (k : ℕ) (ms : List MadeSymbol) → k + length ms ≡ length (made mode) → ((j : ℕ) (d : MadeSymbol) → j < length ms → get_or ms j d ≡ made_at mode (k + j)) → Each (OfLinker mode) (made_from k ms)
+made_stand mode k [] counted same = tt
+made_stand mode k (m ∷ ms) counted same =
+    let lt : k < length (made mode) = omega arith in
     let e : k + 0 ≡ k = omega arith in
-    let first : m ≡ made_at Plain k = same zero m (omega arith) ∙ ap (made_at Plain) e in (
+    let first : m ≡ made_at mode k = same zero m (omega arith) ∙ ap (made_at mode) e in (
       record { below = lt; is = ap (made_entry k) first },
-      made_stand (k + 1) ms (omega arith) (λ j d lt. let f : k + suc j ≡ k + 1 + j = omega arith in same (suc j) d (omega arith) ∙ ap (made_at Plain) f),
+      made_stand mode (k + 1) ms (omega arith) (λ j d lt. let f : k + suc j ≡ k + 1 + j = omega arith in same (suc j) d (omega arith) ∙ ap (made_at mode) f),
     )
 
 same_default : {A : Type 0} (xs : List A) (i : ℕ) (d e : A) → i < length xs → get_or xs i d ≡ get_or xs i e
 same_default xs i d e within = ap (λ o. unwrap_or o d) (sym (slice_get-get_or xs i d within) ∙ slice_get-get_or xs i e within)
 
-pub linkers_stand : Each OfLinker (made_from 0 (made Plain))
-linkers_stand =
-    made_stand 0 (made Plain) refl
-    (λ j d lt. let e : j ≡ 0 + j = omega arith in same_default (made Plain) j d _ lt ∙ ap (made_at Plain) e)
+pub linkers_stand : (mode : Mode) → Each (OfLinker mode) (made_from 0 (made mode))
+linkers_stand mode =
+    made_stand mode 0 (made mode) (omega arith)
+    (λ j d lt. let e : j ≡ 0 + j = omega arith in same_default (made mode) j d _ lt ∙ ap (made_at mode) e)
 
-stands_linker : (objects : List Object) (es : List InputSymbol) → Each OfLinker es → Each (Stands objects) es
-stands_linker objects [] all = tt
-stands_linker objects (e ∷ es) all = (inl all.0, stands_linker objects es all.1)
+stands_linker : (mode : Mode) (objects : List Object) (es : List InputSymbol) → Each (OfLinker mode) es → Each (Stands mode objects) es
+stands_linker mode objects [] all = tt
+stands_linker mode objects (e ∷ es) all = (inl all.0, stands_linker mode objects es all.1)
 
-stands_object : (objects : List Object) (es : List InputSymbol) → Each (OfObject objects) es → Each (Stands objects) es
-stands_object objects [] all = tt
-stands_object objects (e ∷ es) all = (inr all.0, stands_object objects es all.1)
+stands_object : (mode : Mode) (objects : List Object) (es : List InputSymbol) → Each (OfObject objects) es → Each (Stands mode objects) es
+stands_object mode objects [] all = tt
+stands_object mode objects (e ∷ es) all = (inr all.0, stands_object mode objects es all.1)
 
-pub entries_stand : (objects : List Object) → Each (Stands objects) (entries Plain objects)
+pub entries_stand : (mode : Mode) (objects : List Object) → Each (Stands mode objects) (entries mode objects)
 unfolding entries
-entries_stand objects =
-    each_append (Stands objects) (made_from 0 (made Plain)) (filter is_entry (flat_map (symbols_of objects) objects))
-    (stands_linker objects (made_from 0 (made Plain)) linkers_stand)
-    (each_filter (Stands objects) is_entry (flat_map (symbols_of objects) objects) (stands_object objects (flat_map (symbols_of objects) objects) (symbols_stand objects)))
+entries_stand mode objects =
+    each_append (Stands mode objects) (made_from 0 (made mode)) (filter is_entry (flat_map (symbols_of objects) objects))
+    (stands_linker mode objects (made_from 0 (made mode)) (linkers_stand mode))
+    (each_filter (Stands mode objects) is_entry (flat_map (symbols_of objects) objects) (stands_object mode objects (flat_map (symbols_of objects) objects) (symbols_stand objects)))
 
 -- ---- one entry an input and a place
 
@@ -131,16 +133,16 @@ pub found_there : (objects : List Object) (e : InputSymbol) → InputsRise 0 obj
 found_there objects e rise stands =
     ap (λ n. symbol_of objects n e.place) stands.input ∙ symbol_found objects stands.place e.place stands.object e rise stands.at stands.there
 
-pub linker_input : (e : InputSymbol) → OfLinker e → e.input ≡ 0
-linker_input e stands = ap (λ (x : InputSymbol). x.input) stands.is
+pub linker_input : (mode : Mode) (e : InputSymbol) → OfLinker mode e → e.input ≡ 0
+linker_input mode e stands = ap (λ (x : InputSymbol). x.input) stands.is
 
-pub one_entry : (objects : List Object) (e f : InputSymbol) → InputsRise 0 objects → Stands objects e → Stands objects f → e.input ≡ f.input → e.place ≡ f.place → e ≡ f
-one_entry objects e f rise (inl a) (inl b) input place = a.is ∙ ap (λ k. made_entry k (made_at Plain k)) place ∙ sym b.is
-one_entry objects e f rise (inl a) (inr b) input place =
-    let none = linker_input e a in let some = no_input objects f rise b in absurd (omega arith)
-one_entry objects e f rise (inr a) (inl b) input place =
-    let none = linker_input f b in let some = no_input objects e rise a in absurd (omega arith)
-one_entry objects e f rise (inr a) (inr b) input place =
+pub one_entry : (mode : Mode) (objects : List Object) (e f : InputSymbol) → InputsRise 0 objects → Stands mode objects e → Stands mode objects f → e.input ≡ f.input → e.place ≡ f.place → e ≡ f
+one_entry mode objects e f rise (inl a) (inl b) input place = a.is ∙ ap (λ k. made_entry k (made_at mode k)) place ∙ sym b.is
+one_entry mode objects e f rise (inl a) (inr b) input place =
+    let none = linker_input mode e a in let some = no_input objects f rise b in absurd (omega arith)
+one_entry mode objects e f rise (inr a) (inl b) input place =
+    let none = linker_input mode f b in let some = no_input objects e rise a in absurd (omega arith)
+one_entry mode objects e f rise (inr a) (inr b) input place =
     same_Some e f (sym (found_there objects e rise a) ∙ ap (λ n. symbol_of objects n e.place) input ∙ ap (symbol_of objects f.input) place ∙ found_there objects f rise b)
 
 -- ---- the least entry
@@ -159,33 +161,46 @@ each_least P (e ∷ es) d all is = lesser_holds P e (least es) d all.0 (λ f fou
 
 -- ---- meanings
 
-abbrev pub MeansThere : List Object → Meaning → Type 0
-MeansThere objects (here d) = Stands objects d
-MeansThere objects (imported key) = Unit {0}
-MeansThere objects null = Unit {0}
-MeansThere objects nothing = Unit {0}
+abbrev pub MeansThere : Mode → List Object → Meaning → Type 0
+MeansThere mode objects (here d) = Stands mode objects d
+MeansThere mode objects (imported key) = Unit {0}
+MeansThere mode objects null = Unit {0}
+MeansThere mode objects nothing = Unit {0}
 
-ruled : (objects : List Object) (wins : Option InputSymbol) (explicit other : Option ImportKey) (absent : Bool) → ((d : InputSymbol) → wins ≡ Some d → Stands objects d)
-    → MeansThere objects (unwrap_or (first_some (option_map here wins ∷ option_map imported explicit ∷ option_map imported other ∷ given absent null ∷ [])) nothing)
-ruled objects (Some d) explicit other absent there = there d refl
-ruled objects None (Some k) other absent there = tt
-ruled objects None None (Some k) absent there = tt
-ruled objects None None None true there = tt
-ruled objects None None None false there = tt
+ruled : (mode : Mode) (objects : List Object) (wins : Option InputSymbol) (explicit other : Option ImportKey) (absent : Bool) (last : Meaning) → ((d : InputSymbol) → wins ≡ Some d → Stands mode objects d)
+    → MeansThere mode objects last
+    → MeansThere mode objects (unwrap_or (first_some (option_map here wins ∷ option_map imported explicit ∷ option_map imported other ∷ given absent last ∷ [])) nothing)
+ruled mode objects (Some d) explicit other absent last there so = there d refl
+ruled mode objects None (Some k) other absent last there so = tt
+ruled mode objects None None (Some k) absent last there so = tt
+ruled mode objects None None None true last there so = so
+ruled mode objects None None None false last there so = tt
 
-own : (objects : List Object) (e : InputSymbol) (defines : Bool) → Stands objects e → MeansThere objects (if defines then here e else nothing)
-own objects e true stands = stands
-own objects e false stands = tt
+own : (mode : Mode) (objects : List Object) (e : InputSymbol) (defines : Bool) → Stands mode objects e → MeansThere mode objects (if defines then here e else nothing)
+own mode objects e true stands = stands
+own mode objects e false stands = tt
 
-by_entry : (objects : List Object) (allow : Bool) (e : InputSymbol) (entry : Bool) → Stands objects e
-    → MeansThere objects (if entry then by_rules Plain no_uses allow (named (entries Plain objects) (name_of e)) e else own_meaning e)
-by_entry objects allow e true stands =
+winner_stands : (mode : Mode) (objects : List Object) (name : List ℕ) (d : InputSymbol) → least (filter (λ (d : InputSymbol). d.defines) (named (entries mode objects) name)) ≡ Some d → Stands mode objects d
+winner_stands mode objects name d is =
+    let es = named (entries mode objects) name in
+    each_least (Stands mode objects) (filter (λ (d : InputSymbol). d.defines) es) d
+    (each_filter (Stands mode objects) (λ (d : InputSymbol). d.defines) es (each_filter (Stands mode objects) (is_named name) (entries mode objects) (entries_stand mode objects))) is
+
+rules_stand : (mode : Mode) (objects : List Object) (uses : Uses) (allow : Bool) (e : InputSymbol) → MeansThere mode objects (by_rules mode uses allow (named (entries mode objects) (name_of e)) e)
+rules_stand Plain objects uses allow e =
     let es = named (entries Plain objects) (name_of e) in
-    ruled objects (least (filter (λ (d : InputSymbol). d.defines) es)) (least_import (filter (λ (r : InputSymbol). is_explicit r.symbol) (references es)))
-    (where_given (allow && may_import es e) (least_import (references es))) (may_be_null e)
-    (λ d is. each_least (Stands objects) (filter (λ (d : InputSymbol). d.defines) es) d
-    (each_filter (Stands objects) (λ (d : InputSymbol). d.defines) es (each_filter (Stands objects) (is_named (name_of e)) (entries Plain objects) (entries_stand objects))) is)
-by_entry objects allow e false stands = own objects e e.defines stands
+    ruled Plain objects (least (filter (λ (d : InputSymbol). d.defines) es)) (least_import (filter (λ (r : InputSymbol). is_explicit r.symbol) (references es)))
+    (where_given (allow && may_import es e) (least_import (references es))) (may_be_null e) null (winner_stands Plain objects (name_of e)) tt
+rules_stand Shared objects uses allow e =
+    let es = named (entries Shared objects) (name_of e) in
+    ruled Shared objects (least (filter (λ (d : InputSymbol). d.defines) es)) (least_import (filter (λ (r : InputSymbol). is_explicit r.symbol) (references es)))
+    (where_given (is_called uses e || is_kind GlobalVar e) (least_import (references es))) (is_address uses e) (imported (cell_of e)) (winner_stands Shared objects (name_of e)) tt
 
-pub meaning_stands : (objects : List Object) (allow : Bool) (e : InputSymbol) → OfObject objects e → MeansThere objects (meaning Plain no_uses allow (entries Plain objects) e)
-meaning_stands objects allow e stands = by_entry objects allow e (is_entry e) (inr stands)
+by_entry : (mode : Mode) (objects : List Object) (uses : Uses) (allow : Bool) (e : InputSymbol) (entry : Bool) → Stands mode objects e
+    → MeansThere mode objects (if entry then by_rules mode uses allow (named (entries mode objects) (name_of e)) e else own_meaning e)
+by_entry mode objects uses allow e true stands = rules_stand mode objects uses allow e
+by_entry mode objects uses allow e false stands = own mode objects e e.defines stands
+
+pub meaning_stands : (mode : Mode) (objects : List Object) (allow : Bool) (e : InputSymbol) → OfObject objects e
+    → MeansThere mode objects (meaning mode (uses_of mode objects) allow (entries mode objects) e)
+meaning_stands mode objects allow e stands = by_entry mode objects (uses_of mode objects) allow e (is_entry e) (inr stands)

@@ -5,7 +5,6 @@ use Rattle.std.specs.List.{AllZip, All}
 use Rattle.std.proofs.lemmas.List.{length-map}
 use Rattle.link_program.specs.wasm_types.declared.function.FuncType.{FuncType}
 use Rattle.link_program.specs.mark_bits.Chunks.{Differ}
-use Rattle.link_program.specs.made_symbols.declared.mode.Mode.TheVariants.{Plain}
 use Rattle.link_program.specs.name_rules.Entries.{InputSymbol, ImportKey, entries}
 use Rattle.link_program.specs.name_rules.Meanings.{resolve}
 use Rattle.link_program.specs.link_rules.Program as rules
@@ -114,30 +113,30 @@ module _ (like : Bool) (es : List InputSymbol) (symbols : List Symbol) (types : 
 -- What the tables are made of.
 pub record AreMade (s : Sources) (origin : Origin) (ranks : List (Option ℕ)) (lo : Loose) (l : Lookups) (t : Tables) : Type 0 where
   pub lookups : AreLookups s t.types origin.all origin.plan.loose_calls origin.plan.allow_undefined lo l
-  pub ranked : IsRanked s.entries.objects.now s.entries.names.now ranks
+  pub ranked : IsRanked s.mode s.entries.objects.now s.entries.names.now ranks
   pub symbols : t.symbols ≡ all_symbols s ++ lo.symbols
   pub few_symbols : length t.symbols < 2 ^ 32
-  pub winners : t.winners ≡ winners_in s.entries.names.now.names ranks s.entries.objects.now
-  pub parts : t.parts ≡ map (λ (row : Row). row.part) (all_rows l)
-  pub named : t.named ≡ map (λ (row : Row). row.named) (all_rows l)
-  pub chunks : t.chunks ≡ map (λ (row : Row). row.part.chunk) (all_rows l)
+  pub winners : t.winners ≡ winners_in s.mode s.entries.names.now.names ranks s.entries.objects.now
+  pub parts : t.parts ≡ map (λ (row : Row). row.part) (all_rows s.mode l)
+  pub named : t.named ≡ map (λ (row : Row). row.named) (all_rows s.mode l)
+  pub chunks : t.chunks ≡ map (λ (row : Row). row.part.chunk) (all_rows s.mode l)
   pub differ : Differ t.chunks
   pub few_parts : length t.chunks < 2 ^ 32 - 1
   pub variants : map (slice_get t.types) t.variants ≡ map Some lo.types
 
 pub tables_are : (s : Sources) (origin : Origin) (ranks : List (Option ℕ)) (lo : Loose) (l : Lookups) (t : Tables) → AreMade s origin ranks lo l t
-    → AreTables s.entries.names.now.names s.resolution.now.imports t (program_of Plain origin.plan origin.files origin.all s.entries.objects.now)
+    → AreTables s.entries.names.now.names s.resolution.now.imports t (program_of s.mode origin.plan origin.files origin.all s.entries.objects.now)
 unfolding program_of
 tables_are s origin ranks lo l t made =
     let names = s.entries.names.now.names in
     let imports = s.resolution.now.imports in
     let objects = s.entries.objects.now in
     let like = origin.plan.loose_calls in
-    let es = entries Plain objects in
-    let rows = all_rows l in
-    let resolved = resolve Plain origin.plan.allow_undefined es objects in
-    let ps = parts_of Plain origin.all objects resolved in
-    let variants = variants_in like origin.plan.allow_undefined objects in
+    let es = entries s.mode objects in
+    let rows = all_rows s.mode l in
+    let resolved = resolve s.mode origin.plan.allow_undefined es objects in
+    let ps = parts_of s.mode origin.all objects resolved in
+    let variants = variants_in s.mode like origin.plan.allow_undefined objects in
     let shown : AllZip (ShowsPart like es t.symbols t.types names imports) rows ps =
     subst (λ sy. AllZip (ShowsPart like es sy t.types names imports) rows ps) (sym made.symbols) (parts_shown s t.types origin.all like origin.plan.allow_undefined lo l made.lookups) in
     let chunks : t.chunks ≡ map (λ (p : rules.Part). p.chunk) (loose_parts like es ps) =
@@ -149,7 +148,7 @@ tables_are s origin ranks lo l t made =
           ∙ ap (λ l. l ++ lo.symbols) (symbols_told s origin.plan.allow_undefined made.lookups.rise made.lookups.meant)
           ∙ ap (λ l. told_symbols names imports resolved ++ l) made.lookups.loose.symbols;
       variants = made.variants ∙ ap (map Some) made.lookups.loose.types ∙ map_both Some (variant_type variants) (variant_names variants);
-      winners = made.winners ∙ winners_told objects s.entries.names.now ranks made.ranked;
+      winners = made.winners ∙ winners_told s.mode objects s.entries.names.now ranks made.ranked;
       chunks = chunks;
       differ = subst ChunksDiffer chunks made.differ;
       parts = ap (map (seen_part t.types)) made.parts ∙ parts_told like es t.symbols t.types names imports rows ps shown ∙ loose_same es told_part (λ p. refl) like ps;

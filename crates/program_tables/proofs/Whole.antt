@@ -10,8 +10,7 @@ use Rattle.link_program.specs.linking_section.declared.symbol.Symbol.{Symbol as 
 use Rattle.link_program.specs.linking_section.declared.symbol.SymbolKind.TheVariants.{Function}
 use Rattle.link_program.specs.object_file.declared.object.Object.{Object}
 use Rattle.link_program.specs.object_file.Spaces.{function_imports}
-use Rattle.link_program.specs.made_symbols.declared.mode.Mode.TheVariants.{Plain}
-use Rattle.link_program.specs.made_symbols.Made.{MadeSymbol, made}
+use Rattle.link_program.specs.made_symbols.Made.{MadeSymbol, made, call_ctors}
 use Rattle.link_program.specs.name_rules.Entries.{InputSymbol, symbols_of, entries, entries_from}
 use Rattle.link_program.specs.name_rules.Meanings.{Meaning, Resolved, resolve}
 use Rattle.link_program.specs.name_entries.View.{InputsRise, rows_of}
@@ -49,13 +48,13 @@ use Rattle.program_tables.proofs.Rows.{IsView, IsNamedBy, ShowsNamed, ShowsPart,
 pub record AreLookups (s : Sources) (types : List FuncType) (all : List Candidate) (like allow : Bool) (lo : Loose) (l : Lookups) : Type 0 where
   pub entries : l.entries ≡ s.entries
   pub rise : InputsRise 0 s.entries.objects.now
-  pub meant : IsMeant s.entries.objects.now allow s.resolution.now
+  pub meant : IsMeant s.mode s.entries.objects.now allow s.resolution.now
   pub parts : AreParts s.entries.objects.now s.entries.parts.now
   pub firsts : l.firsts.now ≡ starts 0 (rows_of s.entries.objects.now)
   pub typed : AreTyped types l.types.now s.entries.objects.now
   pub homes : l.homes.now ≡ map home_of all
   pub numbered : Numbered 1 all
-  pub loose : IsLoose like allow s.entries.names.now.names s.resolution.now.imports s.entries.objects.now lo
+  pub loose : IsLoose s.mode like allow s.entries.names.now.names s.resolution.now.imports s.entries.objects.now lo
   pub called : l.called.now ≡ lo.called
 
 row_length : (objects : List Object) (o : Object) (k : ℕ) (ss : List SymbolOf) → length (entries_from objects o k ss) ≡ length ss
@@ -83,16 +82,16 @@ symbol_at s i k o e at there =
     ∙ ap (λ l. slice_get (flat_map (λ r. r) rows) (get_or l i 0 + k)) (sym (starts_map (source_symbol s) 0 (rows_of objects)))
     ∙ in_rows rows i k (map (source_symbol s) (symbols_of objects o)) (source_symbol s e) row item
 
-told_there : (s : Sources) (allow : Bool) (i k : ℕ) (o : Object) (e : InputSymbol) (m : Meaning) → InputsRise 0 s.entries.objects.now → IsMeant s.entries.objects.now allow s.resolution.now
+told_there : (s : Sources) (allow : Bool) (i k : ℕ) (o : Object) (e : InputSymbol) (m : Meaning) → InputsRise 0 s.entries.objects.now → IsMeant s.mode s.entries.objects.now allow s.resolution.now
     → slice_get s.entries.objects.now i ≡ Some o → slice_get (symbols_of s.entries.objects.now o) k ≡ Some e
-    → slice_get (map (meant s.entries.objects.now allow) (symbols_of s.entries.objects.now o)) k ≡ Some m
+    → slice_get (map (meant s.mode s.entries.objects.now allow) (symbols_of s.entries.objects.now o)) k ≡ Some m
     → slice_get (all_symbols s) (get_or (starts 0 (rows_of s.entries.objects.now)) i 0 + k) ≡ Some (told_symbol s.entries.names.now.names s.resolution.now.imports e m)
 told_there s allow i k o e m rise is at there means =
     let objects = s.entries.objects.now in
-    let a = symbol_answered objects allow s.resolution.now i k o e rise is at there in
-    let same : meant objects allow e ≡ m =
-    same_Some (meant objects allow e) m (sym (slice_get-map (meant objects allow) (symbols_of objects o) k ∙ ap (option_map (meant objects allow)) there) ∙ means) in
-    let symbol : source_symbol s e ≡ told_symbol s.entries.names.now.names s.resolution.now.imports e (meant objects allow e) = rw (a.at, a.leads.lead) refl in
+    let a = symbol_answered s.mode objects allow s.resolution.now i k o e rise is at there in
+    let same : meant s.mode objects allow e ≡ m =
+    same_Some (meant s.mode objects allow e) m (sym (slice_get-map (meant s.mode objects allow) (symbols_of objects o) k ∙ ap (option_map (meant s.mode objects allow)) there) ∙ means) in
+    let symbol : source_symbol s e ≡ told_symbol s.entries.names.now.names s.resolution.now.imports e (meant s.mode objects allow e) = rw (a.at, a.leads.lead) refl in
     symbol_at s i k o e at there ∙ ap Some (symbol ∙ ap (told_symbol s.entries.names.now.names s.resolution.now.imports e) same)
 
 -- what a call names
@@ -108,27 +107,27 @@ called_by s lo true v number called is =
     ap (slice_get (all_symbols s ++ lo.symbols)) (is.1 ∙ ap (λ n. n + is.0) (sym (many_symbols s))) ∙ behind (all_symbols s) lo.symbols is.0 ∙ is.2
 called_by s lo false v number called is = is
 
-called_there : (s : Sources) (like allow : Bool) (lo : Loose) (i k : ℕ) (o : Object) (e : InputSymbol) (m : Meaning) → IsLoose like allow s.entries.names.now.names s.resolution.now.imports s.entries.objects.now lo
+called_there : (s : Sources) (like allow : Bool) (lo : Loose) (i k : ℕ) (o : Object) (e : InputSymbol) (m : Meaning) → IsLoose s.mode like allow s.entries.names.now.names s.resolution.now.imports s.entries.objects.now lo
     → slice_get s.entries.objects.now i ≡ Some o → slice_get (symbols_of s.entries.objects.now o) k ≡ Some e
-    → slice_get (map (meant s.entries.objects.now allow) (symbols_of s.entries.objects.now o)) k ≡ Some m
+    → slice_get (map (meant s.mode s.entries.objects.now allow) (symbols_of s.entries.objects.now o)) k ≡ Some m
     → (let n = get_or (starts 0 (rows_of s.entries.objects.now)) i 0 + k in
-    IsNamedBy (like && is_mismatch (entries Plain s.entries.objects.now) e m) (told_variant s.entries.names.now.names s.resolution.now.imports (variant e)) (all_symbols s ++ lo.symbols) n (get_or lo.called n n))
+    IsNamedBy (like && is_mismatch (entries s.mode s.entries.objects.now) e m) (told_variant s.entries.names.now.names s.resolution.now.imports (variant e)) (all_symbols s ++ lo.symbols) n (get_or lo.called n n))
 called_there s like allow lo i k o e m loose at there means =
     let objects = s.entries.objects.now in
     let n : ℕ = get_or (starts 0 (rows_of objects)) i 0 + k in
     let v : Symbol = told_variant s.entries.names.now.names s.resolution.now.imports (variant e) in
-    let same : meant objects allow e ≡ m =
-    same_Some (meant objects allow e) m (sym (slice_get-map (meant objects allow) (symbols_of objects o) k ∙ ap (option_map (meant objects allow)) there) ∙ means) in
+    let same : meant s.mode objects allow e ≡ m =
+    same_Some (meant s.mode objects allow e) m (sym (slice_get-map (meant s.mode objects allow) (symbols_of objects o) k ∙ ap (option_map (meant s.mode objects allow)) there) ∙ means) in
     let row : slice_get (rows_of objects) i ≡ Some (symbols_of objects o) = slice_get-map (symbols_of objects) objects i ∙ ap (option_map (symbols_of objects)) at in
     let flat : slice_get (input_symbols objects) n ≡ Some e = ap (λ l. slice_get l n) (sym (flat_same (symbols_of objects) objects)) ∙ in_rows (rows_of objects) i k (symbols_of objects o) e row there in
-    subst (λ m. IsNamedBy (like && is_mismatch (entries Plain objects) e m) v (all_symbols s ++ lo.symbols) n (get_or lo.called n n)) same
-    (called_by s lo (loosens like allow objects e) v n (get_or lo.called n n) (loose.called n e flat))
+    subst (λ m. IsNamedBy (like && is_mismatch (entries s.mode objects) e m) v (all_symbols s ++ lo.symbols) n (get_or lo.called n n)) same
+    (called_by s lo (loosens s.mode like allow objects e) v n (get_or lo.called n n) (loose.called n e flat))
 
 -- a view of an object, and what its numbers stand for
 pub record ViewOf (s : Sources) (types : List FuncType) (all : List Candidate) (like allow : Bool) (lo : Loose) (l : Lookups) (i : ℕ) (o : Object) : Type 0 where
   pub view : View
   pub at : view_at l i ≡ Some view
-  pub is : IsView like (entries Plain s.entries.objects.now) s.entries.names.now.names s.resolution.now.imports (all_symbols s ++ lo.symbols) types all s.entries.objects.now (resolved_of s.entries.objects.now allow o) view
+  pub is : IsView like (entries s.mode s.entries.objects.now) s.entries.names.now.names s.resolution.now.imports (all_symbols s ++ lo.symbols) types all s.entries.objects.now (resolved_of s.mode s.entries.objects.now allow o) view
 
 part_at : (objects : List Object) (parts : List ObjectParts) (i : ℕ) (o : Object) → AreParts objects parts → slice_get objects i ≡ Some o → (p : ObjectParts) × (slice_get parts i ≡ Some p)
 part_at objects parts i o are at =
@@ -152,13 +151,13 @@ view_of s types all like allow lo l i o are at =
         object = refl;
         row = refl;
         entries = row_length objects o 0 o.symbols;
-        meanings = length-map (symbols_of objects o) (meant objects allow) ∙ row_length objects o 0 o.symbols;
+        meanings = length-map (symbols_of objects o) (meant s.mode objects allow) ∙ row_length objects o 0 o.symbols;
         told = λ k e m at_e at_m.
             front (all_symbols s) lo.symbols (get_or l.firsts.now i 0 + k) (told_symbol s.entries.names.now.names s.resolution.now.imports e m)
             (ap (λ fs. slice_get (all_symbols s) (get_or fs i 0 + k)) are.firsts ∙ told_there s allow i k o e m are.rise are.meant at at_e at_m);
         called = λ k e m at_e at_m.
-            subst (λ fs. IsNamedBy (like && is_mismatch (entries Plain objects) e m) (told_variant s.entries.names.now.names s.resolution.now.imports (variant e)) (all_symbols s ++ lo.symbols) (get_or fs i 0 + k) (get_or l.called.now (get_or fs i 0 + k) (get_or fs i 0 + k))) (sym are.firsts)
-            (subst (λ cs. IsNamedBy (like && is_mismatch (entries Plain objects) e m) (told_variant s.entries.names.now.names s.resolution.now.imports (variant e)) (all_symbols s ++ lo.symbols) (get_or (starts 0 (rows_of objects)) i 0 + k) (get_or cs (get_or (starts 0 (rows_of objects)) i 0 + k) (get_or (starts 0 (rows_of objects)) i 0 + k))) (sym are.called)
+            subst (λ fs. IsNamedBy (like && is_mismatch (entries s.mode objects) e m) (told_variant s.entries.names.now.names s.resolution.now.imports (variant e)) (all_symbols s ++ lo.symbols) (get_or fs i 0 + k) (get_or l.called.now (get_or fs i 0 + k) (get_or fs i 0 + k))) (sym are.firsts)
+            (subst (λ cs. IsNamedBy (like && is_mismatch (entries s.mode objects) e m) (told_variant s.entries.names.now.names s.resolution.now.imports (variant e)) (all_symbols s ++ lo.symbols) (get_or (starts 0 (rows_of objects)) i 0 + k) (get_or cs (get_or (starts 0 (rows_of objects)) i 0 + k) (get_or (starts 0 (rows_of objects)) i 0 + k))) (sym are.called)
             (called_there s like allow lo i k o e m are.loose at at_e at_m));
         typed = λ index. type_is types l.types.now objects i o index are.typed at;
         source = λ span. source_is l.homes.now all o.input span are.homes are.numbered (above 0 objects i o are.rise at);
@@ -171,7 +170,7 @@ view_of s types all like allow lo l i o are at =
 
 module _ (s : Sources) (types : List FuncType) (all : List Candidate) (like allow : Bool) (lo : Loose) (l : Lookups) (are : AreLookups s types all like allow lo l) where
   abbrev names_of : List InputSymbol
-  names_of = entries Plain s.entries.objects.now
+  names_of = entries s.mode s.entries.objects.now
 
   abbrev objects_of : List Object
   objects_of = s.entries.objects.now
@@ -183,19 +182,19 @@ module _ (s : Sources) (types : List FuncType) (all : List Candidate) (like allo
   Calls = ShowsCall like names_of (all_symbols s ++ lo.symbols) types s.entries.names.now.names s.resolution.now.imports
 
   abbrev first_resolved : ℕ → List Resolved
-  first_resolved n = map (resolved_of objects_of allow) (take n objects_of)
+  first_resolved n = map (resolved_of s.mode objects_of allow) (take n objects_of)
 
-  one_more : (n : ℕ) (o : Object) → slice_get objects_of n ≡ Some o → first_resolved (suc n) ≡ first_resolved n ++ resolved_of objects_of allow o ∷ []
+  one_more : (n : ℕ) (o : Object) → slice_get objects_of n ≡ Some o → first_resolved (suc n) ≡ first_resolved n ++ resolved_of s.mode objects_of allow o ∷ []
   one_more n o at =
-      ap (λ k. map (resolved_of objects_of allow) (take k objects_of)) (let e : suc n ≡ n + 1 = omega arith in e)
-      ∙ ap (map (resolved_of objects_of allow)) (at_take objects_of n o at)
-      ∙ map-append (resolved_of objects_of allow) (take n objects_of) (o ∷ [])
+      ap (λ k. map (resolved_of s.mode objects_of allow) (take k objects_of)) (let e : suc n ≡ n + 1 = omega arith in e)
+      ∙ ap (map (resolved_of s.mode objects_of allow)) (at_take objects_of n o at)
+      ∙ map-append (resolved_of s.mode objects_of allow) (take n objects_of) (o ∷ [])
 
   more_flat : {B : Type 0} (f : Resolved → List B) (n : ℕ) (o : Object) → slice_get objects_of n ≡ Some o
-      → flat_map f (first_resolved (suc n)) ≡ flat_map f (first_resolved n) ++ f (resolved_of objects_of allow o)
+      → flat_map f (first_resolved (suc n)) ≡ flat_map f (first_resolved n) ++ f (resolved_of s.mode objects_of allow o)
   more_flat f n o at =
-      ap (flat_map f) (one_more n o at) ∙ flat_map-append f (first_resolved n) (resolved_of objects_of allow o ∷ [])
-      ∙ ap (λ x. flat_map f (first_resolved n) ++ x) (append-nil (f (resolved_of objects_of allow o)))
+      ap (flat_map f) (one_more n o at) ∙ flat_map-append f (first_resolved n) (resolved_of s.mode objects_of allow o ∷ [])
+      ∙ ap (λ x. flat_map f (first_resolved n) ++ x) (append-nil (f (resolved_of s.mode objects_of allow o)))
 
   object_at : (n : ℕ) → n < length objects_of → (o : Object) × (slice_get objects_of n ≡ Some o)
   object_at n lt = item_at objects_of n lt
@@ -205,11 +204,11 @@ module _ (s : Sources) (types : List FuncType) (all : List Candidate) (like allo
   rows_to (suc n) le =
       let (o, at) = object_at n (omega arith) in
       let v = view_of s types all like allow lo l n o are at in
-      let row : AllZip Shows (rows_of_view (view_at l n)) (parts_in all objects_of (resolved_of objects_of allow o)) =
-      subst (λ x. AllZip Shows (rows_of_view x) (parts_in all objects_of (resolved_of objects_of allow o))) (sym v.at)
-      (rows_shown like names_of s.entries.names.now.names s.resolution.now.imports (all_symbols s ++ lo.symbols) types all objects_of (resolved_of objects_of allow o) v.view v.is) in
+      let row : AllZip Shows (rows_of_view (view_at l n)) (parts_in all objects_of (resolved_of s.mode objects_of allow o)) =
+      subst (λ x. AllZip Shows (rows_of_view x) (parts_in all objects_of (resolved_of s.mode objects_of allow o))) (sym v.at)
+      (rows_shown like names_of s.entries.names.now.names s.resolution.now.imports (all_symbols s ++ lo.symbols) types all objects_of (resolved_of s.mode objects_of allow o) v.view v.is) in
       subst (λ x. AllZip Shows (rows_upto l n ++ rows_of_view (view_at l n)) x) (sym (more_flat (parts_in all objects_of) n o at))
-      (zip_append Shows (rows_upto l n) (rows_of_view (view_at l n)) (flat_map (parts_in all objects_of) (first_resolved n)) (parts_in all objects_of (resolved_of objects_of allow o))
+      (zip_append Shows (rows_upto l n) (rows_of_view (view_at l n)) (flat_map (parts_in all objects_of) (first_resolved n)) (parts_in all objects_of (resolved_of s.mode objects_of allow o))
       (rows_to n (omega arith)) row)
 
   calls_to : (n : ℕ) → n ≤ length objects_of → AllZip Calls (calls_upto l n) (flat_map init_calls_in (first_resolved n))
@@ -217,7 +216,7 @@ module _ (s : Sources) (types : List FuncType) (all : List Candidate) (like allo
   calls_to (suc n) le =
       let (o, at) = object_at n (omega arith) in
       let v = view_of s types all like allow lo l n o are at in
-      let r = resolved_of objects_of allow o in
+      let r = resolved_of s.mode objects_of allow o in
       let row : AllZip Calls (calls_of l n) (init_calls_in r) =
       subst (λ x. AllZip Calls (calls_in l.entries.objects.now x) (init_calls_in r)) (sym v.at)
       (subst (λ es. AllZip Calls (calls_in es.objects.now (Some v.view)) (init_calls_in r)) (sym are.entries)
@@ -225,8 +224,8 @@ module _ (s : Sources) (types : List FuncType) (all : List Candidate) (like allo
       subst (λ x. AllZip Calls (calls_upto l n ++ calls_of l n) x) (sym (more_flat init_calls_in n o at))
       (zip_append Calls (calls_upto l n) (calls_of l n) (flat_map init_calls_in (first_resolved n)) (init_calls_in r) (calls_to n (omega arith)) row)
 
-  all_resolved : first_resolved (length objects_of) ≡ map (resolved_of objects_of allow) objects_of
-  all_resolved = ap (map (resolved_of objects_of allow)) (take_all (length objects_of) objects_of (omega arith))
+  all_resolved : first_resolved (length objects_of) ≡ map (resolved_of s.mode objects_of allow) objects_of
+  all_resolved = ap (map (resolved_of s.mode objects_of allow)) (take_all (length objects_of) objects_of (omega arith))
 
   -- ---- the calls in order
 
@@ -261,7 +260,7 @@ module _ (s : Sources) (types : List FuncType) (all : List Candidate) (like allo
   names_shown (c ∷ cs) (d ∷ ds) all = (all.0.named, names_shown cs ds all.1)
 
   abbrev resolved_all : List Resolved
-  resolved_all = resolve Plain allow (entries Plain objects_of) objects_of
+  resolved_all = resolve s.mode allow (entries s.mode objects_of) objects_of
 
   inits_shown : AllZip ShowsOne (call_names l) (map a_symbol (init_calls resolved_all))
   unfolding init_calls resolve
@@ -285,27 +284,27 @@ module _ (s : Sources) (types : List FuncType) (all : List Candidate) (like allo
       by : (kind : Option ℕ) → AllZip Shows (made_rows calls (place + 1) ms) (made_parts_from refs (place + 1) ms)
           → AllZip Shows (option_onto (option_map (λ kind. record {
             part = record { chunk = record { input = 0; kind = kind; index = place }; content = contents.Made; source = no_source };
-            named = if (kind == 0) && (place == 0) then calls else [];
+            named = if (kind == 0) && (place == call_ctors) then calls else [];
           }) kind) (made_rows calls (place + 1) ms))
           (option_onto (option_map (λ kind. record {
             chunk = record { input = 0; kind = kind; index = place };
             content = linker_made m;
             source = no_source;
-            named = if (kind == 0) && (place == 0) then map a_symbol refs else [];
+            named = if (kind == 0) && (place == call_ctors) then map a_symbol refs else [];
           }) kind) (made_parts_from refs (place + 1) ms))
       by None rest = rest
       by (Some kind) rest = (
-        record { chunk = refl; content = refl; source = refl; named = made_named ((kind == 0) && (place == 0)) calls (map a_symbol refs) all; typed = tt },
+        record { chunk = refl; content = refl; source = refl; named = made_named ((kind == 0) && (place == call_ctors)) calls (map a_symbol refs) all; typed = tt },
         rest,
       )
 
   -- ---- all parts
 
-  pub parts_shown : AllZip Shows (all_rows l) (parts_of Plain all objects_of resolved_all)
+  pub parts_shown : AllZip Shows (all_rows s.mode l) (parts_of s.mode all objects_of resolved_all)
   unfolding parts_of resolve
   parts_shown =
-      zip_append Shows (made_rows (call_names l) 0 (made Plain)) (rows_upto l (length l.entries.objects.now))
-      (made_parts_from (init_calls resolved_all) 0 (made Plain)) (flat_map (parts_in all objects_of) resolved_all)
-      (made_shown (call_names l) (init_calls resolved_all) 0 (made Plain) inits_shown)
+      zip_append Shows (made_rows (call_names l) 0 (made s.mode)) (rows_upto l (length l.entries.objects.now))
+      (made_parts_from (init_calls resolved_all) 0 (made s.mode)) (flat_map (parts_in all objects_of) resolved_all)
+      (made_shown (call_names l) (init_calls resolved_all) 0 (made s.mode) inits_shown)
       (subst (λ es. AllZip Shows (rows_upto l (length es.objects.now)) (flat_map (parts_in all objects_of) resolved_all)) (sym are.entries)
       (subst (λ rs. AllZip Shows (rows_upto l (length objects_of)) (flat_map (parts_in all objects_of) rs)) all_resolved (rows_to (length objects_of) (omega arith))))

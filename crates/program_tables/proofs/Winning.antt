@@ -11,7 +11,7 @@ use Rattle.link_program.specs.linking_section.declared.symbol.Symbol.{Symbol}
 use Rattle.link_program.specs.linking_section.Flags.{is_weak}
 use Rattle.link_program.specs.symbol_race.Ranks.{IsParts, rank_of}
 use Rattle.link_program.specs.object_file.declared.object.Object.{Object}
-use Rattle.link_program.specs.made_symbols.declared.mode.Mode.TheVariants.{Plain}
+use Rattle.link_program.specs.made_symbols.declared.mode.Mode.{Mode}
 use Rattle.link_program.specs.made_symbols.Made.{MadeSymbol, made}
 use Rattle.link_program.specs.link_names.Numbered.{Numbered, AreNumbers, is_entry_symbol, symbol_name, symbol_number, entry_names, Held, Short}
 use Rattle.link_program.specs.name_rules.Entries.{InputSymbol, entries_from, made_from, is_entry, is_named, entries, name_of, symbols_of, named, same_entry}
@@ -23,6 +23,7 @@ use Rattle.link_program.specs.declared.symbol.Winner.{Winner}
 use Rattle.link_program.specs.Told.{told_definition, told_winner}
 use Rattle.program_tables.specs.Winners.{is_rank, winner_by, winner_of, winners_in}
 use Rattle.program_tables.proofs.Lists.{Each, each_append, each_filter, each_both, kept_map, kept_only}
+use Rattle.program_tables.proofs.MadeOnes.{small_classes, few_made}
 use Rattle.program_tables.proofs.There.{Stands, entries_stand, one_entry, each_least}
 
 -- ---- the parts of ranks
@@ -65,16 +66,16 @@ parts_made k (m ∷ ms) small short =
     let rest : (k + 1) + length ms ≤ 2 ^ 32 = omega arith in
     (record { class = ltb-true m.class 3 two.0; input = omega arith; symbol = below }, parts_made (k + 1) ms two.1 rest)
 
-symbols_have_parts : (objects : List Object) (n : Numbered) → AreNumbers Plain objects n → InputsRise 0 objects → Each HasParts (flat_map (symbols_of objects) objects)
-symbols_have_parts objects n numbers rise =
+symbols_have_parts : (mode : Mode) (objects : List Object) (n : Numbered) → AreNumbers mode objects n → InputsRise 0 objects → Each HasParts (flat_map (symbols_of objects) objects)
+symbols_have_parts mode objects n numbers rise =
     let short = subst (All (λ (l : List (Option ℕ)). Short l)) numbers.symbols numbers.short in
     parts_objects objects n.names 0 objects rise short
 
-pub entries_have_parts : (objects : List Object) (n : Numbered) → AreNumbers Plain objects n → InputsRise 0 objects → Each HasParts (entries Plain objects)
+pub entries_have_parts : (mode : Mode) (objects : List Object) (n : Numbered) → AreNumbers mode objects n → InputsRise 0 objects → Each HasParts (entries mode objects)
 unfolding entries
-entries_have_parts objects n numbers rise =
-    each_append HasParts (made_from 0 (made Plain)) (filter is_entry (flat_map (symbols_of objects) objects)) (parts_made 0 (made Plain) refl (omega arith))
-    (each_filter HasParts is_entry (flat_map (symbols_of objects) objects) (symbols_have_parts objects n numbers rise))
+entries_have_parts mode objects n numbers rise =
+    each_append HasParts (made_from 0 (made mode)) (filter is_entry (flat_map (symbols_of objects) objects)) (parts_made 0 (made mode) (small_classes mode) (few_made mode))
+    (each_filter HasParts is_entry (flat_map (symbols_of objects) objects) (symbols_have_parts mode objects n numbers rise))
 
 -- equal ranks are of one input and one place
 rank_parts : (a i s b j t : ℕ) → a < 3 → i < 2 ^ 20 → s < 2 ^ 32 → b < 3 → j < 2 ^ 20 → t < 2 ^ 32 → rank_of a i s ≡ rank_of b j t → (i ≡ j) × (s ≡ t)
@@ -118,50 +119,50 @@ bool_same false false a b = refl
 bool_same true false a b = sym (a refl)
 bool_same false true a b = b refl
 
-same_by_rank : (objects : List Object) (e f : InputSymbol) → InputsRise 0 objects → Stands objects e → Stands objects f → HasParts e → HasParts f
+same_by_rank : (mode : Mode) (objects : List Object) (e f : InputSymbol) → InputsRise 0 objects → Stands mode objects e → Stands mode objects f → HasParts e → HasParts f
     → (entry_rank e == entry_rank f) ≡ same_entry e f
-same_by_rank objects e f rise se sf pe pf =
+same_by_rank mode objects e f rise se sf pe pf =
     bool_same (entry_rank e == entry_rank f) (same_entry e f)
     (λ h. let parts = rank_parts e.class e.input e.place f.class f.input f.place pe.class pe.input pe.symbol pf.class pf.input pf.symbol (eqb-true (entry_rank e) (entry_rank f) h) in
     rw (eq-eqb e.input f.input parts.0, eq-eqb e.place f.place parts.1) refl)
     (λ h. let two = and_parts (e.input == f.input) (e.place == f.place) h in
-    let same : e ≡ f = one_entry objects e f rise se sf (eqb-true e.input f.input two.0) (eqb-true e.place f.place two.1) in
+    let same : e ≡ f = one_entry mode objects e f rise se sf (eqb-true e.input f.input two.0) (eqb-true e.place f.place two.1) in
     eq-eqb (entry_rank e) (entry_rank f) (ap entry_rank same))
 
-that_by_rank : (objects : List Object) (e : InputSymbol) (w : Option InputSymbol) → InputsRise 0 objects → Stands objects e → HasParts e → ((f : InputSymbol) → w ≡ Some f → Stands objects f × HasParts f)
+that_by_rank : (mode : Mode) (objects : List Object) (e : InputSymbol) (w : Option InputSymbol) → InputsRise 0 objects → Stands mode objects e → HasParts e → ((f : InputSymbol) → w ≡ Some f → Stands mode objects f × HasParts f)
     → is_rank (entry_rank e) (option_map entry_rank w) ≡ is_that e w
-that_by_rank objects e None rise se pe found = refl
-that_by_rank objects e (Some f) rise se pe found = let two = found f refl in same_by_rank objects e f rise se two.0 pe two.1
+that_by_rank mode objects e None rise se pe found = refl
+that_by_rank mode objects e (Some f) rise se pe found = let two = found f refl in same_by_rank mode objects e f rise se two.0 pe two.1
 
 -- What is known of names, ranks and objects.
-pub record IsRanked (objects : List Object) (n : Numbered) (ranks : List (Option ℕ)) : Type 0 where
-  pub numbers : AreNumbers Plain objects n
+pub record IsRanked (mode : Mode) (objects : List Object) (n : Numbered) (ranks : List (Option ℕ)) : Type 0 where
+  pub numbers : AreNumbers mode objects n
   pub rise : InputsRise 0 objects
-  pub winners : WinnersAre n.names (entries Plain objects) ranks
+  pub winners : WinnersAre n.names (entries mode objects) ranks
 
-winner_known : (objects : List Object) (n : Numbered) (ranks : List (Option ℕ)) → IsRanked objects n ranks → (name : List ℕ) (f : InputSymbol) → winner (entries Plain objects) name ≡ Some f
-    → Stands objects f × HasParts f
-winner_known objects n ranks known name f wins =
-    let P = λ (e : InputSymbol). Stands objects e × HasParts e in
-    let all : Each P (entries Plain objects) = each_both (Stands objects) HasParts (entries Plain objects) (entries_stand objects) (entries_have_parts objects n known.numbers known.rise) in
-    each_least P (definitions (entries Plain objects) name) f (each_filter P (λ (e : InputSymbol). e.defines) (named (entries Plain objects) name) (each_filter P (is_named name) (entries Plain objects) all)) wins
+winner_known : (mode : Mode) (objects : List Object) (n : Numbered) (ranks : List (Option ℕ)) → IsRanked mode objects n ranks → (name : List ℕ) (f : InputSymbol) → winner (entries mode objects) name ≡ Some f
+    → Stands mode objects f × HasParts f
+winner_known mode objects n ranks known name f wins =
+    let P = λ (e : InputSymbol). Stands mode objects e × HasParts e in
+    let all : Each P (entries mode objects) = each_both (Stands mode objects) HasParts (entries mode objects) (entries_stand mode objects) (entries_have_parts mode objects n known.numbers known.rise) in
+    each_least P (definitions (entries mode objects) name) f (each_filter P (λ (e : InputSymbol). e.defines) (named (entries mode objects) name) (each_filter P (is_named name) (entries mode objects) all)) wins
 
-by_number : (objects : List Object) (n : Numbered) (ranks : List (Option ℕ)) (e : InputSymbol) (number : Option ℕ) → IsRanked objects n ranks → Stands objects e → HasParts e
+by_number : (mode : Mode) (objects : List Object) (n : Numbered) (ranks : List (Option ℕ)) (e : InputSymbol) (number : Option ℕ) → IsRanked mode objects n ranks → Stands mode objects e → HasParts e
     → number_of n.names (name_of e) ≡ number → IsSome number
-    → option_and_then (winner_by ranks e) number ≡ given (is_winner (entries Plain objects) e) (record { definition = told_definition e; name = unwrap_or number 0; flags = e.symbol.flags })
-by_number objects n ranks e None known se pe is some = absurd (let x : false ≡ true = some in cc)
-by_number objects n ranks e (Some k) known se pe is some =
+    → option_and_then (winner_by ranks e) number ≡ given (is_winner (entries mode objects) e) (record { definition = told_definition e; name = unwrap_or number 0; flags = e.symbol.flags })
+by_number mode objects n ranks e None known se pe is some = absurd (let x : false ≡ true = some in cc)
+by_number mode objects n ranks e (Some k) known se pe is some =
     let at = named_by n.names (name_of e) k is in
     let rank = known.winners k (name_of e) at in
     ap (λ o. given (is_rank (entry_rank e) o) (record { definition = told_definition e; name = k; flags = e.symbol.flags })) rank
     ∙ ap (λ b. given b (record { definition = told_definition e; name = k; flags = e.symbol.flags }))
-    (that_by_rank objects e (winner (entries Plain objects) (name_of e)) known.rise se pe (winner_known objects n ranks known (name_of e)))
+    (that_by_rank mode objects e (winner (entries mode objects) (name_of e)) known.rise se pe (winner_known mode objects n ranks known (name_of e)))
 
-entry_wins : (objects : List Object) (n : Numbered) (ranks : List (Option ℕ)) (e : InputSymbol) → IsRanked objects n ranks → Stands objects e → HasParts e → IsHeld n.names e → is_entry e ≡ true
-    → winner_of n.names ranks e ≡ given (is_winner (entries Plain objects) e) (told_winner n.names e)
-entry_wins objects n ranks e known se pe held is =
+entry_wins : (mode : Mode) (objects : List Object) (n : Numbered) (ranks : List (Option ℕ)) (e : InputSymbol) → IsRanked mode objects n ranks → Stands mode objects e → HasParts e → IsHeld n.names e → is_entry e ≡ true
+    → winner_of n.names ranks e ≡ given (is_winner (entries mode objects) e) (told_winner n.names e)
+entry_wins mode objects n ranks e known se pe held is =
     ap (λ b. option_and_then (winner_by ranks e) (if b then number_of n.names (name_of e) else None)) is
-    ∙ by_number objects n ranks e (number_of n.names (name_of e)) known se pe refl (held is)
+    ∙ by_number mode objects n ranks e (number_of n.names (name_of e)) known se pe refl (held is)
 
 no_entry_wins : (names : List (List ℕ)) (ranks : List (Option ℕ)) (e : InputSymbol) → is_entry e ≡ false → winner_of names ranks e ≡ None
 no_entry_wins names ranks e not = ap (λ b. option_and_then (winner_by ranks e) (if b then number_of names (name_of e) else None)) not
@@ -186,41 +187,41 @@ rows_flat f objects [] append nothing = sym nothing
 rows_flat f objects (o ∷ os) append nothing =
     ap (λ l. f (symbols_of objects o) ++ l) (rows_flat f objects os append nothing) ∙ sym (append (symbols_of objects o) (flat_map (symbols_of objects) os))
 
-all_wins : (objects : List Object) (n : Numbered) (ranks : List (Option ℕ)) (es : List InputSymbol) → IsRanked objects n ranks → Each (Stands objects) es → Each HasParts es → Each (IsHeld n.names) es
-    → Each (λ e. is_entry e ≡ true) es → Each (λ e. winner_of n.names ranks e ≡ given (is_winner (entries Plain objects) e) (told_winner n.names e)) es
-all_wins objects n ranks [] known stand parts held are = tt
-all_wins objects n ranks (e ∷ es) known stand parts held are =
-    (entry_wins objects n ranks e known stand.0 parts.0 held.0 are.0, all_wins objects n ranks es known stand.1 parts.1 held.1 are.1)
+all_wins : (mode : Mode) (objects : List Object) (n : Numbered) (ranks : List (Option ℕ)) (es : List InputSymbol) → IsRanked mode objects n ranks → Each (Stands mode objects) es → Each HasParts es → Each (IsHeld n.names) es
+    → Each (λ e. is_entry e ≡ true) es → Each (λ e. winner_of n.names ranks e ≡ given (is_winner (entries mode objects) e) (told_winner n.names e)) es
+all_wins mode objects n ranks [] known stand parts held are = tt
+all_wins mode objects n ranks (e ∷ es) known stand parts held are =
+    (entry_wins mode objects n ranks e known stand.0 parts.0 held.0 are.0, all_wins mode objects n ranks es known stand.1 parts.1 held.1 are.1)
 
 skipped : (names : List (List ℕ)) (ranks : List (Option ℕ)) (es : List InputSymbol) → Each (λ e. is_entry e ≡ false → winner_of names ranks e ≡ None) es
 skipped names ranks [] = tt
 skipped names ranks (e ∷ es) = (no_entry_wins names ranks e, skipped names ranks es)
 
-entries_held : (objects : List Object) (n : Numbered) → AreNumbers Plain objects n → Each (IsHeld n.names) (entries Plain objects)
+entries_held : (mode : Mode) (objects : List Object) (n : Numbered) → AreNumbers mode objects n → Each (IsHeld n.names) (entries mode objects)
 unfolding entries
-entries_held objects n numbers =
-    each_append (IsHeld n.names) (made_from 0 (made Plain)) (filter is_entry (flat_map (symbols_of objects) objects)) (held_made n.names 0 (made Plain) numbers.made_held)
+entries_held mode objects n numbers =
+    each_append (IsHeld n.names) (made_from 0 (made mode)) (filter is_entry (flat_map (symbols_of objects) objects)) (held_made n.names 0 (made mode) numbers.made_held)
     (each_filter (IsHeld n.names) is_entry (flat_map (symbols_of objects) objects) (held_objects n.names objects objects numbers.symbols_held))
 
-entries_are : (objects : List Object) → Each (λ e. is_entry e ≡ true) (entries Plain objects)
+entries_are : (mode : Mode) (objects : List Object) → Each (λ e. is_entry e ≡ true) (entries mode objects)
 unfolding entries
-entries_are objects =
-    each_append (λ e. is_entry e ≡ true) (made_from 0 (made Plain)) (filter is_entry (flat_map (symbols_of objects) objects)) (made_are_entries 0 (made Plain))
+entries_are mode objects =
+    each_append (λ e. is_entry e ≡ true) (made_from 0 (made mode)) (filter is_entry (flat_map (symbols_of objects) objects)) (made_are_entries 0 (made mode))
     (filter_is is_entry (flat_map (symbols_of objects) objects))
 
-split_wins : (names : List (List ℕ)) (ranks : List (Option ℕ)) (objects : List Object) → winners_in names ranks objects ≡ filter_map (winner_of names ranks) (entries Plain objects)
+split_wins : (mode : Mode) (names : List (List ℕ)) (ranks : List (Option ℕ)) (objects : List Object) → winners_in mode names ranks objects ≡ filter_map (winner_of names ranks) (entries mode objects)
 unfolding entries
-split_wins names ranks objects =
+split_wins mode names ranks objects =
     let all = flat_map (symbols_of objects) objects in
     let g = winner_of names ranks in
-    ap (λ l. filter_map g (made_from 0 (made Plain)) ++ l)
+    ap (λ l. filter_map g (made_from 0 (made mode)) ++ l)
     (rows_flat (filter_map g) objects objects (filter_map-append g) refl ∙ sym (kept_only g is_entry all (skipped names ranks all)))
-    ∙ sym (filter_map-append g (made_from 0 (made Plain)) (filter is_entry all))
+    ∙ sym (filter_map-append g (made_from 0 (made mode)) (filter is_entry all))
 
-pub winners_told : (objects : List Object) (n : Numbered) (ranks : List (Option ℕ)) → IsRanked objects n ranks
-    → winners_in n.names ranks objects ≡ map (told_winner n.names) (winners_of (entries Plain objects))
+pub winners_told : (mode : Mode) (objects : List Object) (n : Numbered) (ranks : List (Option ℕ)) → IsRanked mode objects n ranks
+    → winners_in mode n.names ranks objects ≡ map (told_winner n.names) (winners_of (entries mode objects))
 unfolding winners_of
-winners_told objects n ranks known =
-    split_wins n.names ranks objects
-    ∙ kept_map (winner_of n.names ranks) (is_winner (entries Plain objects)) (told_winner n.names) (entries Plain objects)
-    (all_wins objects n ranks (entries Plain objects) known (entries_stand objects) (entries_have_parts objects n known.numbers known.rise) (entries_held objects n known.numbers) (entries_are objects))
+winners_told mode objects n ranks known =
+    split_wins mode n.names ranks objects
+    ∙ kept_map (winner_of n.names ranks) (is_winner (entries mode objects)) (told_winner n.names) (entries mode objects)
+    (all_wins mode objects n ranks (entries mode objects) known (entries_stand mode objects) (entries_have_parts mode objects n known.numbers known.rise) (entries_held mode objects n known.numbers) (entries_are mode objects))

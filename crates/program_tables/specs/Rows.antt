@@ -9,8 +9,8 @@ use Rattle.link_program.specs.object_parts.declared.parts.GlobalDef.{GlobalDef}
 use Rattle.link_program.specs.object_columns.declared.functions.FunctionDef.{FunctionDef}
 use Rattle.link_program.specs.object_columns.declared.segments.SegmentDef.{SegmentDef}
 use Rattle.link_program.specs.mark_bits.declared.chunk.Chunk.{Chunk}
-use Rattle.link_program.specs.made_symbols.declared.mode.Mode.TheVariants.{Plain}
-use Rattle.link_program.specs.made_symbols.Made.{made, MadeSymbol}
+use Rattle.link_program.specs.made_symbols.declared.mode.Mode.{Mode}
+use Rattle.link_program.specs.made_symbols.Made.{made, MadeSymbol, call_ctors}
 use Rattle.link_program.specs.name_entries.Parts.{has_flag}
 use Rattle.link_program.specs.link_rules.Program.{indexed, option_onto, made_kind, no_source}
 use Rattle.link_program.specs.declared.named.Named.{Named}
@@ -88,11 +88,11 @@ rows_in v =
 
 -- ---- all parts
 
--- A linker-made symbol as a part. The calls are those of `__wasm_call_ctors`, whose number is 0.
+-- A linker-made symbol as a part. The calls are those of `__wasm_call_ctors`.
 abbrev pub made_row : List Named → ℕ → SymbolKind → Option Row
 made_row calls place symbol_kind = option_map (λ kind. record {
   part = record { chunk = record { input = 0; kind = kind; index = place }; content = Made; source = no_source };
-  named = if (kind == 0) && (place == 0) then calls else [];
+  named = if (kind == 0) && (place == call_ctors) then calls else [];
 }) (made_kind symbol_kind)
 
 abbrev pub made_rows : List Named → ℕ → List MadeSymbol → List Row
@@ -114,5 +114,5 @@ rows_from l from zero = []
 rows_from l from (suc n) = rows_from l from n ++ rows_of_view (view_at l (from + n))
 
 -- The kept parts of all objects: the linker's own by number, then those of each object.
-abbrev pub all_rows : Lookups → List Row
-all_rows l = made_rows (call_names l) 0 (made Plain) ++ rows_upto l (length l.entries.objects.now)
+abbrev pub all_rows : Mode → Lookups → List Row
+all_rows mode l = made_rows (call_names l) 0 (made mode) ++ rows_upto l (length l.entries.objects.now)

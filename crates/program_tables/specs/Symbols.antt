@@ -13,13 +13,13 @@ use Rattle.program_tables.specs.Leads.{lead_at, AreAnswered}
 pub record AreSources (s : Sources) : Type 0 where
   pub fits : FitsObjects s.entries
   pub places : ArePlaces s.entries.objects.now s.places.now
-  pub answers : AreAnswered s.entries.objects.now s.resolution.now
+  pub answers : AreAnswered s.mode s.entries.objects.now s.resolution.now
 
 abbrev pub symbol_of : Sources → InputSymbol → Symbol
 symbol_of s e = record {
   kind = e.symbol.kind;
   name = entry_number s.entries.names.now.names e;
-  lead = lead_at s.entries.objects.now (answer_at s.resolution.now e.input e.place);
+  lead = lead_at s.mode s.entries.objects.now (answer_at s.resolution.now e.input e.place);
 }
 
 -- The symbols of all objects, one object behind another.

@@ -2,7 +2,7 @@
 use Rattle.std.specs.Prelude.{ℕ, ◌==◌, Bool, false, List, ◌++◌, filter_map, flat_map, slice_index_or, Option, Some, None, option_and_then}
 use Rattle.link_program.specs.wl_base.Choice.{given}
 use Rattle.link_program.specs.object_file.declared.object.Object.{Object}
-use Rattle.link_program.specs.made_symbols.declared.mode.Mode.TheVariants.{Plain}
+use Rattle.link_program.specs.made_symbols.declared.mode.Mode.{Mode}
 use Rattle.link_program.specs.made_symbols.Made.{made}
 use Rattle.link_program.specs.name_rules.Entries.{InputSymbol, made_from}
 use Rattle.link_program.specs.name_rules.Meanings.{entry_rank}
@@ -24,6 +24,6 @@ abbrev pub winner_of : List (List ℕ) → List (Option ℕ) → InputSymbol →
 winner_of names ranks e = option_and_then (winner_by ranks e) (entry_number names e)
 
 -- The winners of all names: the linker's own, then those of objects.
-abbrev pub winners_in : List (List ℕ) → List (Option ℕ) → List Object → List Winner
-winners_in names ranks objects =
-    filter_map (winner_of names ranks) (made_from 0 (made Plain)) ++ flat_map (λ row. filter_map (winner_of names ranks) row) (rows_of objects)
+abbrev pub winners_in : Mode → List (List ℕ) → List (Option ℕ) → List Object → List Winner
+winners_in mode names ranks objects =
+    filter_map (winner_of names ranks) (made_from 0 (made mode)) ++ flat_map (λ row. filter_map (winner_of names ranks) row) (rows_of objects)

@@ -1,6 +1,5 @@
 //! Definitions, by where they stand.
 ghost use Rattle.std.specs.Prelude.{◌≡◌, ◌<◌, length, Some, IsSome};
-ghost use Rattle.link_program.specs.made_symbols.declared.mode.Mode.TheVariants as modes;
 ghost use Rattle.link_program.specs.made_symbols.Made.{made};
 ghost use Rattle.link_program.specs.name_rules.Entries.{InputSymbol};
 ghost use Rattle.link_program.specs.name_entries.View.{entry_at};
@@ -29,15 +28,15 @@ pub(crate) fn definition_at(entries: Entries<'_>, object: u32, place: u32) -> De
     }
 }
 
-/// A linker-made symbol as a definition, by its number.
-pub(crate) fn made_definition(number: u32) -> Definition
-    requires { number < length (made modes.Plain) }
-    ensures { result ≡ made_definition number }
+/// A linker-made symbol of the mode as a definition, by its number.
+pub(crate) fn made_definition(mode: Mode, number: u32) -> Definition
+    requires { number < length (made mode) }
+    ensures { result ≡ made_definition mode number }
 {
     Definition {
         input: 0,
         place: number,
-        kind: kind(Mode::Plain, number),
+        kind: kind(mode, number),
         index: number,
         offset: 0,
     }

@@ -1,6 +1,7 @@
 //! What calls name, in a link that is like lld's, where a function is called by another type than its definition has.
 ghost use Rattle.std.specs.Prelude.{◌≡◌, ℕ, [], false, Bool, List};
 ghost use Rattle.link_program.specs.object_file.declared.object.Object.{Object};
+ghost use Rattle.link_program.specs.made_symbols.declared.mode.Mode.{Mode};
 ghost use Rattle.link_program.specs.name_rules.Entries.{ImportKey};
 ghost use Rattle.program_tables.specs.Loose.{IsLoose};
 
@@ -23,7 +24,7 @@ pub struct Loose {
 impl Loose {
     /// No variant. It takes no memory.
     pub fn none(alloc: Global) -> Loose
-        ensures { (allow : Bool) (names : List (List ℕ)) (imports : List ImportKey) (objects : List Object) → IsLoose false allow names imports objects result }
+        ensures { (mode : Mode) (allow : Bool) (names : List (List ℕ)) (imports : List ImportKey) (objects : List Object) → IsLoose mode false allow names imports objects result }
     {
         Loose {
             called: Seq::new(alloc),

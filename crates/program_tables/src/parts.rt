@@ -11,7 +11,7 @@ use crate::joining::{Joined, are_whole, put_together};
 use crate::making::made_pieces;
 use crate::pieces::Piece;
 use crate::view::Lookups;
-use link_program::{Named, Object, Part};
+use link_program::{Mode, Named, Object, Part};
 use mark_bits::ChunkTable;
 use std::alloc::Global;
 use std::thread::Threads;
@@ -88,15 +88,16 @@ pub(crate) fn all_parts<R: Threads + Sync>(
     rt: &R,
     alloc: Global,
     lookups: Lookups<'_>,
+    mode: Mode,
     workers: Workers,
 ) -> Result<AllParts, OutOfMemory>
     requires { FitsObjects lookups.entries }
-    ensures parts { IfOk result (AreAll (all_rows lookups.entry)) }
+    ensures parts { IfOk result (AreAll (all_rows mode lookups.entry)) }
     ensures few { IfOk result (λ all. length all.chunks < 2 ^ 32 - 1) }
     ensures differ { IfOk result (λ all. Differ all.chunks) }
 {
     let calls = init_calls(alloc, lookups)?;
-    let made = Piece::of_made(alloc, calls.as_slice())?;
+    let made = Piece::of_made(alloc, mode, calls.as_slice())?;
     let ranges = ranges_for(alloc, lookups.entries.objects, workers)?;
     let pieces = made_pieces(rt, alloc, lookups, &ranges, made)?;
     if !are_whole(&pieces) {

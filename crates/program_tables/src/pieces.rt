@@ -1,6 +1,5 @@
 //! Some of the parts, and what they name, as one worker makes them.
 ghost use Rattle.std.specs.Prelude.{◌≡◌, ◌-◌, ◌+◌, ◌≤◌, ◌∷◌, ◌<◌, ◌^◌, [], false, length, filter, OnOk, IfOk};
-ghost use Rattle.link_program.specs.made_symbols.declared.mode.Mode.TheVariants as modes;
 ghost use Rattle.link_program.specs.made_symbols.Made.{made, made_at};
 ghost use Rattle.link_program.specs.object_columns.Seen.{function_seen, segment_seen};
 ghost use Rattle.link_program.specs.link_rules.Program.{indexed, option_onto, made_kind};
@@ -16,6 +15,9 @@ use mark_bits::{Chunk, kinds as chunk_kinds};
 use std::alloc::Global;
 use wl_base::{OutOfMemory, Seq};
 use wl_lists::Lists;
+
+/// The number of `__wasm_call_ctors` among the linker's symbols, in both modes.
+const CALL_CTORS: u32 = 0;
 
 /// Parts, and by part what it names.
 #[derive(Drop)]
@@ -251,12 +253,12 @@ impl Piece {
         };
     }
 
-    /// A linker-made part, by its number, if it is a chunk. `calls` is what `__wasm_call_ctors` calls, whose number is 0.
-    fn add_made(&mut self, calls: &[Named], number: u32) -> Result<(), OutOfMemory>
-        requires { number < length (made modes.Plain) }
-        ensures { OnOk result (Gains (option_onto (made_row calls.now number (made_at modes.Plain number).kind) []) self.old self.new) }
+    /// A linker-made part, by its number, if it is a chunk. `calls` is what `__wasm_call_ctors` calls.
+    fn add_made(&mut self, mode: Mode, calls: &[Named], number: u32) -> Result<(), OutOfMemory>
+        requires { number < length (made mode) }
+        ensures { OnOk result (Gains (option_onto (made_row calls.now number (made_at mode number).kind) []) self.old self.new) }
     {
-        let Some(kind) = made_kind(kind(Mode::Plain, number)) else {
+        let Some(kind) = made_kind(kind(mode, number)) else {
             return Ok(());
         };
         let part = Part {
@@ -268,7 +270,7 @@ impl Piece {
             content: Content::Made,
             source: NO_SOURCE,
         };
-        let named = if kind == chunk_kinds::FUNCTION && number == 0 {
+        let named = if kind == chunk_kinds::FUNCTION && number == CALL_CTORS {
             calls
         } else {
             &[]
@@ -277,12 +279,12 @@ impl Piece {
     }
 
     /// The linker-made parts by number.
-    pub(crate) fn of_made(alloc: Global, calls: &[Named]) -> Result<Piece, OutOfMemory>
-        ensures { IfOk result (AreGained (made_rows calls.now 0 (made modes.Plain))) }
+    pub(crate) fn of_made(alloc: Global, mode: Mode, calls: &[Named]) -> Result<Piece, OutOfMemory>
+        ensures { IfOk result (AreGained (made_rows calls.now 0 (made mode))) }
     {
         let mut made = Piece::new(alloc);
-        for number in 0..count(Mode::Plain) {
-            made.add_made(calls, number)?;
+        for number in 0..count(mode) {
+            made.add_made(mode, calls, number)?;
         }
         Ok(made)
     }

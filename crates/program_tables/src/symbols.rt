@@ -8,7 +8,7 @@ ghost use Rattle.program_tables.specs.Objects.{ArePlaces};
 ghost use Rattle.program_tables.specs.Symbols.{AreSources, symbol_of, symbols_of, starts};
 
 use crate::definitions::{definition_at, made_definition};
-use link_program::{Entries, Lead, Meaning, Resolution, Symbol};
+use link_program::{Entries, Lead, Meaning, Mode, Resolution, Symbol};
 use std::alloc::Global;
 use wl_base::{OutOfMemory, Seq};
 
@@ -16,6 +16,7 @@ use wl_base::{OutOfMemory, Seq};
 #[derive(Clone, Copy)]
 pub(crate) struct Sources<'a> {
     pub(crate) entries: Entries<'a>,
+    pub(crate) mode: Mode,
     pub(crate) resolution: &'a Resolution,
     /// The places of the objects by their inputs.
     pub(crate) places: &'a [u32],
@@ -29,17 +30,17 @@ pub(crate) struct AllSymbols {
 }
 
 /// What a symbol of this meaning leads to.
-fn lead_of(entries: Entries<'_>, places: &[u32], meaning: Meaning) -> Lead
+fn lead_of(entries: Entries<'_>, places: &[u32], mode: Mode, meaning: Meaning) -> Lead
     requires fits { FitsObjects entries }
     requires places { ArePlaces entries.objects.now places.now }
-    requires there { IsThere entries.objects.now meaning }
-    ensures { result ≡ lead_from entries.entry.objects.now meaning }
+    requires there { IsThere mode entries.objects.now meaning }
+    ensures { result ≡ lead_from mode entries.entry.objects.now meaning }
 {
     match meaning {
         Meaning::Here { input, symbol } => {
             Lead::Here(definition_at(entries, places[input as usize], symbol))
         }
-        Meaning::Made(number) => Lead::Here(made_definition(number)),
+        Meaning::Made(number) => Lead::Here(made_definition(mode, number)),
         Meaning::Import(number) => Lead::Import(number),
         Meaning::Null => Lead::Null,
         Meaning::Nothing => Lead::Nothing,
@@ -59,7 +60,7 @@ fn symbol_at(sources: Sources<'_>, object: u32, place: u32) -> Symbol
     Symbol {
         kind: entry.symbol.kind,
         name: entry.number,
-        lead: lead_of(sources.entries, sources.places, meaning),
+        lead: lead_of(sources.entries, sources.places, sources.mode, meaning),
     }
 }
 

@@ -1,6 +1,5 @@
 //! The winners of all names.
 ghost use Rattle.std.specs.Prelude.{◌≡◌, ◌++◌, ◌<◌, ◌==◌, [], Some, IsSome, length, map, filter_map, flat_map, slice_index_or, OnOk, IfOk};
-ghost use Rattle.link_program.specs.made_symbols.declared.mode.Mode.TheVariants as modes;
 ghost use Rattle.link_program.specs.made_symbols.Made.{made, made_at};
 ghost use Rattle.link_program.specs.name_rules.Entries.{InputSymbol, made_entry, made_from};
 ghost use Rattle.link_program.specs.name_entries.View.{rows_of, entry_at};
@@ -29,17 +28,17 @@ fn is_rank(rank: u64, best: Option<u64>) -> bool
 }
 
 /// A linker-made symbol, by its number, where it is the winner of its name.
-fn made_winner(entries: Entries<'_>, ranks: &Winners, number: u32) -> Option<Winner>
-    requires fits { Fits modes.Plain entries }
-    requires below { number < length (made modes.Plain) }
-    ensures { result ≡ winner_of entries.entry.names.now.names ranks.now (made_entry number (made_at modes.Plain number)) }
+fn made_winner(entries: Entries<'_>, ranks: &Winners, mode: Mode, number: u32) -> Option<Winner>
+    requires fits { Fits mode entries }
+    requires below { number < length (made mode) }
+    ensures { result ≡ winner_of entries.entry.names.now.names ranks.now (made_entry number (made_at mode number)) }
 {
     let name = entries.names.made(number)?;
-    if !is_rank(rank(class(Mode::Plain, number), 0, number), ranks.of(name)) {
+    if !is_rank(rank(class(mode, number), 0, number), ranks.of(name)) {
         return None;
     }
     Some(Winner {
-        definition: made_definition(number),
+        definition: made_definition(mode, number),
         name,
         flags: MADE_FLAGS,
     })
@@ -71,13 +70,14 @@ fn made_winners(
     alloc: Global,
     entries: Entries<'_>,
     ranks: &Winners,
+    mode: Mode,
 ) -> Result<Seq<Winner>, OutOfMemory>
-    requires { Fits modes.Plain entries }
-    ensures { IfOk result (λ winners. winners ≡ filter_map (winner_of entries.entry.names.now.names ranks.now) (made_from 0 (made modes.Plain))) }
+    requires { Fits mode entries }
+    ensures { IfOk result (λ winners. winners ≡ filter_map (winner_of entries.entry.names.now.names ranks.now) (made_from 0 (made mode))) }
 {
     let mut winners = Seq::new(alloc);
-    for number in 0..count(Mode::Plain) {
-        push_some(&mut winners, made_winner(entries, ranks, number))?;
+    for number in 0..count(mode) {
+        push_some(&mut winners, made_winner(entries, ranks, mode, number))?;
     }
     Ok(winners)
 }
@@ -104,11 +104,12 @@ pub(crate) fn all_winners(
     alloc: Global,
     entries: Entries<'_>,
     ranks: &Winners,
+    mode: Mode,
 ) -> Result<Seq<Winner>, OutOfMemory>
-    requires { Fits modes.Plain entries }
-    ensures { IfOk result (λ winners. winners ≡ winners_in entries.entry.names.now.names ranks.now entries.entry.objects.now) }
+    requires { Fits mode entries }
+    ensures { IfOk result (λ winners. winners ≡ winners_in mode entries.entry.names.now.names ranks.now entries.entry.objects.now) }
 {
-    let mut winners = made_winners(alloc, entries, ranks)?;
+    let mut winners = made_winners(alloc, entries, ranks, mode)?;
     for object in 0..entries.count() {
         add_winners(&mut winners, entries, ranks, object)?;
     }

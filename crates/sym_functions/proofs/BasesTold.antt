@@ -28,12 +28,13 @@ use Rattle.link_keys.proofs.Positions.{position_none}
 use Rattle.link_keys.proofs.Imports.{both}
 use Rattle.link_numbers.specs.Knows.{KnowsFunction}
 use Rattle.link_image.specs.link_layout.declared.values.Layout.{Layout}
-use Rattle.link_image.specs.link_layout.Layout.{IsLayout}
+use Rattle.link_image.specs.link_layout.Layout.{IsLayoutIn}
 use Rattle.link_image.proofs.link_layout_lemmas.KeysTold.{function_told, function_known}
-use Rattle.link_image.proofs.Pieces.{tells_all}
+use Rattle.link_image.proofs.link_loader_lemmas.Known.{tells}
 use Rattle.sym_functions.specs.Bases.{base_seen}
 use Rattle.sym_parts.specs.Sought.{slot_in, address_in, asked}
 use Rattle.sym_functions.proofs.Known.{KnownMeaning}
+use Rattle.sym_functions.proofs.PlainLayout.{plain_stands}
 
 -- An item of a list that is mapped, where what stands for none is mapped too.
 pub mapped_or : {A B : Type 0} (f : A → B) (xs : List A) (i : ℕ) (x : A) → slice_index_or (map f xs) i (f x) ≡ f (slice_index_or xs i x)
@@ -89,7 +90,7 @@ stub_not_taken taken name none (f ∷ fs) = ap (λ b. b || list_any (λ f. is_ta
     one (stub n) = ap (λ b. b && same_function (stub name) (stub n)) (none n)
     one (own input index) = off (is_taken taken (own input index))
 
-module _ (p : rules.Program) (parts : List rules.Part) (es : List InputSymbol) (d : Layout) (is : IsLayout p parts es d) where
+module _ (p : rules.Program) (parts : List rules.Part) (es : List InputSymbol) (d : Layout) (is : IsLayoutIn Plain p parts es d) where
   abbrev pub the_layout : values.Layout
   the_layout = layout Plain p parts es
 
@@ -104,7 +105,7 @@ module _ (p : rules.Program) (parts : List rules.Part) (es : List InputSymbol) (
   unfolding layout
   slot_told f known =
       (λ i. is.numbering.first_slot i + number_by same_function_key (is.numbering.slots i) (told_function names imports f))
-      ∙ ap (λ n. the_layout.numbers.first_slot + n) ((tells_all p parts es d is).slots f known)
+      ∙ ap (λ n. the_layout.numbers.first_slot + n) ((tells Plain p parts es d (plain_stands p parts es d is)).slots f known)
 
   entry_told : (e : InputSymbol) (r : Bool) → (if r then values.address_of Plain the_layout e else d.numbering.now.first_slot + number_by same_function_key d.numbering.now.slots (told_function names imports (keys.function_of e)))
       ≡ (if r then values.address_of Plain the_layout e else keys.slot_of the_layout.numbers (keys.function_of e))

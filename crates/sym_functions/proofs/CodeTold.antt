@@ -29,7 +29,7 @@ use Rattle.link_program.specs.Seen.{seen_named, told_named}
 use Rattle.link_program.specs.Look.{part_at, row_at, chunk_number}
 use Rattle.link_program.proofs.Chunks.{stands_at}
 use Rattle.link_image.specs.link_layout.declared.values.Layout.{Layout}
-use Rattle.link_image.specs.link_layout.Layout.{IsLayout}
+use Rattle.link_image.specs.link_layout.Layout.{IsLayoutIn}
 use Rattle.link_image.proofs.link_layout_lemmas.Parts.{part_told, row_told, same_part}
 use Rattle.link_keys.proofs.Any.{all_none}
 use Rattle.link_keys.proofs.Imports.{both}
@@ -85,7 +85,7 @@ find_one {A} test (y ∷ xs) n x at is only = by_head (test y) refl n at (λ m r
     by_head false t zero at again = absurd (let e : y ≡ x = cc in let a : test y ≡ true = ap test e ∙ is in let b : true ≡ false = sym a ∙ t in cc)
     by_head false t (suc m) at again = again m at
 
-module _ (p : rules.Program) (parts : List rules.Part) (es : List InputSymbol) (d : Layout) (is : IsLayout p parts es d) where
+module _ (p : rules.Program) (parts : List rules.Part) (es : List InputSymbol) (d : Layout) (is : IsLayoutIn Plain p parts es d) where
   abbrev t_names : List (List ℕ)
   t_names = d.program.names.now.names
 

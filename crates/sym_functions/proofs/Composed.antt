@@ -14,7 +14,7 @@ use Rattle.link_program.specs.link_rules.Output.{layout}
 use Rattle.link_program.specs.Keys.{same_function_key}
 use Rattle.link_keys.specs.Firsts.{firsts_rows}
 use Rattle.link_image.specs.link_layout.declared.values.Layout.{Layout}
-use Rattle.link_image.specs.link_layout.Layout.{IsLayout}
+use Rattle.link_image.specs.link_layout.Layout.{IsLayoutIn}
 use Rattle.run_rules.specs.declared.world.Function.{Function as Runs}
 use Rattle.link_worlds.specs.Names.{all_functions}
 use Rattle.link_worlds.specs.Worlds.{plan_function, plan_table}
@@ -31,7 +31,7 @@ pub rows_counted : (es : Entries) (symbols : List (List (Option ℕ))) (count : 
 rows_counted es symbols count fits same is =
     ap length (sym same) ∙ ap length fits.symbols ∙ length-map es.objects.now (λ (o : Object). map (symbol_number es.names.now.names) o.symbols) ∙ sym is
 
-module _ (p : rules.Program) (parts : List rules.Part) (es : List InputSymbol) (d : Layout) (is : IsLayout p parts es d) where
+module _ (p : rules.Program) (parts : List rules.Part) (es : List InputSymbol) (d : Layout) (is : IsLayoutIn Plain p parts es d) where
   abbrev l : values.Layout
   l = layout Plain p parts es
 

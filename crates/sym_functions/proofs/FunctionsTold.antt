@@ -36,8 +36,8 @@ use Rattle.link_keys.proofs.LiveTold.{content_is}
 use Rattle.link_numbers.specs.Knows.{KnowsFunction}
 use Rattle.link_numbers.proofs.TypesTold.{stub_types_told}
 use Rattle.link_image.specs.link_layout.declared.values.Layout.{Layout}
-use Rattle.link_image.specs.link_layout.Layout.{IsLayout}
-use Rattle.link_image.proofs.Known as image_known
+use Rattle.link_image.specs.link_layout.Layout.{IsLayoutIn}
+use Rattle.link_image.proofs.link_loader_lemmas.Known as loader_known
 use Rattle.link_image.proofs.Lists.{import_there, all_chosen, all_mapped}
 use Rattle.run_rules.specs.declared.world.Source.{Source}
 use Rattle.run_rules.specs.declared.world.Source.TheVariants.{Host}
@@ -53,6 +53,7 @@ use Rattle.sym_functions.proofs.Listed.{StubName}
 use Rattle.sym_functions.proofs.Ground.{all_fs, functions_are, functions_known, function_at, one_name, others, in_order, apart, first_among, stub_names, stubs_known}
 use Rattle.sym_functions.proofs.OpsTold.{IsSought}
 use Rattle.sym_functions.proofs.OpsTold as ops
+use Rattle.sym_functions.proofs.PlainLayout.{plain_stands}
 use Rattle.sym_functions.proofs.CodeTold.{all_given, part_of, own_told, linker_told}
 
 -- ---- keys
@@ -85,7 +86,7 @@ given_is : {A : Type 0} (b : Bool) (a x : A) → given b a ≡ Some x → (b ≡
 given_is true a x e = (refl, cc)
 given_is false a x e = absurd cc
 
-module _ (p : rules.Program) (parts : List rules.Part) (es : List InputSymbol) (d : Layout) (is : IsLayout p parts es d) where
+module _ (p : rules.Program) (parts : List rules.Part) (es : List InputSymbol) (d : Layout) (is : IsLayoutIn Plain p parts es d) where
   abbrev l : values.Layout
   l = ops.l p parts es d is
 
@@ -130,7 +131,7 @@ module _ (p : rules.Program) (parts : List rules.Part) (es : List InputSymbol) (
 
     stub_gives : (name : List ℕ) → StubName t_names name → Gives (stub name)
     stub_gives name known y e =
-        let types = stub_types_told t_names p p.parts is.program.entries column column_is (others d.program p is.program is.stand) (in_order d.program p is.program is.stand) (apart d.program p is.program is.stand) (first_among d.program p is.program is.stand)
+        let types = stub_types_told Plain t_names p p.parts is.program.entries column column_is (others d.program p is.program is.stand) (in_order d.program p is.program is.stand) (apart d.program p is.program is.stand) (first_among d.program p is.program is.stand)
         d.program.tables.now.types d.program.tables.now.variants is.program.tables.variants (name ∷ []) (All-cons (StubName t_names) name [] known (λ k d below. absurd (omega arith))) in
         let told : stub_type (seen.stub_types d.program.tables.now p.objects column) (length t_names) (number_by bytes_eq t_names name) ≡ type_of p p.parts (stub name) = cc in
         let kind : stub_type (seen.stub_types k.tables p.objects column) (length column) (unwrap_or (number_of t_names name) 0) ≡ type_of p p.parts (stub name) =
@@ -226,6 +227,6 @@ module _ (p : rules.Program) (parts : List rules.Part) (es : List InputSymbol) (
       let fs = keys.functions Plain p parts in
       let taken = map keys.ref_function (filter (keys.takes_slot Plain) (refs_of parts)) in
       let held = all_filtered (λ s. Holds same_function_key function_equal function_itself output (told_function t_names t_imports s)) (is_taken taken) fs (all_held fs is.numbering.functions) in
-      let known = all_filtered (KnowsFunction t_names t_imports) (is_taken taken) fs (image_known.functions_known d.program p is.live.0 parts es is.program is.stand is.live.1 is.meant) in
+      let known = all_filtered (KnowsFunction t_names t_imports) (is_taken taken) fs (loader_known.functions_known Plain p parts es d (plain_stands p parts es d is)) in
       ap (λ ss. None ∷ map (taker_place (all_fs d.program p is.program is.stand) output) (map (number_by same_function_key output) ss)) is.numbering.slots
       ∙ ap (λ ps. None ∷ ps) (takers_told (filter (is_taken taken) fs) held known)

@@ -1,6 +1,7 @@
 pub mod Known
 pub mod Listed
 pub mod Ground
+pub mod PlainLayout
 pub mod BasesTold
 pub mod OpsTold
 pub mod CodeTold

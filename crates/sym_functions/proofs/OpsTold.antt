@@ -22,7 +22,7 @@ use Rattle.link_program.specs.declared.named.Named.TheVariants as items
 use Rattle.link_program.specs.Told.{told_symbol, told_lead}
 use Rattle.link_program.specs.Seen.{SeenRef, SeenNamed, seen_symbol, seen_type, seen_named, told_named, told_ref, no_symbol}
 use Rattle.link_image.specs.link_layout.declared.values.Layout.{Layout}
-use Rattle.link_image.specs.link_layout.Layout.{IsLayout}
+use Rattle.link_image.specs.link_layout.Layout.{IsLayoutIn}
 use Rattle.wasm_instr.specs.declared.instr.Instr.{Instr}
 use Rattle.wasm_instr.specs.declared.instr.Instr.TheVariants as instrs
 use Rattle.wasm_instr.specs.declared.instr.BlockKind.{BlockKind}
@@ -55,7 +55,7 @@ alike a b e = subst (Alike a) e (itself a)
     itself (seen_symbol r) = refl
     itself (seen_type at t) = (refl, refl)
 
-module _ (p : rules.Program) (parts : List rules.Part) (es : List InputSymbol) (d : Layout) (is : IsLayout p parts es d) where
+module _ (p : rules.Program) (parts : List rules.Part) (es : List InputSymbol) (d : Layout) (is : IsLayoutIn Plain p parts es d) where
   abbrev pub l : values.Layout
   l = the_layout p parts es d is
 

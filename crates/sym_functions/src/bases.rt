@@ -5,7 +5,7 @@ ghost use Rattle.link_program.specs.made_symbols.declared.mode.Mode.TheVariants 
 ghost use Rattle.link_program.specs.link_rules.Values as values;
 ghost use Rattle.link_program.specs.link_rules.Output.{layout as laid_out};
 ghost use Rattle.link_program.specs.Live.{Stage};
-ghost use Rattle.link_image.specs.link_layout.Layout.{IsLayout};
+ghost use Rattle.link_image.specs.link_layout.Layout.{IsLayoutIn};
 ghost use Rattle.link_image.specs.Sections.{entry_of};
 ghost use Rattle.sym_functions.specs.Bases.{base_seen};
 
@@ -18,7 +18,7 @@ use wl_base::OutOfMemory;
 /// The address of a definition.
 pub fn address(layout: Layout<'_>, definition: Definition) -> u64
     ghost s: { Stage }
-    requires { IsLayout s.program s.parts s.exports layout }
+    requires { IsLayoutIn modes.Plain s.program s.parts s.exports layout }
     ensures { result ≡ values.address_of modes.Plain (laid_out modes.Plain s.program s.parts s.exports) (entry_of definition) }
 {
     layout.address(definition)
@@ -27,7 +27,7 @@ pub fn address(layout: Layout<'_>, definition: Definition) -> u64
 /// What the cell of the address of a symbol would hold.
 fn base_of(layout: Layout<'_>, symbol: Symbol) -> u64
     ghost s: { Stage }
-    requires { IsLayout s.program s.parts s.exports layout }
+    requires { IsLayoutIn modes.Plain s.program s.parts s.exports layout }
     ensures { result ≡ base_seen (laid_out modes.Plain s.program s.parts s.exports) layout.entry.numbering.now symbol }
 {
     match symbol.lead {
@@ -46,7 +46,7 @@ fn base_of(layout: Layout<'_>, symbol: Symbol) -> u64
 /// What the cell of the address of each symbol would hold.
 pub fn bases_of(alloc: Global, layout: Layout<'_>) -> Result<Vec<u64>, OutOfMemory>
     ghost s: { Stage }
-    requires { IsLayout s.program s.parts s.exports layout }
+    requires { IsLayoutIn modes.Plain s.program s.parts s.exports layout }
     ensures { IfOk result (λ bases. bases.items ≡ map (base_seen (laid_out modes.Plain s.program s.parts s.exports) layout.entry.numbering.now) layout.entry.program.tables.now.symbols) }
 {
     let symbols = layout.program.tables.symbols.as_slice();

@@ -4,7 +4,7 @@ ghost use Rattle.link_program.specs.name_entries.Fits.{FitsObjects};
 ghost use Rattle.link_program.specs.made_symbols.declared.mode.Mode.TheVariants as modes;
 ghost use Rattle.link_program.specs.link_rules.Output.{layout as laid_out};
 ghost use Rattle.link_program.specs.Live.{Stage};
-ghost use Rattle.link_image.specs.link_layout.Layout.{IsLayout};
+ghost use Rattle.link_image.specs.link_layout.Layout.{IsLayoutIn};
 ghost use Rattle.link_worlds.specs.Names.{all_functions};
 ghost use Rattle.link_worlds.specs.Worlds.{plan_function, plan_table};
 ghost use Rattle.sym_functions.specs.SoughtOf.{IsSoughtOf};
@@ -25,7 +25,7 @@ pub fn functions(
     files: &[Seq<u8>],
 ) -> Result<Seq<Option<Function>>, OutOfMemory>
     ghost s: { Stage }
-    requires layout { IsLayout s.program s.parts s.exports layout }
+    requires layout { IsLayoutIn modes.Plain s.program s.parts s.exports layout }
     requires sought { IsSoughtOf (laid_out modes.Plain s.program s.parts s.exports) layout k }
     requires fits { FitsObjects entries }
     requires objects { entries.objects.now ≡ layout.program.objects.now }
@@ -46,7 +46,7 @@ pub fn table(
     k: Sought<'_>,
 ) -> Result<Seq<Option<u32>>, OutOfMemory>
     ghost s: { Stage }
-    requires layout { IsLayout s.program s.parts s.exports layout }
+    requires layout { IsLayoutIn modes.Plain s.program s.parts s.exports layout }
     requires sought { IsSoughtOf (laid_out modes.Plain s.program s.parts s.exports) layout k }
     ensures { IfOk result (λ t. t ≡ plan_table s.program (laid_out modes.Plain s.program s.parts s.exports)) }
 {

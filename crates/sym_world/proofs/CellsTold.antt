@@ -31,7 +31,7 @@ use Rattle.link_program.specs.Seen.{SeenRef, seen_named, told_named, seen_conten
 use Rattle.link_program.specs.Look.{part_at, row_at, chunk_number}
 use Rattle.link_program.specs.Live.{AreLive}
 use Rattle.link_layout.specs.declared.values.Layout.{Layout}
-use Rattle.link_layout.specs.Layout.{IsLayout}
+use Rattle.link_layout.specs.Layout.{IsLayoutIn}
 use Rattle.link_layout.specs.Placed.{address_among, chunks_of}
 use Rattle.link_layout.specs.Segments.{segment_numbers}
 use Rattle.link_layout.proofs.Parts.{part_told, segments_are, shape_told}
@@ -101,7 +101,7 @@ given_is : {A : Type 0} (b : Bool) (a x : A) → given b a ≡ Some x → (b ≡
 given_is true a x e = (refl, cc)
 given_is false a x e = absurd cc
 
-module _ (p : rules.Program) (parts : List rules.Part) (es : List InputSymbol) (d : Layout) (is : IsLayout p parts es d) where
+module _ (p : rules.Program) (parts : List rules.Part) (es : List InputSymbol) (d : Layout) (is : IsLayoutIn Plain p parts es d) where
   abbrev l : values.Layout
   l = ops.l p parts es d is
 

@@ -11,7 +11,7 @@ use Rattle.link_program.specs.link_rules.Values as values
 use Rattle.link_program.specs.link_rules.Output.{layout}
 use Rattle.link_program.specs.Live.{AreLive}
 use Rattle.link_layout.specs.declared.values.Layout.{Layout}
-use Rattle.link_layout.specs.Layout.{IsLayout}
+use Rattle.link_layout.specs.Layout.{IsLayoutIn}
 use Rattle.link_layout.specs.Segments.{segment_numbers}
 use Rattle.run_rules.specs.declared.world.Function.{Function as Runs}
 use Rattle.run_rules.specs.declared.world.Exported.{Exported}
@@ -32,7 +32,7 @@ use Rattle.sym_functions.proofs.Composed.{sought_is}
 use Rattle.sym_world.proofs.CellsTold.{cells_told, segments_told}
 use Rattle.sym_world.proofs.ExportsTold.{exports_told}
 
-module _ (p : rules.Program) (parts : List rules.Part) (es : List InputSymbol) (d : Layout) (is : IsLayout p parts es d) where
+module _ (p : rules.Program) (parts : List rules.Part) (es : List InputSymbol) (d : Layout) (is : IsLayoutIn Plain p parts es d) where
   abbrev l : values.Layout
   l = layout Plain p parts es
 
@@ -66,7 +66,7 @@ module _ (p : rules.Program) (parts : List rules.Part) (es : List InputSymbol) (
         (ap (map (cell_seen d.program.tables.now d.program.resolution.now.imports d.placed.now.places.stack_high)) (sym s.cells) ∙ e)
 
 -- All of them.
-pub objects_is : (p : rules.Program) (parts : List rules.Part) (es : List InputSymbol) (d : Layout) → IsLayout p parts es d → parts ≡ live p es
+pub objects_is : (p : rules.Program) (parts : List rules.Part) (es : List InputSymbol) (d : Layout) → IsLayoutIn Plain p parts es d → parts ≡ live p es
     → (w : World) → w ≡ world_by p (layout Plain p parts es) es → (cells : List SymCell) → cells ≡ map (sym_cell p.parts (layout Plain p parts es)) (all_cells p)
     → (segments : List SymSegment) → segments ≡ map sym_segment (blocks_of p parts (layout Plain p parts es))
     → record { world = w; cells = cells; imported = d.program.plan.now.import_memory; pages = d.placed.now.places.pages; segments = segments } ≡ objects_of p es

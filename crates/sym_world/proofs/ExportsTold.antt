@@ -11,7 +11,7 @@ use Rattle.link_program.specs.link_rules.Values as values
 use Rattle.link_program.specs.Told.{told_definition}
 use Rattle.link_program.specs.Keys.{same_function_key}
 use Rattle.link_layout.specs.declared.values.Layout.{Layout}
-use Rattle.link_layout.specs.Layout.{IsLayout}
+use Rattle.link_layout.specs.Layout.{IsLayoutIn}
 use Rattle.link_layout.proofs.KeysTold.{function_told, function_known}
 use Rattle.run_rules.specs.declared.world.Target.TheVariants.{ToFunction, ToCell}
 use Rattle.link_worlds.specs.Worlds as worlds
@@ -21,7 +21,7 @@ use Rattle.sym_world.specs.Exports.{export_seen}
 use Rattle.sym_functions.proofs.Ground.{all_fs, all_gs, function_at, own_cell}
 use Rattle.sym_functions.proofs.OpsTold as ops
 
-module _ (p : rules.Program) (parts : List rules.Part) (es : List InputSymbol) (d : Layout) (is : IsLayout p parts es d) where
+module _ (p : rules.Program) (parts : List rules.Part) (es : List InputSymbol) (d : Layout) (is : IsLayoutIn Plain p parts es d) where
   abbrev l : values.Layout
   l = ops.l p parts es d is
 

@@ -8,7 +8,9 @@ use Rattle.link_program.specs.wl_base.declared.fault.What.TheVariants.{TableSize
 use Rattle.link_program.specs.wl_base.declared.layout_error.LayoutError.{LayoutError}
 use Rattle.link_program.specs.wl_base.declared.layout_error.LayoutError.TheVariants as layouts
 use Rattle.link_program.specs.object_file.declared.object.Object.{Object}
+use Rattle.link_program.specs.made_symbols.declared.mode.Mode.{Mode}
 use Rattle.link_program.specs.made_symbols.declared.mode.Mode.TheVariants.{Plain}
+use Rattle.link_program.specs.link_rules.ModeOf.{mode_of}
 use Rattle.link_program.specs.round_rules.Rounds.{Candidate, load}
 use Rattle.link_program.specs.memory_layout.Memory.{memory_overflow}
 use Rattle.link_program.specs.table_layout.Slots.{table_overflow}
@@ -23,12 +25,12 @@ use Rattle.link_program.specs.link_rules.Output.{layout}
 use Rattle.link_program.specs.link_rules.LinkOf.{asked_names, the_readers}
 use Rattle.link_inputs.specs.Inputs.{loaded_of}
 use Rattle.program_build.specs.Found.{Finds, found_of}
-use Rattle.link_layout.specs.Placed.{AnswersPlaced, IsPlaced}
+use Rattle.link_layout.specs.Placed.{AnswersPlacedIn, IsPlacedIn}
 use Rattle.link_numbers.specs.Numbered.{TellsOverflow, IsNumbering}
 use Rattle.link_program.specs.Live.{AreLive, AllMeant}
 use Rattle.link_program.specs.Program.{IsProgramOf}
 use Rattle.link_program.specs.Stand.{PartsStand}
-use Rattle.link_layout.specs.Layout.{IsLayout}
+use Rattle.link_layout.specs.Layout.{IsLayoutIn}
 use Rattle.link_layout.specs.declared.values.Layout.{Layout as LayoutData}
 use Rattle.link_program.specs.declared.error.LinkError.{LinkError}
 use Rattle.link_program.specs.declared.error.LinkError.TheVariants.{Refused, OutOfMemory}
@@ -62,10 +64,10 @@ goes_on_loaded plan files all objects r found given a = subst (Told r) (sym (ste
 
 -- ---- names
 
-pub find_failed : (plan : Plan) (objects : List Object) (p : Program) (e x : LinkError) → x ≡ e → Finds Plain (Err e) plan objects p → Told (Err x) (sym_program p)
-find_failed plan objects p e x is finds = fails_by (sym_program p) e x is (by e finds)
+pub find_failed : (mode : Mode) (plan : Plan) (objects : List Object) (p : Program) (e x : LinkError) → x ≡ e → Finds mode (Err e) plan objects p → Told (Err x) (sym_program p)
+find_failed mode plan objects p e x is finds = fails_by (sym_program p) e x is (by e finds)
   where
-    by : (e : LinkError) → Finds Plain (Err e) plan objects p → Told (Err e) (sym_program p)
+    by : (e : LinkError) → Finds mode (Err e) plan objects p → Told (Err e) (sym_program p)
     by (Refused f) finds = steps.not_named p f finds
     by OutOfMemory finds = tt
 
@@ -124,10 +126,10 @@ module _ (p : Program) (es : List InputSymbol) (parts : List Part) where
   abbrev slots_end : Option ℕ
   slots_end = table_overflow (numbers Plain p parts es).first_slot (length (numbers Plain p parts es).slots)
 
-  pub place_failed : (e : LayoutError) (x : LinkError) → x ≡ of_layout e → AnswersPlaced p parts (Err e) → Told (Err x) (sym_laid_out p es parts)
+  pub place_failed : (e : LayoutError) (x : LinkError) → x ≡ of_layout e → AnswersPlacedIn Plain p parts (Err e) → Told (Err x) (sym_laid_out p es parts)
   place_failed e x is placed = passed of_layout (sym_laid_out p es parts) e x is (by e placed)
     where
-      by : (e : LayoutError) → AnswersPlaced p parts (Err e) → Told (Err (of_layout e)) (sym_laid_out p es parts)
+      by : (e : LayoutError) → AnswersPlacedIn Plain p parts (Err e) → Told (Err (of_layout e)) (sym_laid_out p es parts)
       by (layouts.Overflow what needed) (x, at, same, as_much) =
           steps.too_far p es parts x at ∙ ap (λ w. Err (Overflow w (pos x.needed))) (sym same) ∙ ap (λ n. Err (Overflow what n)) (sym as_much)
       by layouts.OutOfMemory placed = tt
@@ -160,7 +162,16 @@ module _ (p : Program) (es : List InputSymbol) (parts : List Part) where
   unfolding layout
   goes_on_placed r fits none a = subst (Told r) (sym (steps.placed p es parts fits none)) a
 
-pub layout_is : (p : Program) (parts : List Part) (es : List InputSymbol) (d : LayoutData) (ns : List ℕ) → IsProgramOf Plain d.program p → PartsStand p → AreLive p ns parts → AllMeant parts
-    → IsNumbering d.program.names.now.names d.program.resolution.now.imports d.program.tables.now.types p parts d.numbering.now (numbers Plain p parts es) → IsPlaced p parts d.placed.now → IsLayout p parts es d
-layout_is p parts es d ns program stand live meant numbering placed =
-    record { program = program; stand = stand; live = (ns, live); meant = meant; numbering = numbering; placed = placed }
+pub layout_is : (p : Program) (parts : List Part) (es : List InputSymbol) (d : LayoutData) (ns : List ℕ) → mode_of p.plan ≡ Plain → IsProgramOf Plain d.program p → PartsStand p → AreLive p ns parts → AllMeant parts
+    → IsNumbering d.program.names.now.names d.program.resolution.now.imports d.program.tables.now.types p parts d.numbering.now (numbers Plain p parts es) → IsPlacedIn Plain p parts d.placed.now
+    → IsLayoutIn Plain p parts es d
+layout_is p parts es d ns asked program stand live meant numbering placed = record {
+  asked = asked;
+  program = program;
+  stand = stand;
+  live = (ns, live);
+  meant = meant;
+  numbering = numbering;
+  imported = tt;
+  placed = placed;
+}

@@ -7,7 +7,7 @@ ghost use Rattle.link_program.specs.link_rules.Output.{layout as laid_out};
 ghost use Rattle.link_program.specs.Live.{Stage};
 ghost use Rattle.link_program.specs.Told.{told_winner};
 ghost use Rattle.link_marks.specs.Names.{IsWinner};
-ghost use Rattle.link_layout.specs.Layout.{IsLayout};
+ghost use Rattle.link_layout.specs.Layout.{IsLayoutIn};
 ghost use Rattle.sym_functions.specs.link_image.Sections.{entry_of};
 ghost use Rattle.run_rules.specs.declared.world.Target.TheVariants.{ToFunction, ToCell};
 ghost use Rattle.link_worlds.specs.Worlds.{target_by};
@@ -51,7 +51,7 @@ fn target(
     definition: Definition,
 ) -> Result<Target, OutOfMemory>
     ghost s: { Stage }
-    requires { IsLayout s.program s.parts s.exports layout }
+    requires { IsLayoutIn modes.Plain s.program s.parts s.exports layout }
     ensures { IfOk result (λ t. t ≡ target_seen functions.now cells.now
         (values.address_of modes.Plain (laid_out modes.Plain s.program s.parts s.exports) (entry_of definition)) definition definition.kind) }
 {
@@ -78,7 +78,7 @@ fn export(
     winner: &Winner,
 ) -> Result<Exported, OutOfMemory>
     ghost s: { Stage }
-    requires layout { IsLayout s.program s.parts s.exports layout }
+    requires layout { IsLayoutIn modes.Plain s.program s.parts s.exports layout }
     requires winner { IsWinner layout.program.names.now.names s.program.winners winner.now }
     ensures { (e : InputSymbol) → Contains s.program.winners e → winner.now ≡ told_winner layout.entry.program.names.now.names e
         → IfOk result (λ x. x ≡ export_seen s.program (laid_out modes.Plain s.program s.parts s.exports) functions.now cells.now e) }
@@ -98,7 +98,7 @@ pub(crate) fn add_winners(
     exports: &mut Seq<Exported>,
 ) -> Result<(), OutOfMemory>
     ghost s: { Stage }
-    requires layout { IsLayout s.program s.parts s.exports layout }
+    requires layout { IsLayoutIn modes.Plain s.program s.parts s.exports layout }
     requires winners { All (Contains s.program.winners) s.exports }
     requires exports { winners.now ≡ map (told_winner layout.program.names.now.names) s.exports }
     ensures { OnOk result (exports.new ≡ exports.old ++ map (export_seen s.program (laid_out modes.Plain s.program s.parts s.exports) functions.now cells.now) s.exports) }

@@ -5,7 +5,7 @@ ghost use Rattle.link_program.specs.made_symbols.declared.mode.Mode.TheVariants 
 ghost use Rattle.link_program.specs.link_rules.Output.{layout as laid_out};
 ghost use Rattle.link_program.specs.Live.{Stage, AreLive};
 ghost use Rattle.link_program.specs.Told.{told_winner};
-ghost use Rattle.link_layout.specs.Layout.{IsLayout};
+ghost use Rattle.link_layout.specs.Layout.{IsLayoutIn};
 ghost use Rattle.link_worlds.specs.Worlds.{world_by};
 ghost use Rattle.run_laws.specs.Objects.{sym_segment, blocks_of, objects_of};
 ghost use Rattle.sym_world.specs.Choosing.{IsStage};
@@ -34,7 +34,7 @@ fn world(
     exports: &[Winner],
 ) -> Result<World, OutOfMemory>
     ghost s: { Stage }
-    requires layout { IsLayout s.program s.parts s.exports layout }
+    requires layout { IsLayoutIn modes.Plain s.program s.parts s.exports layout }
     requires sought { IsSoughtOf (laid_out modes.Plain s.program s.parts s.exports) layout k }
     requires fits { FitsObjects entries }
     requires objects { entries.objects.now ≡ layout.program.objects.now }
@@ -66,7 +66,7 @@ fn segments(
     live: &[u32],
 ) -> Result<Seq<SymSegment>, OutOfMemory>
     ghost s: { Stage }
-    requires layout { IsLayout s.program s.parts s.exports layout }
+    requires layout { IsLayoutIn modes.Plain s.program s.parts s.exports layout }
     requires sought { IsSoughtOf (laid_out modes.Plain s.program s.parts s.exports) layout k }
     requires files { files.now ≡ s.program.files }
     requires live { AreLive s.program live.now s.parts }
@@ -88,7 +88,7 @@ pub(crate) fn objects(
     live: &[u32],
 ) -> Result<SymWorld, OutOfMemory>
     ghost s: { Stage }
-    requires layout { IsLayout s.program s.parts s.exports layout }
+    requires layout { IsLayoutIn modes.Plain s.program s.parts s.exports layout }
     requires fits { FitsObjects entries }
     requires objects { entries.objects.now ≡ layout.program.objects.now }
     requires names { entries.names.now ≡ layout.program.names.now }

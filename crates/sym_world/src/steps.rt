@@ -158,6 +158,7 @@ fn placed_world<R: Threads + Sync>(
     requires is { IsLinking s.program program entries files.now }
     requires chosen { IsChosen s program exports.now live.now }
     requires stage { IsStage s }
+    requires plain { mode_of s.program.plan ≡ modes.Plain }
     ensures { Told result (sym_laid_out s.program s.exports s.parts) }
 {
     let placed = place_segments(alloc, program, files, live)?;

@@ -5,7 +5,7 @@ ghost use Rattle.link_program.specs.link_rules.Marks.{memory_name};
 ghost use Rattle.link_program.specs.link_rules.Output.{layout as laid_out};
 ghost use Rattle.link_program.specs.Live.{Stage};
 ghost use Rattle.link_program.specs.Told.{told_winner};
-ghost use Rattle.link_layout.specs.Layout.{IsLayout};
+ghost use Rattle.link_layout.specs.Layout.{IsLayoutIn};
 ghost use Rattle.run_rules.specs.declared.world.Target.TheVariants.{Elsewhere};
 ghost use Rattle.sym_world.specs.Exports.{export_seen};
 
@@ -41,7 +41,7 @@ pub(crate) fn exports_of(
     winners: &[Winner],
 ) -> Result<Seq<Exported>, OutOfMemory>
     ghost s: { Stage }
-    requires layout { IsLayout s.program s.parts s.exports layout }
+    requires layout { IsLayoutIn modes.Plain s.program s.parts s.exports layout }
     requires winners { All (Contains s.program.winners) s.exports }
     requires exports { winners.now ≡ map (told_winner layout.program.names.now.names) s.exports }
     ensures { IfOk result (λ es. es ≡ (if layout.entry.program.plan.now.import_memory then [] else record { name = memory_name; target = Elsewhere } ∷ [])

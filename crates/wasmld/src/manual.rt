@@ -52,6 +52,9 @@ Numbers are decimal, or 0x and hexadecimal digits.
   -r                         write one relocatable object in place of a module;
                              the inputs are objects, and of the other options
                              -o and --threads alone have an effect
+  -shared                    write a position-independent module, which a loader
+                             places: without an entry, and no option that says
+                             where memory lies has an effect
   -m wasm32, -s, -S, --strip-all, --strip-debug
                              have no effect
 

@@ -1,5 +1,6 @@
 use Rattle.std.proofs.Common.{ℕ, List, ap, subst, sym, ◌∙◌}
 use Rattle.link_core.specs.link_runs.Links.{Runs}
+use Rattle.link_core.specs.link_runs.link_program.link_rules.ModeOf.{IsPlain}
 use Rattle.std.specs.Option.{option_map}
 use Rattle.link_command.specs.Ending.{summary_of}
 use Rattle.link_command.proofs.Lines.{line_is}
@@ -17,7 +18,7 @@ returns-clause-cause g c =
 pub returns-clause-runs : goal.returns-clause-runs
 returns-clause-runs g c =
     save_runs _ _ (g.F.Shelf.shown c.files.new.shelf) _ _ c.args.plan.now _ _ c.in-Ok.ensures.held c.in-Ok.ensures.counts c.in-Ok.ensures.files
-    (subst (λ (fs : List (List ℕ)). MakesModule c.args.plan.now → Runs c.args.plan.now fs c.in-Ok-link_telling.bytes) c.as_slice.ensures c.in-Ok-link_telling.ensures.runs) c.save_output-status.ensures.linked
+    (subst (λ (fs : List (List ℕ)). MakesModule c.args.plan.now → IsPlain c.args.plan.now → Runs c.args.plan.now fs c.in-Ok-link_telling.bytes) c.as_slice.ensures c.in-Ok-link_telling.ensures.runs) c.save_output-status.ensures.linked
 
 pub returns-clause-line : goal.returns-clause-line
 returns-clause-line g c =

@@ -6,7 +6,6 @@ use Rattle.called_variants.specs.Called.{calls_told_of}
 use Rattle.debug_links.specs.debug_tails.Tails.{debug_tail}
 use Rattle.link_core.proofs.Checking.{not_linked, not_valid, passes_check, valid_whole}
 use Rattle.link_core.proofs.Listing.{beside_all, tells_all, tells_by}
-use Rattle.link_core.proofs.Opened.{plain_by, plain_all}
 use Rattle.link_core.proofs.Tails.{whole_is_short}
 use Rattle.link_core.proofs.driver.link_checked.Goals as goal
 
@@ -52,18 +51,3 @@ returns-clause-short g c =
 
 pub returns-clause-told : goal.returns-clause-told
 returns-clause-told g c = λ none. tells_all c.with_tail-answer.result c.link_files.new.told (calls_told_of c.args.plan.now c.args.files.now) (c.in_ok-whole.ensures.told none)
-
--- ---- of plain outputs
-
-pub returns-in_err-whole-clause-plain : goal.returns-in_err-whole-clause-plain
-returns-in_err-whole-clause-plain g c =
-    let p = err_from_is_err_and c.from_residual.result c.from_residual.ensures.1 in
-    rw (p.1) (plain_by c.args.plan.now c.in_err-whole.field-0.0 p.0 p.2 c.in_err-whole.ensures.plain)
-
-pub returns-in_err-check-clause-plain : goal.returns-in_err-check-clause-plain
-returns-in_err-check-clause-plain g c =
-    let p = err_from_is_err_and c.from_residual-in_err-check.result c.from_residual-in_err-check.ensures.1 in
-    rw (p.1) (plain_all c.args.plan.now (Err p.0) c.in_ok-whole.ensures.plain)
-
-pub returns-clause-plain : goal.returns-clause-plain
-returns-clause-plain g c = plain_all c.args.plan.now c.with_tail-answer.result c.in_ok-whole.ensures.plain

@@ -2,12 +2,14 @@ use Rattle.std.proofs.Common.{◌≡◌, ◌∙◌, Err, ap, sym, subst, rules}
 use Rattle.std.proofs.lemmas.Result.{err_from_is_err_and}
 use Rattle.link_output.specs.link_program.wl_base.Answers.{Answers}
 use Rattle.link_output.specs.link_program.reloc_apply.declared.window.Patches.{Patches}
-use Rattle.link_output.specs.link_program.reloc_apply.Windows.{patches_of, filled}
+use Rattle.link_output.specs.link_program.reloc_apply.Windows.{filled}
 use Rattle.link_output.specs.link_program.image_emit.Bytes.{bytes_of, tree_of}
+use Rattle.patch_pieces.specs.Judged.{judged_patches}
 use Rattle.link_output.specs.link_program.Moved.{moved_windows}
+use Rattle.link_output.specs.link_program.link_rules.ModeOf.{mode_of}
 use Rattle.link_image.specs.link_layout.Layout.{IsLayout}
 use Rattle.link_core.specs.Chosen.{IsChosen}
-use Rattle.link_core.specs.Making.{the_image, the_windows}
+use Rattle.link_core.specs.Making.{the_image, the_windows, the_held}
 use Rattle.link_core.specs.Tails.{stage_tail}
 use Rattle.link_core.proofs.Answering.{lie_there, stand_there, places_there, code_there, measure_failed, write_failed, wrote}
 use Rattle.link_core.proofs.driver.make_ready.Goals as goal
@@ -29,14 +31,14 @@ measured-requires g c =
     let chosen : IsChosen g.s.stage c.args.layout.program c.args.exports.now c.args.live.now = c.requires.1.1.1.0 in
     let same : c.args.files.now ≡ g.s.stage.program.files = c.requires.1.1.1.1.0 in
     lie_there c.args.files.now g.s.stage.program.files (the_image g.s.stage) c.in_ok-image.image same c.in_ok-image.ensures
-    (c.windows_stand_in_sources.ensures.lie g.s.stage.program c.args.live.now g.s.stage.parts g.s.stage.exports layout.stand chosen.live)
+    (c.windows_stand_in_sources.ensures.lie (mode_of g.s.stage.program.plan) g.s.stage.program c.args.live.now g.s.stage.parts g.s.stage.exports layout.stand chosen.live)
 
 pub returns-in_err-measured-clause-exact : goal.returns-in_err-measured-clause-exact
 returns-in_err-measured-clause-exact g c =
     let same : c.args.files.now ≡ g.s.stage.program.files = c.requires.1.1.1.1.0 in
     let p = err_from_is_err_and c.from_residual-in_err-measured.result c.from_residual-in_err-measured.ensures.1 in
     rw (p.1)
-    (measure_failed g.s.stage.program (the_image g.s.stage) (the_windows g.s.stage) c.args.files.now c.in_ok-image.image same c.in_ok-image.ensures c.in_err-measured.field-0.0 p.0 p.2 c.in_err-measured.ensures)
+    (measure_failed (mode_of g.s.stage.program.plan) g.s.stage.program (the_image g.s.stage) (the_windows g.s.stage) c.args.files.now c.in_ok-image.image same c.in_ok-image.ensures c.in_err-measured.field-0.0 p.0 p.2 c.in_err-measured.ensures)
 
 pub patches-requires : goal.patches-requires
 patches-requires g c κs within =
@@ -53,15 +55,15 @@ returns-in_err-patches-clause-exact g c =
     let p = err_from_is_err_and c.from_residual-in_err-patches.result c.from_residual-in_err-patches.ensures.1 in
     let files =
     lie_there c.args.files.now g.s.stage.program.files (the_image g.s.stage) c.in_ok-image.image same c.in_ok-image.ensures
-    (c.windows_stand_in_sources.ensures.lie g.s.stage.program c.args.live.now g.s.stage.parts g.s.stage.exports layout.stand chosen.live) in
+    (c.windows_stand_in_sources.ensures.lie (mode_of g.s.stage.program.plan) g.s.stage.program c.args.live.now g.s.stage.parts g.s.stage.exports layout.stand chosen.live) in
     let stand =
     stand_there c.args.files.now g.s.stage.program.files (the_image g.s.stage) c.in_ok-image.image (the_windows g.s.stage) same c.in_ok-image.ensures
-    (c.windows_stand_in_sources.ensures.stand g.s.stage.program c.args.live.now g.s.stage.parts g.s.stage.exports layout.stand chosen.live) in
-    let told = subst (λ ks. Answers {A = Patches} (Err c.in_err-patches.field-0.0) (patches_of (moved_windows ks (the_windows g.s.stage)))) c.as_slice.ensures c.in_err-patches.ensures in
+    (c.windows_stand_in_sources.ensures.stand (mode_of g.s.stage.program.plan) g.s.stage.program c.args.live.now g.s.stage.parts g.s.stage.exports layout.stand chosen.live) in
+    let told = subst (λ ks. Answers {A = Patches} (Err c.in_err-patches.field-0.0) (judged_patches (moved_windows ks (the_windows g.s.stage)) (moved_windows ks (the_held g.s.stage)))) c.as_slice.ensures c.in_err-patches.ensures in
     rw (p.1)
-    (write_failed g.s.stage.program (the_image g.s.stage) (the_windows g.s.stage) c.args.files.now c.in_ok-image.image same c.in_ok-image.ensures c.in_ok-measured.measured c.in_err-patches.field-0.0 p.0 p.2
+    (write_failed (mode_of g.s.stage.program.plan) g.s.stage.program (the_image g.s.stage) (the_windows g.s.stage) c.args.files.now c.in_ok-image.image same c.in_ok-image.ensures (the_held g.s.stage) c.in_ok-measured.measured c.in_err-patches.field-0.0 p.0 p.2
     c.in_ok-measured.ensures
-    (c.values_are_judged_in_turn.ensures c.args.files.now c.in_ok-image.image c.in_ok-measured.measured (the_windows g.s.stage) c.in_err-patches.field-0.0 files c.in_ok-measured.ensures.0 stand told))
+    (c.values_are_judged_in_turn.ensures c.args.files.now c.in_ok-image.image c.in_ok-measured.measured (the_windows g.s.stage) (the_held g.s.stage) c.in_err-patches.field-0.0 files c.in_ok-measured.ensures.0 stand told))
 
 pub debug_tail-joined-requires : goal.debug_tail-joined-requires
 debug_tail-joined-requires g c κs within =
@@ -89,14 +91,17 @@ returns-clause-exact g c =
     let same : c.args.files.now ≡ g.s.stage.program.files = c.requires.1.1.1.1.0 in
     let files =
     lie_there c.args.files.now g.s.stage.program.files (the_image g.s.stage) c.in_ok-image.image same c.in_ok-image.ensures
-    (c.windows_stand_in_sources.ensures.lie g.s.stage.program c.args.live.now g.s.stage.parts g.s.stage.exports layout.stand chosen.live) in
+    (c.windows_stand_in_sources.ensures.lie (mode_of g.s.stage.program.plan) g.s.stage.program c.args.live.now g.s.stage.parts g.s.stage.exports layout.stand chosen.live) in
     let stand =
     stand_there c.args.files.now g.s.stage.program.files (the_image g.s.stage) c.in_ok-image.image (the_windows g.s.stage) same c.in_ok-image.ensures
-    (c.windows_stand_in_sources.ensures.stand g.s.stage.program c.args.live.now g.s.stage.parts g.s.stage.exports layout.stand chosen.live) in
-    let told = sym (ap (λ ks. patches_of (moved_windows ks (the_windows g.s.stage))) c.as_slice.ensures) ∙ c.in_ok-patches.ensures in
-    let law = c.patches_make_the_output.ensures c.args.files.now c.in_ok-image.image c.in_ok-measured.measured (the_windows g.s.stage) c.in_ok-patches.patches files c.in_ok-measured.ensures.0 stand told in
+    (c.windows_stand_in_sources.ensures.stand (mode_of g.s.stage.program.plan) g.s.stage.program c.args.live.now g.s.stage.parts g.s.stage.exports layout.stand chosen.live) in
+    let held =
+    stand_there c.args.files.now g.s.stage.program.files (the_image g.s.stage) c.in_ok-image.image (the_held g.s.stage) same c.in_ok-image.ensures
+    (c.windows_stand_in_sources.ensures.held (mode_of g.s.stage.program.plan) g.s.stage.program c.args.live.now g.s.stage.parts g.s.stage.exports layout.stand chosen.live) in
+    let told = sym (ap (λ ks. judged_patches (moved_windows ks (the_windows g.s.stage)) (moved_windows ks (the_held g.s.stage))) c.as_slice.ensures) ∙ c.in_ok-patches.ensures in
+    let law = c.patches_make_the_output.ensures c.args.files.now c.in_ok-image.image c.in_ok-measured.measured (the_windows g.s.stage) (the_held g.s.stage) c.in_ok-patches.patches files c.in_ok-measured.ensures.0 stand held told in
     let made = filled c.in_ok-patches.patches.patches (bytes_of (tree_of c.args.files.now c.in_ok-image.image)) in
-    wrote g.s.stage.program (the_image g.s.stage) (the_windows g.s.stage) c.args.files.now c.in_ok-image.image same c.in_ok-image.ensures c.in_ok-measured.measured made c.in_ok-measured.ensures law.1
+    wrote (mode_of g.s.stage.program.plan) g.s.stage.program (the_image g.s.stage) (the_windows g.s.stage) c.args.files.now c.in_ok-image.image same c.in_ok-image.ensures c.in_ok-measured.measured made c.in_ok-measured.ensures law.1
 
 pub returns-clause-ready : goal.returns-clause-ready
 returns-clause-ready g c =
@@ -105,10 +110,13 @@ returns-clause-ready g c =
     let same : c.args.files.now ≡ g.s.stage.program.files = c.requires.1.1.1.1.0 in
     let files =
     lie_there c.args.files.now g.s.stage.program.files (the_image g.s.stage) c.in_ok-image.image same c.in_ok-image.ensures
-    (c.windows_stand_in_sources.ensures.lie g.s.stage.program c.args.live.now g.s.stage.parts g.s.stage.exports layout.stand chosen.live) in
+    (c.windows_stand_in_sources.ensures.lie (mode_of g.s.stage.program.plan) g.s.stage.program c.args.live.now g.s.stage.parts g.s.stage.exports layout.stand chosen.live) in
     let stand =
     stand_there c.args.files.now g.s.stage.program.files (the_image g.s.stage) c.in_ok-image.image (the_windows g.s.stage) same c.in_ok-image.ensures
-    (c.windows_stand_in_sources.ensures.stand g.s.stage.program c.args.live.now g.s.stage.parts g.s.stage.exports layout.stand chosen.live) in
-    let told = sym (ap (λ ks. patches_of (moved_windows ks (the_windows g.s.stage))) c.as_slice.ensures) ∙ c.in_ok-patches.ensures in
-    let law = c.patches_make_the_output.ensures c.args.files.now c.in_ok-image.image c.in_ok-measured.measured (the_windows g.s.stage) c.in_ok-patches.patches files c.in_ok-measured.ensures.0 stand told in
+    (c.windows_stand_in_sources.ensures.stand (mode_of g.s.stage.program.plan) g.s.stage.program c.args.live.now g.s.stage.parts g.s.stage.exports layout.stand chosen.live) in
+    let held =
+    stand_there c.args.files.now g.s.stage.program.files (the_image g.s.stage) c.in_ok-image.image (the_held g.s.stage) same c.in_ok-image.ensures
+    (c.windows_stand_in_sources.ensures.held (mode_of g.s.stage.program.plan) g.s.stage.program c.args.live.now g.s.stage.parts g.s.stage.exports layout.stand chosen.live) in
+    let told = sym (ap (λ ks. judged_patches (moved_windows ks (the_windows g.s.stage)) (moved_windows ks (the_held g.s.stage))) c.as_slice.ensures) ∙ c.in_ok-patches.ensures in
+    let law = c.patches_make_the_output.ensures c.args.files.now c.in_ok-image.image c.in_ok-measured.measured (the_windows g.s.stage) (the_held g.s.stage) c.in_ok-patches.patches files c.in_ok-measured.ensures.0 stand held told in
     record { measured = c.in_ok-measured.ensures.0; lie = files; apart = law.0; short = c.in_ok-measured.ensures.3 }

@@ -1,7 +1,6 @@
-use Rattle.std.proofs.Common.{rules, sym, subst, Ok, Err}
+use Rattle.std.proofs.Common.{rules, sym, subst, Err}
 use Rattle.std.proofs.lemmas.Result.{err_from_is_err_and}
-use Rattle.link_output.specs.link_program.made_symbols.declared.mode.Mode.TheVariants.{Plain}
-use Rattle.link_output.specs.link_program.link_rules.ModeOf.{plain_mode}
+use Rattle.link_output.specs.link_program.link_rules.ModeOf.{mode_of}
 use Rattle.link_output.specs.link_program.Loaded.{IsLoaded}
 use Rattle.program_build.specs.Found.{Finds}
 use Rattle.relink_out.specs.Made.{made_of}
@@ -9,7 +8,6 @@ use Rattle.link_core.specs.Linking.{IsLinking}
 use Rattle.link_core.specs.Loading.{program_in}
 use Rattle.link_core.proofs.Joined.{strict_in, plainly_in, find_refuses, goes_on_made, answer_of, short_of}
 use Rattle.link_core.proofs.Loading.{program_is, all_found, found_is_linked}
-use Rattle.link_core.proofs.Opened.{finds, plain_in, by_plan}
 use Rattle.link_core.proofs.joining.join_loaded.Goals as goal
 
 pub find-requires : goal.find-requires
@@ -28,8 +26,8 @@ returns-in_err-found-clause-exact g c =
     let bare = c.requires.1.1.1.1.1.0 in
     let same = c.requires.1.1.1.1.1.1.0 in
     let is = program_is g.l plan c.args.inputs.now.loaded objects same c.requires.1.1.1.1.1.1.1.1.0 c.objects-objects.ensures in
-    let found = finds plan g.l.origin objects (Err e) (plain_mode plan bare.plain) c.in_err-found.ensures in
-    rw (p.1) (find_refuses c.partial_is_made.ensures (program_in g.l) (strict_in g.l plan same bare.strict) plan objects e p.0 p.2 (subst (λ q. Finds Plain (Err e) plan objects q) is found))
+    let found = subst (λ q. Finds (mode_of plan) (Err e) plan objects q) is c.in_err-found.ensures in
+    rw (p.1) (find_refuses c.partial_is_made.ensures (program_in g.l) (strict_in g.l plan same bare.strict) (mode_of plan) plan objects e p.0 p.2 found)
 
 pub partial-answer-requires-sync-R : goal.partial-answer-requires-sync-R
 partial-answer-requires-sync-R g c κs within =
@@ -37,16 +35,13 @@ partial-answer-requires-sync-R g c κs within =
     let objects = c.objects-objects.result.now in
     let bare = c.requires.1.1.1.1.1.0 in
     let same = c.requires.1.1.1.1.1.1.0 in
-    let mode = plain_mode plan bare.plain in
-    let found = finds plan g.l.origin objects (Ok c.in_ok-found.found) mode c.in_ok-found.ensures in
     let is : IsLinking (program_in g.l) c.program-program.result c.view-entries.result c.args.files.now =
     found_is_linked g.l plan c.args.inputs.now.loaded objects same c.requires.1.1.1.1.1.1.1.1.0 c.objects-objects.ensures c.args.files.now
-    c.args.inputs.now.homes c.in_ok-found.found c.program-program.result c.view-entries.result c.requires.1.1.1.1.0 c.requires.1.1.1.1.1.1.1.0 c.requires.1.1.1.1.1.1.1.1.1 c.parts_stand.ensures found.1
-    (c.program-program.ensures.is Plain) c.view-entries.ensures.fits c.view-entries.ensures.objects c.program-program.ensures.objects c.view-entries.ensures.names c.program-program.ensures.names in
-    let program = by_plan c.program-program.result (program_in g.l) (plain_in g.l plan same mode) is.program in
+    c.args.inputs.now.homes c.in_ok-found.found c.program-program.result c.view-entries.result c.requires.1.1.1.1.0 c.requires.1.1.1.1.1.1.1.0 c.requires.1.1.1.1.1.1.1.1.1 c.parts_stand.ensures c.in_ok-found.ensures.1
+    (c.program-program.ensures.is (mode_of plan)) c.view-entries.ensures.fits c.view-entries.ensures.objects c.program-program.ensures.objects c.view-entries.ensures.names c.program-program.ensures.names in
     let plain = plainly_in g.l plan same bare.plain in
     let strict = strict_in g.l plan same bare.strict in
-    (search rules, (search rules, (program, (plain, (strict, (is.stand, (is.fits.objects, (is.objects, (is.names, is.files)))))))))
+    (search rules, (search rules, (is.program, (plain, (strict, (is.stand, (is.fits.objects, (is.objects, (is.names, is.files)))))))))
 
 pub returns-clause-exact : goal.returns-clause-exact
 returns-clause-exact g c =
@@ -54,8 +49,7 @@ returns-clause-exact g c =
     let objects = c.objects-objects.result.now in
     let bare = c.requires.1.1.1.1.1.0 in
     let same = c.requires.1.1.1.1.1.1.0 in
-    let found = finds plan g.l.origin objects (Ok c.in_ok-found.found) (plain_mode plan bare.plain) c.in_ok-found.ensures in
-    let all = all_found g.l plan c.args.inputs.now.loaded objects same c.requires.1.1.1.1.1.1.1.1.0 c.objects-objects.ensures found.0 in
+    let all = all_found g.l plan c.args.inputs.now.loaded objects same c.requires.1.1.1.1.1.1.1.1.0 c.objects-objects.ensures c.in_ok-found.ensures.0 in
     goes_on_made c.partial_is_made.ensures (program_in g.l) (strict_in g.l plan same bare.strict) c.partial-answer.result all (answer_of c.partial-answer.result (made_of (program_in g.l)) c.partial-answer.ensures.exact)
 
 pub returns-clause-short : goal.returns-clause-short

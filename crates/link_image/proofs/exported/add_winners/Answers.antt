@@ -11,6 +11,6 @@ export-requires g c =
 
 pub loop-winner-preserved : goal.loop-winner-preserved
 loop-winner-preserved g c =
-    ap (λ s. s ++ map (λ e. export_seen c.args.numbering.now (marks.export_name g.w.program e) (told_definition e)) (drop (c.loop-winner.winner-index + 1) g.w.exports)) c.in_ok-push.ensures.ok
-    ∙ winner_kept (λ e. export_seen c.args.numbering.now (marks.export_name g.w.program e) (told_definition e)) c.args.program.names.now.names g.w.program.winners g.w.exports c.args.winners.now c.loop-winner.winner-index _ c.in_ok-export.export c.loop-winner.exports _
+    ap (λ s. s ++ map (λ e. export_seen c.args.mode c.args.numbering.now (marks.export_name g.w.program e) (told_definition e)) (drop (c.loop-winner.winner-index + 1) g.w.exports)) c.in_ok-push.ensures.ok
+    ∙ winner_kept (λ e. export_seen c.args.mode c.args.numbering.now (marks.export_name g.w.program e) (told_definition e)) c.args.program.names.now.names g.w.program.winners g.w.exports c.args.winners.now c.loop-winner.winner-index _ c.in_ok-export.export c.loop-winner.exports _
     c.requires.1.0 c.requires.1.1 c.loop-winner-test.true c.in_ok-export.ensures c.loop-winner.invariant

@@ -9,5 +9,5 @@ ghost-export g a = g.w.program
 
 abbrev pub invariant-loop-winner : goal.invariant-loop-winner
 invariant-loop-winner g l =
-    l.exports ++ map (λ e. export_seen l.numbering (marks.export_name g.w.program e) (told_definition e)) (drop l.winner-index g.w.exports)
-    ≡ l.initial.exports ++ map (λ e. export_seen l.numbering (marks.export_name g.w.program e) (told_definition e)) g.w.exports
+    l.exports ++ map (λ e. export_seen l.mode l.numbering (marks.export_name g.w.program e) (told_definition e)) (drop l.winner-index g.w.exports)
+    ≡ l.initial.exports ++ map (λ e. export_seen l.mode l.numbering (marks.export_name g.w.program e) (told_definition e)) g.w.exports

@@ -1,4 +1,4 @@
-use Rattle.std.proofs.Common.{◌≡◌, ℕ, ◌+◌, ◌<◌, Bool, not, List, map, length, get_or, drop, slice_get, Some, None, option_map, refl, ap, ◌∙◌}
+use Rattle.std.proofs.Common.{◌≡◌, ◌+◌, Bool, not, List, map, length, get_or, drop, slice_get, Some, option_map, refl, ap, ◌∙◌}
 use Rattle.std.proofs.lemmas.Option.{slice_get-get_or, slice_get_read, slice_get_past, slice_get-map}
 use Rattle.link_program.specs.memory_layout.declared.rules.SegmentShape.{SegmentShape}
 use Rattle.link_layout.specs.Segments.{set_each}

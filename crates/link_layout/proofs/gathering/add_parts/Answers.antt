@@ -2,7 +2,7 @@ use Rattle.std.proofs.Common.{◌≡◌, ◌++◌, List, map, length, get_or, sl
 use Rattle.std.proofs.lemmas.Option.{slice_get-get_or, slice_get_read, slice_get_past}
 use Rattle.link_program.specs.reloc_apply.declared.window.Window.{Window}
 use Rattle.link_program.specs.Moved.{moved_windows}
-use Rattle.link_layout.specs.Seen.{part_windows}
+use Rattle.link_layout.specs.Rows.{part_windows}
 use Rattle.link_layout.specs.Sources.{windows_of}
 use Rattle.link_layout.specs.Layout.{looked}
 use Rattle.link_layout.proofs.Gathered.{add_step, add_past, add_end}

@@ -1,6 +1,6 @@
 use Rattle.std.proofs.Common.{◌≡◌, ◌++◌, map, drop}
 use Rattle.link_program.specs.Moved.{moved_windows}
-use Rattle.link_layout.specs.Seen.{row_windows}
+use Rattle.link_layout.specs.Rows.{row_windows}
 use Rattle.link_layout.specs.Sources.{windows_of}
 use Rattle.link_layout.specs.Layout.{looked}
 use Rattle.link_layout.proofs.gathering.add_segments.Given as goal

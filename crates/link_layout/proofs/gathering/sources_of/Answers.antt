@@ -2,7 +2,8 @@ use Rattle.std.proofs.Common.{◌≡◌, ◌++◌, [], List, Option, ℕ, map, a
 use Rattle.link_program.specs.reloc_apply.declared.window.Window.{Window}
 use Rattle.link_program.specs.Moved.{moved_windows}
 use Rattle.link_layout.specs.declared.gathering.Source.{Source}
-use Rattle.link_layout.specs.Seen.{body_number, body_windows, part_windows}
+use Rattle.link_layout.specs.Seen.{body_number}
+use Rattle.link_layout.specs.Rows.{body_windows, part_windows}
 use Rattle.link_layout.specs.Layout.{looked}
 use Rattle.link_layout.specs.Sources.{windows_of}
 use Rattle.link_layout.proofs.Pairs.{map_twice}

@@ -1,4 +1,4 @@
-use Rattle.std.proofs.Common.{◌≡◌, ◌==◌, take, filter}
+use Rattle.std.proofs.Common.{◌≡◌, take}
 use Rattle.link_layout.specs.Segments.{segment_numbers}
 use Rattle.link_layout.proofs.segments.segment_numbers.Given as goal
 

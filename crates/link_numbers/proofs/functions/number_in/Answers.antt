@@ -1,4 +1,4 @@
-use Rattle.std.proofs.Common.{◌≡◌, Bool, true, false, ap, sym, ◌∙◌}
+use Rattle.std.proofs.Common.{ap, sym, ◌∙◌}
 use Rattle.link_numbers.specs.Rows.{number_told, stands_at}
 use Rattle.link_numbers.proofs.Rows.{told_there, told_absent}
 use Rattle.link_numbers.proofs.functions.number_in.Goals as goal

@@ -1,6 +1,5 @@
-use Rattle.std.proofs.Common.{◌≡◌, length}
+use Rattle.std.proofs.Common.{length}
 use Rattle.std.proofs.lemmas.Result.{err_from_is_err_and}
-use Rattle.link_keys.specs.Noted.{noted_parts, nothing_noted}
 use Rattle.link_numbers.specs.Numbered.{Numbered}
 use Rattle.link_numbers.proofs.Composed.{marked, marked_tell}
 use Rattle.link_numbers.proofs.giving.numbers_told.Goals as goal

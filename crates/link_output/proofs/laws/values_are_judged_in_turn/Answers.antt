@@ -4,4 +4,4 @@ use Rattle.link_output.proofs.Writes.{refuses}
 use Rattle.link_output.proofs.laws.values_are_judged_in_turn.Goals as goal
 
 pub returns : goal.returns
-returns c = λ files i m wss f lie measured stand told. refuses files i m wss (moved_windows m.places wss) lie measured refl stand f told
+returns c = λ files i m wss vss f lie measured stand told. refuses files i m wss (moved_windows m.places wss) (moved_windows m.places vss) vss lie measured refl stand f told

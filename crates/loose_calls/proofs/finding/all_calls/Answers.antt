@@ -13,14 +13,14 @@ pub add_object-requires : goal.add_object-requires
 add_object-requires g c = (c.requires, omega (arith, c.count-object-end.ensures, c.loop-object-test.true))
 
 pub loop-object-init : goal.loop-object-init
-loop-object-init g c = grows_empty (loosens true g.allow c.args.asking.entries.objects.now) c.args.asking.count c.new.result c.new-2.result c.new.ensures c.new-2.ensures
+loop-object-init g c = grows_empty (loosens c.args.asking.mode true g.allow c.args.asking.entries.objects.now) c.args.asking.count c.new.result c.new-2.result c.new.ensures c.new-2.ensures
 
 pub loop-object-preserved : goal.loop-object-preserved
 loop-object-preserved g c =
     let objects = c.args.asking.entries.objects.now in
     let count = c.args.asking.count in
     let i = c.loop-object.object in
-    let test = loosens true g.allow objects in
+    let test = loosens c.args.asking.mode true g.allow objects in
     let none : Calls = record { called = []; variants = [] } in
     let (o, at) = item_at objects i (omega (arith, c.count-object-end.ensures, c.loop-object-test.true)) in
     subst (λ es. Grows test count es none c.add_object.new.self) (sym (flat_one (symbols_of objects) objects i o at))
@@ -32,5 +32,5 @@ returns g c =
     let objects = c.args.asking.entries.objects.now in
     let count = c.args.asking.count in
     let past : length objects ≤ c.loop-object.object = omega (arith, c.count-object-end.ensures, c.loop-object-test.false) in
-    are_calls g.allow objects count c.loop-object.calls c.requires.count
-    (subst (λ os. Grows (loosens true g.allow objects) count (flat_map (symbols_of objects) os) (record { called = []; variants = [] }) c.loop-object.calls) (take_all c.loop-object.object objects past) c.loop-object.invariant)
+    are_calls c.args.asking.mode g.allow objects count c.loop-object.calls c.requires.count
+    (subst (λ os. Grows (loosens c.args.asking.mode true g.allow objects) count (flat_map (symbols_of objects) os) (record { called = []; variants = [] }) c.loop-object.calls) (take_all c.loop-object.object objects past) c.loop-object.invariant)

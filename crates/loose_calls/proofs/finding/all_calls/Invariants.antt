@@ -11,4 +11,4 @@ ghost-add_object g a = g.allow
 abbrev pub invariant-loop-object : goal.invariant-loop-object
 invariant-loop-object g l =
     let objects = l.asking.entries.objects.now in
-    Grows (loosens true g.allow objects) l.asking.count (flat_map (symbols_of objects) (take l.object objects)) (record { called = []; variants = [] }) l.calls
+    Grows (loosens l.asking.mode true g.allow objects) l.asking.count (flat_map (symbols_of objects) (take l.object objects)) (record { called = []; variants = [] }) l.calls

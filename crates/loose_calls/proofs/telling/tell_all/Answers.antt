@@ -18,12 +18,12 @@ loop-object-preserved g c =
     let objects = c.args.asking.entries.objects.now in
     let i = c.loop-object.object in
     let (o, at) = item_at objects i (omega (arith, c.count-object-end.ensures, c.loop-object-test.true)) in
-    subst (λ es. c.tell_object.new.told ≡ distinct same_call (told_of g.allow objects es)) (sym (flat_one (symbols_of objects) objects i o at))
-    (of_more g.allow objects (flat_map (symbols_of objects) (take i objects)) (symbols_of objects o) [] c.loop-object.told c.tell_object.new.told c.loop-object.invariant
-    (subst (λ es. c.tell_object.new.told ≡ distinct_onto same_call c.loop-object.told (told_of g.allow objects es)) (row_at_place objects i o at) c.in_ok-tell_object.ensures))
+    subst (λ es. c.tell_object.new.told ≡ distinct same_call (told_of c.args.asking.mode g.allow objects es)) (sym (flat_one (symbols_of objects) objects i o at))
+    (of_more c.args.asking.mode g.allow objects (flat_map (symbols_of objects) (take i objects)) (symbols_of objects o) [] c.loop-object.told c.tell_object.new.told c.loop-object.invariant
+    (subst (λ es. c.tell_object.new.told ≡ distinct_onto same_call c.loop-object.told (told_of c.args.asking.mode g.allow objects es)) (row_at_place objects i o at) c.in_ok-tell_object.ensures))
 
 pub returns : goal.returns
 returns g c =
     let objects = c.args.asking.entries.objects.now in
     let past : length objects ≤ c.loop-object.object = omega (arith, c.count-object-end.ensures, c.loop-object-test.false) in
-    subst (λ os. c.loop-object.told ≡ distinct same_call (told_of g.allow objects (flat_map (symbols_of objects) os))) (take_all c.loop-object.object objects past) c.loop-object.invariant
+    subst (λ os. c.loop-object.told ≡ distinct same_call (told_of c.args.asking.mode g.allow objects (flat_map (symbols_of objects) os))) (take_all c.loop-object.object objects past) c.loop-object.invariant

@@ -12,4 +12,4 @@ ghost-tell_object g a = g.allow
 abbrev pub invariant-loop-object : goal.invariant-loop-object
 invariant-loop-object g l =
     let objects = l.asking.entries.objects.now in
-    l.told ≡ distinct same_call (told_of g.allow objects (flat_map (symbols_of objects) (take l.object objects)))
+    l.told ≡ distinct same_call (told_of l.asking.mode g.allow objects (flat_map (symbols_of objects) (take l.object objects)))

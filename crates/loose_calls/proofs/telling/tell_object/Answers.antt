@@ -19,11 +19,11 @@ loop-place-preserved g c =
     let row = get_or (rows_of objects) c.args.object [] in
     let k = c.loop-place.place in
     let (e, at) = item_at row k (omega arith) in
-    subst (λ es. c.tell_symbol.new.told ≡ distinct_onto same_call c.args.told.now (told_of g.allow objects es)) (sym (at_take row k e at))
-    (of_more g.allow objects (take k row) (e ∷ []) c.args.told.now c.loop-place.told c.tell_symbol.new.told c.loop-place.invariant (c.in_ok-tell_symbol.ensures e at))
+    subst (λ es. c.tell_symbol.new.told ≡ distinct_onto same_call c.args.told.now (told_of c.args.asking.mode g.allow objects es)) (sym (at_take row k e at))
+    (of_more c.args.asking.mode g.allow objects (take k row) (e ∷ []) c.args.told.now c.loop-place.told c.tell_symbol.new.told c.loop-place.invariant (c.in_ok-tell_symbol.ensures e at))
 
 pub returns : goal.returns
 returns g c =
     let objects = c.args.asking.entries.objects.now in
     let row = get_or (rows_of objects) c.args.object [] in
-    subst (λ es. c.loop-place.told ≡ distinct_onto same_call c.args.told.now (told_of g.allow objects es)) (take_all c.loop-place.place row (omega arith)) c.loop-place.invariant
+    subst (λ es. c.loop-place.told ≡ distinct_onto same_call c.args.told.now (told_of c.args.asking.mode g.allow objects es)) (take_all c.loop-place.place row (omega arith)) c.loop-place.invariant

@@ -11,4 +11,4 @@ ghost-tell_symbol g a = g.allow
 abbrev pub invariant-loop-place : goal.invariant-loop-place
 invariant-loop-place g l =
     let objects = l.asking.entries.objects.now in
-    l.told ≡ distinct_onto same_call l.initial.told (told_of g.allow objects (take l.place (get_or (rows_of objects) l.object [])))
+    l.told ≡ distinct_onto same_call l.initial.told (told_of l.asking.mode g.allow objects (take l.place (get_or (rows_of objects) l.object [])))

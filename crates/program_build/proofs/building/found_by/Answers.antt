@@ -1,7 +1,7 @@
 use Rattle.std.proofs.Common.{◌≡◌, ◌<◌, ◌^◌, ◌++◌, List, false, All, rules, sym, ap, subst, length}
 use Rattle.std.specs.Prelude.{bytes_eq}
 use Rattle.std.specs.List.{list_any}
-use Rattle.loose_calls.specs.link_program.made_symbols.declared.mode.Mode.TheVariants.{Plain}
+use Rattle.loose_calls.specs.link_program.made_symbols.declared.mode.Mode.{Mode}
 use Rattle.loose_calls.specs.link_program.object_file.declared.object.Object.{Object}
 use Rattle.loose_calls.specs.link_program.link_plan.declared.plan.Plan.{Plan}
 use Rattle.loose_calls.specs.link_program.link_names.Numbered.{Numbered, AreNumbers}
@@ -23,7 +23,8 @@ use Rattle.program_build.proofs.building.found_by.Goals as goal
 pub loosened-requires : goal.loosened-requires
 loosened-requires g c =
     let loaded : IsLoaded g.origin.files g.origin.all c.args.objects.now c.args.homes.now = c.requires.1.1.1.0 in
-    let meant : AreMeant Plain g.origin c.args.objects.now c.args.names c.args.entries c.args.meanings = c.requires.1.1.1.1 in
+    let meant : AreMeant c.mode_of-mode.result g.origin c.args.objects.now c.args.names c.args.entries c.args.meanings =
+    subst (λ (m : Mode). AreMeant m g.origin c.args.objects.now c.args.names c.args.entries c.args.meanings) (sym c.mode_of-mode.ensures) c.requires.1.1.1.1 in
     let numbers = meant.numbered.2 in
     let rise = loaded.rise in
     let table = meant.looked_up in
@@ -39,27 +40,28 @@ tables_of-requires g c κs within =
     let ms = c.args.meanings in
     let same : origin.plan ≡ c.args.plan.now = c.requires.1.1.0 in
     let loaded : IsLoaded origin.files origin.all objects c.args.homes.now = c.requires.1.1.1.0 in
-    let meant : AreMeant Plain origin objects n c.args.entries ms = c.requires.1.1.1.1 in
+    let mode : Mode = c.mode_of-mode.result in
+    let meant : AreMeant mode origin objects n c.args.entries ms = subst (λ (m : Mode). AreMeant m origin objects n c.args.entries ms) (sym c.mode_of-mode.ensures) c.requires.1.1.1.1 in
     let like : c.args.plan.now.loose_calls ≡ origin.plan.loose_calls = ap (λ (p : Plan). p.loose_calls) (sym same) in
     let stays : Stays n m = c.in_ok-loose.ensures.stays in
     let few : length m.names < 2 ^ 32 = c.in_ok-loose.ensures.few in
-    let behind = subst (λ b. m.names ≡ n.names ++ variant_names (variants_in b origin.plan.allow_undefined objects)) like c.in_ok-loose.ensures.names in
-    let apart = subst (λ b. All (λ (v : InputSymbol). list_any (bytes_eq (name_of v)) n.names ≡ false) (variants_in b origin.plan.allow_undefined objects)) like c.in_ok-loose.ensures.apart in
-    let numbers : AreNumbers Plain objects m = numbers_are origin objects n m c.args.entries ms c.args.homes.now loaded meant stays few behind apart in
-    let table : IsTable objects m c.args.entries = table_is origin objects n m c.args.entries ms c.args.homes.now loaded meant stays few behind apart in
-    let fits : Fits Plain c.view-view.result = c.view-view.ensures.fits Plain numbers loaded.rise table in
+    let behind = subst (λ b. m.names ≡ n.names ++ variant_names (variants_in mode b origin.plan.allow_undefined objects)) like c.in_ok-loose.ensures.names in
+    let apart = subst (λ b. All (λ (v : InputSymbol). list_any (bytes_eq (name_of v)) n.names ≡ false) (variants_in mode b origin.plan.allow_undefined objects)) like c.in_ok-loose.ensures.apart in
+    let numbers : AreNumbers mode objects m = numbers_are mode origin objects n m c.args.entries ms c.args.homes.now loaded meant stays few behind apart in
+    let table : IsTable objects m c.args.entries = table_is mode origin objects n m c.args.entries ms c.args.homes.now loaded meant stays few behind apart in
+    let fits : Fits mode c.view-view.result = c.view-view.ensures.fits mode numbers loaded.rise table in
     let of_objects = c.view-view.ensures.objects in
     let of_names = c.view-view.ensures.names in
-    let won : WinnersAre c.view-view.result.names.now.names (entries Plain c.view-view.result.objects.now) ms.ranks =
-    subst (λ (ns : Numbered). WinnersAre ns.names (entries Plain c.view-view.result.objects.now) ms.ranks) (sym of_names)
-    (subst (λ (os : List Object). WinnersAre m.names (entries Plain os) ms.ranks) (sym of_objects) (ranks_are origin objects n m c.args.entries ms c.args.homes.now loaded meant stays few behind apart)) in
-    let resolved : IsResolution Plain (entries Plain c.view-view.result.objects.now) ms.resolution (resolve Plain origin.plan.allow_undefined (entries Plain c.view-view.result.objects.now) c.view-view.result.objects.now) =
-    subst (λ (os : List Object). IsResolution Plain (entries Plain os) ms.resolution (resolve Plain origin.plan.allow_undefined (entries Plain os) os)) (sym of_objects) meant.meanings.resolved in
+    let won : WinnersAre c.view-view.result.names.now.names (entries mode c.view-view.result.objects.now) ms.ranks =
+    subst (λ (ns : Numbered). WinnersAre ns.names (entries mode c.view-view.result.objects.now) ms.ranks) (sym of_names)
+    (subst (λ (os : List Object). WinnersAre m.names (entries mode os) ms.ranks) (sym of_objects) (ranks_are mode origin objects n m c.args.entries ms c.args.homes.now loaded meant stays few behind apart)) in
+    let resolved : IsResolution mode (entries mode c.view-view.result.objects.now) ms.resolution (resolve mode origin.plan.allow_undefined (entries mode c.view-view.result.objects.now) c.view-view.result.objects.now) =
+    subst (λ (os : List Object). IsResolution mode (entries mode os) ms.resolution (resolve mode origin.plan.allow_undefined (entries mode os) os)) (sym of_objects) meant.meanings.resolved in
     let homes : IsLoaded origin.files origin.all c.view-view.result.objects.now c.args.homes.now = subst (λ (os : List Object). IsLoaded origin.files origin.all os c.args.homes.now) (sym of_objects) loaded in
-    let loose : IsLoose origin.plan.loose_calls origin.plan.allow_undefined c.view-view.result.names.now.names ms.resolution.imports c.view-view.result.objects.now c.in_ok-loose.loose =
-    subst (λ (ns : Numbered). IsLoose origin.plan.loose_calls origin.plan.allow_undefined ns.names ms.resolution.imports c.view-view.result.objects.now c.in_ok-loose.loose) (sym of_names)
-    (subst (λ (os : List Object). IsLoose origin.plan.loose_calls origin.plan.allow_undefined m.names ms.resolution.imports os c.in_ok-loose.loose) (sym of_objects)
-    (subst (λ b. IsLoose b origin.plan.allow_undefined m.names ms.resolution.imports objects c.in_ok-loose.loose) like c.in_ok-loose.ensures.loose)) in
+    let loose : IsLoose mode origin.plan.loose_calls origin.plan.allow_undefined c.view-view.result.names.now.names ms.resolution.imports c.view-view.result.objects.now c.in_ok-loose.loose =
+    subst (λ (ns : Numbered). IsLoose mode origin.plan.loose_calls origin.plan.allow_undefined ns.names ms.resolution.imports c.view-view.result.objects.now c.in_ok-loose.loose) (sym of_names)
+    (subst (λ (os : List Object). IsLoose mode origin.plan.loose_calls origin.plan.allow_undefined m.names ms.resolution.imports os c.in_ok-loose.loose) (sym of_objects)
+    (subst (λ b. IsLoose mode b origin.plan.allow_undefined m.names ms.resolution.imports objects c.in_ok-loose.loose) like c.in_ok-loose.ensures.loose)) in
     (search rules, (search rules, (fits, (won, (resolved, (homes, loose))))))
 
 pub returns : goal.returns
@@ -71,12 +73,14 @@ returns g c =
     let ms = c.args.meanings in
     let same : origin.plan ≡ c.args.plan.now = c.requires.1.1.0 in
     let loaded : IsLoaded origin.files origin.all objects c.args.homes.now = c.requires.1.1.1.0 in
-    let meant : AreMeant Plain origin objects n c.args.entries ms = c.requires.1.1.1.1 in
+    let mode : Mode = c.mode_of-mode.result in
+    let meant : AreMeant mode origin objects n c.args.entries ms = subst (λ (m : Mode). AreMeant m origin objects n c.args.entries ms) (sym c.mode_of-mode.ensures) c.requires.1.1.1.1 in
     let like : c.args.plan.now.loose_calls ≡ origin.plan.loose_calls = ap (λ (p : Plan). p.loose_calls) (sym same) in
-    let behind = subst (λ b. m.names ≡ n.names ++ variant_names (variants_in b origin.plan.allow_undefined objects)) like c.in_ok-loose.ensures.names in
-    let apart = subst (λ b. All (λ (v : InputSymbol). list_any (bytes_eq (name_of v)) n.names ≡ false) (variants_in b origin.plan.allow_undefined objects)) like c.in_ok-loose.ensures.apart in
-    let tables : AreTables m.names ms.resolution.imports c.in_ok-tables.tables (program Plain origin objects) =
-    subst (λ (ns : Numbered). AreTables ns.names ms.resolution.imports c.in_ok-tables.tables (program Plain origin objects)) c.view-view.ensures.names
-    (subst (λ (os : List Object). AreTables c.view-view.result.names.now.names ms.resolution.imports c.in_ok-tables.tables (program Plain origin os)) c.view-view.ensures.objects c.in_ok-tables.ensures) in
-    subst (λ (plan : Plan). IsFound Plain plan objects (record { names = m; entries = c.args.entries; ranks = ms.ranks; resolution = ms.resolution; tables = c.in_ok-tables.tables }) (program_of Plain plan origin.files origin.all objects)) same
-    (is_found origin objects n m c.args.entries ms c.args.homes.now loaded meant c.in_ok-loose.ensures.stays c.in_ok-loose.ensures.few behind apart c.in_ok-tables.tables tables)
+    let behind = subst (λ b. m.names ≡ n.names ++ variant_names (variants_in mode b origin.plan.allow_undefined objects)) like c.in_ok-loose.ensures.names in
+    let apart = subst (λ b. All (λ (v : InputSymbol). list_any (bytes_eq (name_of v)) n.names ≡ false) (variants_in mode b origin.plan.allow_undefined objects)) like c.in_ok-loose.ensures.apart in
+    let tables : AreTables m.names ms.resolution.imports c.in_ok-tables.tables (program mode origin objects) =
+    subst (λ (ns : Numbered). AreTables ns.names ms.resolution.imports c.in_ok-tables.tables (program mode origin objects)) c.view-view.ensures.names
+    (subst (λ (os : List Object). AreTables c.view-view.result.names.now.names ms.resolution.imports c.in_ok-tables.tables (program mode origin os)) c.view-view.ensures.objects c.in_ok-tables.ensures) in
+    subst (λ (k : Mode). IsFound k c.args.plan.now objects (record { names = m; entries = c.args.entries; ranks = ms.ranks; resolution = ms.resolution; tables = c.in_ok-tables.tables }) (program_of k c.args.plan.now origin.files origin.all objects)) c.mode_of-mode.ensures
+    (subst (λ (plan : Plan). IsFound mode plan objects (record { names = m; entries = c.args.entries; ranks = ms.ranks; resolution = ms.resolution; tables = c.in_ok-tables.tables }) (program_of mode plan origin.files origin.all objects)) same
+    (is_found mode origin objects n m c.args.entries ms c.args.homes.now loaded meant c.in_ok-loose.ensures.stays c.in_ok-loose.ensures.few behind apart c.in_ok-tables.tables tables))

@@ -25,7 +25,7 @@ lead_of-requires-clause-there c =
     let answer = c.requires.sources.answers c.args.object c.args.place e there in
     let at = ap (λ n. answer_at c.args.sources.resolution.now n c.args.place) shows.input
     ∙ ap (answer_at c.args.sources.resolution.now e.input) (sym (placed_at entries.objects.now c.args.object c.args.place e there)) ∙ answer.1 in
-    subst (IsThere entries.objects.now) (same_Some answer.0 c.meaning-meaning.result (sym at ∙ c.meaning-meaning.ensures)) answer.2
+    subst (IsThere c.args.sources.mode entries.objects.now) (same_Some answer.0 c.meaning-meaning.result (sym at ∙ c.meaning-meaning.ensures)) answer.2
 
 pub returns : goal.returns
 returns c = λ e there.
@@ -36,4 +36,4 @@ returns c = λ e there.
     ∙ ap (answer_at c.args.sources.resolution.now e.input) (sym (placed_at entries.objects.now c.args.object c.args.place e there))) ∙ c.meaning-meaning.ensures in
     ap (λ (k : Symbol). record { kind = k.kind; name = r.number; lead = c.lead_of.result }) shows.symbol
     ∙ ap (λ n. record { kind = e.symbol.kind; name = n; lead = c.lead_of.result }) shows.number
-    ∙ ap (λ l. record { kind = e.symbol.kind; name = entry_number entries.names.now.names e; lead = l }) (c.lead_of.ensures ∙ ap (lead_at entries.objects.now) (sym at))
+    ∙ ap (λ l. record { kind = e.symbol.kind; name = entry_number entries.names.now.names e; lead = l }) (c.lead_of.ensures ∙ ap (lead_at c.args.sources.mode entries.objects.now) (sym at))

@@ -1,6 +1,5 @@
 use Rattle.std.proofs.Common.{List, ℕ, map, Some, ◌≡◌, ◌++◌, subst, sym, refl, ap, ◌∙◌, rules}
 use Rattle.program_tables.specs.Symbols.{symbols_of as all_symbols}
-use Rattle.link_program.specs.made_symbols.declared.mode.Mode.TheVariants.{Plain}
 use Rattle.link_program.specs.name_rules.Entries.{entries}
 use Rattle.link_program.specs.name_rules.Meanings.{resolve}
 use Rattle.link_program.specs.name_entries.View.{WinnersAre}
@@ -21,24 +20,24 @@ use Rattle.program_tables.proofs.tables.tables_of.Goals as goal
 
 pub all_symbols-requires : goal.all_symbols-requires
 all_symbols-requires g c =
-    let fits : Fits Plain c.args.entries = search rules in
-    let meant : IsResolution Plain (entries Plain c.args.entries.objects.now) c.args.resolution.now (resolve Plain g.origin.plan.allow_undefined (entries Plain c.args.entries.objects.now) c.args.entries.objects.now) = search rules in
+    let fits : Fits c.args.mode c.args.entries = search rules in
+    let meant : IsResolution c.args.mode (entries c.args.mode c.args.entries.objects.now) c.args.resolution.now (resolve c.args.mode g.origin.plan.allow_undefined (entries c.args.mode c.args.entries.objects.now) c.args.entries.objects.now) = search rules in
     record {
       fits = fits.objects;
       places = subst (ArePlaces c.args.entries.objects.now) (sym c.as_slice.ensures) c.in_ok-places.ensures;
-      answers = are_answered c.args.entries.objects.now g.origin.plan.allow_undefined c.args.resolution.now fits.objects.inputs meant;
+      answers = are_answered c.args.mode c.args.entries.objects.now g.origin.plan.allow_undefined c.args.resolution.now fits.objects.inputs meant;
     }
 
 pub returns : goal.returns
 returns g c =
-    let fits : Fits Plain c.args.entries = search rules in
-    let meant : IsResolution Plain (entries Plain c.args.entries.objects.now) c.args.resolution.now (resolve Plain g.origin.plan.allow_undefined (entries Plain c.args.entries.objects.now) c.args.entries.objects.now) = search rules in
-    let ranked : WinnersAre c.args.entries.names.now.names (entries Plain c.args.entries.objects.now) c.args.ranks.now = search rules in
+    let fits : Fits c.args.mode c.args.entries = search rules in
+    let meant : IsResolution c.args.mode (entries c.args.mode c.args.entries.objects.now) c.args.resolution.now (resolve c.args.mode g.origin.plan.allow_undefined (entries c.args.mode c.args.entries.objects.now) c.args.entries.objects.now) = search rules in
+    let ranked : WinnersAre c.args.entries.names.now.names (entries c.args.mode c.args.entries.objects.now) c.args.ranks.now = search rules in
     let loaded : IsLoaded g.origin.files g.origin.all c.args.entries.objects.now c.args.homes.now = search rules in
     let lo : Loose = c.args.loose.now in
-    let loose : IsLoose g.origin.plan.loose_calls g.origin.plan.allow_undefined c.args.entries.names.now.names c.args.resolution.now.imports c.args.entries.objects.now lo = search rules in
+    let loose : IsLoose c.args.mode g.origin.plan.loose_calls g.origin.plan.allow_undefined c.args.entries.names.now.names c.args.resolution.now.imports c.args.entries.objects.now lo = search rules in
     let objects = c.args.entries.objects.now in
-    let s : Sources = record { entries = c.args.entries; resolution = c.args.resolution; places = c.as_slice.result } in
+    let s : Sources = record { entries = c.args.entries; mode = c.args.mode; resolution = c.args.resolution; places = c.as_slice.result } in
     let l : Lookups = record { entries = c.args.entries; firsts = c.as_slice-4.result; types = c.numbers.result; homes = c.args.homes; called = c.as_slice-5.result } in
     let t : Tables = record {
       symbols = c.in_ok-symbols.field-0.symbols;

@@ -1,7 +1,6 @@
 use Rattle.std.proofs.Common.{arith, length, ap, ◌∙◌, ◌<◌, ◌≡◌, ◌≤◌, ◌++◌}
 use Rattle.std.specs.Prelude.{flat_map, filter_map}
 use Rattle.std.proofs.lemmas.List.{length-map, take_all}
-use Rattle.link_program.specs.made_symbols.declared.mode.Mode.TheVariants as modes
 use Rattle.link_program.specs.made_symbols.Made.{made}
 use Rattle.link_program.specs.name_rules.Entries.{made_from, symbols_of}
 use Rattle.link_program.specs.name_entries.View.{rows_of}
@@ -17,7 +16,7 @@ loop-object-preserved c =
     let counted : length rows ≡ length objects = length-map objects (symbols_of objects) in
     let within : c.loop-object.object < length rows = omega (arith, counted, c.count-object-end.ensures, c.loop-object-test.true) in
     let (row, at) = item_at rows c.loop-object.object within in
-    flat_more (filter_map g) rows c.loop-object.object row (filter_map g (made_from 0 (made modes.Plain))) c.loop-object.winners _ at c.loop-object.invariant
+    flat_more (filter_map g) rows c.loop-object.object row (filter_map g (made_from 0 (made c.args.mode))) c.loop-object.winners _ at c.loop-object.invariant
     (row_of (filter_map g) rows c.loop-object.object row _ _ at c.in_ok-add_winners.ensures)
 
 pub returns : goal.returns
@@ -27,4 +26,4 @@ returns c =
     let rows = rows_of objects in
     let counted : length rows ≡ length objects = length-map objects (symbols_of objects) in
     let past : length rows ≤ c.loop-object.object = omega (arith, counted, c.count-object-end.ensures, c.loop-object-test.false) in
-    c.loop-object.invariant ∙ ap (λ l. filter_map g (made_from 0 (made modes.Plain)) ++ flat_map (filter_map g) l) (take_all c.loop-object.object rows past)
+    c.loop-object.invariant ∙ ap (λ l. filter_map g (made_from 0 (made c.args.mode)) ++ flat_map (filter_map g) l) (take_all c.loop-object.object rows past)

@@ -2,7 +2,8 @@ use Rattle.std.proofs.Common.{◌≡◌, ◌∙◌, List, map, length, replicate
 use Rattle.link_program.specs.name_entries.Fits.{FitsObjects}
 use Rattle.link_keys.specs.declared.firsts.At.{At}
 use Rattle.link_keys.specs.Firsts.{firsts_rows}
-use Rattle.link_image.specs.link_layout.Layout.{IsLayout}
+use Rattle.link_program.specs.made_symbols.declared.mode.Mode.TheVariants.{Plain}
+use Rattle.link_image.specs.link_layout.Layout.{IsLayoutIn}
 use Rattle.sym_parts.specs.Sought.{known}
 use Rattle.sym_parts.specs.Code.{function_seen}
 use Rattle.sym_functions.proofs.Composed.{rows_counted, functions_are}
@@ -15,7 +16,7 @@ least_entries-requires g c =
 
 pub returns : goal.returns
 returns g c =
-    let layout : IsLayout g.s.program g.s.parts g.s.exports c.args.layout = search rules in
+    let layout : IsLayoutIn Plain g.s.program g.s.parts g.s.exports c.args.layout = search rules in
     let fits : FitsObjects c.args.entries = search rules in
     let column : List (Option At) = firsts_rows 0 (replicate (length c.args.layout.program.names.now.names) None) c.args.layout.program.names.now.symbols in
     let firsts : c.deref.result.now ≡ column = search rules in

@@ -1,6 +1,7 @@
 use Rattle.std.proofs.Common.{◌≡◌, ◌∙◌, ◌++◌, true, false, map, filter, sym, ap, rules}
 use Rattle.link_program.specs.Live.{AreLive}
-use Rattle.link_layout.specs.Layout.{IsLayout}
+use Rattle.link_program.specs.made_symbols.declared.mode.Mode.TheVariants.{Plain}
+use Rattle.link_layout.specs.Layout.{IsLayoutIn}
 use Rattle.sym_functions.specs.sym_parts.Sought.{known}
 use Rattle.sym_functions.specs.sym_parts.Data.{segment_seen, segment_numbers, is_so}
 use Rattle.sym_world.proofs.Composed.{segments_are}
@@ -8,7 +9,7 @@ use Rattle.sym_world.proofs.objects.segments.Goals as goal
 
 pub returns : goal.returns
 returns g c =
-    let layout : IsLayout g.s.program g.s.parts g.s.exports c.args.layout = c.requires.0 in
+    let layout : IsLayoutIn Plain g.s.program g.s.parts g.s.exports c.args.layout = c.requires.0 in
     let lives : AreLive g.s.program c.args.live.now g.s.parts = c.requires.1.1.1 in
     let t = c.args.k.tables.now in
     let files = c.args.files.now in

@@ -9,7 +9,7 @@ use Rattle.loose_calls.proofs.Growing.{grows_more, grows_none, grown_by}
 use Rattle.loose_calls.proofs.finding.Calls.add_object.Goals as goal
 
 pub loop-place-init : goal.loop-place-init
-loop-place-init g c = grows_none (loosens true g.allow c.args.asking.entries.objects.now) c.args.asking.count c.args.self.now
+loop-place-init g c = grows_none (loosens c.args.asking.mode true g.allow c.args.asking.entries.objects.now) c.args.asking.count c.args.self.now
 
 pub is_loose-loose-requires : goal.is_loose-loose-requires
 is_loose-loose-requires g c =
@@ -26,7 +26,7 @@ loop-place-preserved g c =
     let objects = c.args.asking.entries.objects.now in
     let row = get_or (rows_of objects) c.args.object [] in
     let k = c.loop-place.place in
-    let test = loosens true g.allow objects in
+    let test = loosens c.args.asking.mode true g.allow objects in
     let (e, at) = item_at row k (omega arith) in
     subst (λ es. Grows test c.args.asking.count es c.args.self.now c.add.new.self) (sym (at_take row k e at))
     (grows_more test c.args.asking.count (take k row) (e ∷ []) c.args.self.now c.loop-place.self c.add.new.self c.loop-place.invariant
@@ -36,4 +36,4 @@ pub returns : goal.returns
 returns g c =
     let objects = c.args.asking.entries.objects.now in
     let row = get_or (rows_of objects) c.args.object [] in
-    subst (λ es. Grows (loosens true g.allow objects) c.args.asking.count es c.args.self.now c.loop-place.self) (take_all c.loop-place.place row (omega arith)) c.loop-place.invariant
+    subst (λ es. Grows (loosens c.args.asking.mode true g.allow objects) c.args.asking.count es c.args.self.now c.loop-place.self) (take_all c.loop-place.place row (omega arith)) c.loop-place.invariant

@@ -10,4 +10,4 @@ ghost-is_loose g a = g.allow
 
 abbrev pub invariant-loop-place : goal.invariant-loop-place
 invariant-loop-place g l =
-    Grows (loosens true g.allow l.asking.entries.objects.now) l.asking.count (take l.place (get_or (rows_of l.asking.entries.objects.now) l.object [])) l.initial.self l.self
+    Grows (loosens l.asking.mode true g.allow l.asking.entries.objects.now) l.asking.count (take l.place (get_or (rows_of l.asking.entries.objects.now) l.object [])) l.initial.self l.self
