@@ -7,6 +7,7 @@
     link_inputs.py sparse  FOLDER COUNT    main.o and library.a, of whose members main.o needs one in 400
     link_inputs.py large   FOLDER COUNT    objects of 1 MiB of code each
     link_inputs.py dead    FOLDER COUNT    the same objects, of which nothing can be reached
+    link_inputs.py small-pic, large-pic    those of small and large as position-independent code, for -shared
 
 But for `dead` and `sparse` every function can be reached from _start. FOLDER/inputs lists the files, one a line. The same words give the same bytes.
 """
@@ -18,8 +19,8 @@ I32 = 0x7F
 # Relocations by their numbers in the object format.
 FUNCTION_INDEX_LEB, TABLE_INDEX_SLEB, TABLE_INDEX_I32 = 0, 1, 2
 MEMORY_ADDR_LEB, MEMORY_ADDR_SLEB, MEMORY_ADDR_I32 = 3, 4, 5
-TYPE_INDEX_LEB, GLOBAL_INDEX_LEB = 6, 7
-WITH_ADDEND = {MEMORY_ADDR_LEB, MEMORY_ADDR_SLEB, MEMORY_ADDR_I32}
+TYPE_INDEX_LEB, GLOBAL_INDEX_LEB, MEMORY_ADDR_REL_SLEB = 6, 7, 11
+WITH_ADDEND = {MEMORY_ADDR_LEB, MEMORY_ADDR_SLEB, MEMORY_ADDR_I32, MEMORY_ADDR_REL_SLEB}
 # Flags of symbols.
 LOCAL, UNDEFINED, NO_STRIP = 2, 16, 128
 
@@ -77,10 +78,11 @@ def custom(name, content):
 class Body:
     """The code of a function (i32, i32) -> i32 with four more locals, and its relocations: (place, type, target, addend)."""
 
-    def __init__(self, chance):
+    def __init__(self, chance, placed):
         self.code = bytearray()
         self.relocations = []
         self.chance = chance
+        self.placed = placed
 
     def local(self):
         return self.chance.randrange(6)
@@ -103,16 +105,31 @@ class Body:
     def through_pointer(self, functions, segments):
         self.put(0x20, self.local(), 0x20, self.local(), 0x28, 2, 4 * self.chance.randrange(16), 0x36, 2, 4 * self.chance.randrange(16))
 
+    def address(self, segment, place):
+        """The address of a datum, from the base where the loader places the module."""
+        self.put(0x23)
+        self.refer(GLOBAL_INDEX_LEB, "memory", 1)
+        self.put(0x41)
+        self.refer(MEMORY_ADDR_REL_SLEB, ("data", segment), SEGMENT_BYTES * segment + place, place)
+        self.put(0x6A)
+
     def load(self, functions, segments):
         segment, place = self.chance.randrange(segments), 4 * self.chance.randrange(SEGMENT_BYTES // 4)
+        if self.placed:
+            self.address(segment, place)
+            self.put(0x28, 2, 0, 0x21, self.local())
+            return
         self.put(0x41, 0, 0x28, 2)
         self.refer(MEMORY_ADDR_LEB, ("data", segment), SEGMENT_BYTES * segment + place, place)
         self.put(0x21, self.local())
 
     def store(self, functions, segments):
         segment = self.chance.randrange(segments)
-        self.put(0x41)
-        self.refer(MEMORY_ADDR_SLEB, ("data", segment), SEGMENT_BYTES * segment)
+        if self.placed:
+            self.address(segment, 0)
+        else:
+            self.put(0x41)
+            self.refer(MEMORY_ADDR_SLEB, ("data", segment), SEGMENT_BYTES * segment)
         self.put(0x20, self.local(), 0x36, 2, 4 * self.chance.randrange(8))
 
     def call(self, functions, segments):
@@ -149,9 +166,9 @@ STATEMENTS = 4 * [Body.arithmetic] + 4 * [Body.through_pointer] + 3 * [Body.load
     Body.indirect, Body.loop, Body.fork]
 
 
-def function_body(chance, length, functions, segments, calls):
+def function_body(chance, length, functions, segments, calls, placed):
     """A body of about so many bytes, which calls the functions of `calls` among others, with a frame on the stack."""
-    body = Body(chance)
+    body = Body(chance, placed)
     body.put(1, 4, I32, 0x23)
     body.refer(GLOBAL_INDEX_LEB, "stack", 0)
     body.put(0x41, 16, 0x6B, 0x22, 3, 0x24)
@@ -171,8 +188,9 @@ def function_body(chance, length, functions, segments, calls):
 class Shape:
     """Everything of an object but its names: functions that are defined, then those that aren't, and segments of 32 bytes."""
 
-    def __init__(self, chance, lengths, outside, segments):
+    def __init__(self, chance, lengths, outside, segments, placed):
         defined = len(lengths)
+        self.placed = placed
         functions = defined + outside
         self.defined, self.outside, self.segments = defined, outside, segments
         self.bodies = []
@@ -180,13 +198,13 @@ class Shape:
             calls = [n for n in (2 * number + 1, 2 * number + 2) if n < defined]
             if number == 0:
                 calls += range(defined, functions)
-            self.bodies.append(function_body(chance, length, functions, segments, calls))
+            self.bodies.append(function_body(chance, length, functions, segments, calls, placed))
         self.prefix, self.suffix = self.sections(chance)
 
     def symbol_of(self, target):
-        """The order of symbols: functions that are defined, others, segments, the stack pointer."""
-        if target == "stack":
-            return self.defined + self.outside + self.segments
+        """The order of symbols: functions that are defined, others, segments, the stack pointer, the memory's base."""
+        if target in ("stack", "memory"):
+            return self.defined + self.outside + self.segments + (target == "memory")
         return target[1] + (self.defined + self.outside if target[0] == "data" else 0)
 
     def index_of(self, target):
@@ -237,11 +255,14 @@ class Shape:
         """The object's bytes, with the names of its functions, of those it calls, and of its data."""
         imports = [memory_import(self.segments)]
         imports += [text("env") + text(name) + bytes([0]) + leb(BINARY) for name in others]
-        imports += [text("env") + text("__stack_pointer") + bytes([3, I32, 1]), table_import()]
+        imports += [text("env") + text("__stack_pointer") + bytes([3, I32, 1])]
+        imports += [text("env") + text("__memory_base") + bytes([3, I32, 0])] if self.placed else []
+        imports += [table_import()]
         symbols = [bytes([0, 0]) + leb(self.outside + number) + text(name) for number, name in enumerate(own)]
         symbols += [bytes([0, UNDEFINED]) + leb(number) for number in range(self.outside)]
         symbols += [bytes([1, LOCAL]) + text(name) + leb(number) + bytes([0, SEGMENT_BYTES]) for number, name in enumerate(data)]
-        symbols += [bytes([2, UNDEFINED, 0]), bytes([5]) + leb(UNDEFINED | NO_STRIP) + bytes([0])]
+        symbols += [bytes([2, UNDEFINED, 0])] + ([bytes([2, UNDEFINED, 1])] if self.placed else [])
+        symbols += [bytes([5]) + leb(UNDEFINED | NO_STRIP) + bytes([0])]
         segments = [text(".data." + name) + bytes([2, 0]) for name in data]
         linking = bytes([2, 8]) + sized(vector(symbols)) + bytes([5]) + sized(vector(segments))
         return b"\0asm\1\0\0\0" + section(1, vector(TYPES)) + section(2, vector(imports)) + self.prefix + custom("linking", linking) + self.suffix
@@ -281,25 +302,25 @@ def start_object(callees):
 class Shapes:
     """Shapes by the number of functions outside, some of each, so that objects differ but need not be made one by one."""
 
-    def __init__(self, make, kinds=16):
-        self.make, self.kinds, self.known = make, kinds, {}
+    def __init__(self, make, kinds=16, placed=False):
+        self.make, self.kinds, self.placed, self.known = make, kinds, placed, {}
 
     def of(self, number, outside):
         key = (number % self.kinds, outside)
         if key not in self.known:
-            self.known[key] = self.make(random.Random(repr(key)), outside)
+            self.known[key] = self.make(random.Random(repr(key)), outside, self.placed)
         return self.known[key]
 
 
-def small_shape(chance, outside):
-    return Shape(chance, [chance.randrange(200, 500) for _ in range(chance.randrange(2, 4))], outside, 2)
+def small_shape(chance, outside, placed=False):
+    return Shape(chance, [chance.randrange(200, 500) for _ in range(chance.randrange(2, 4))], outside, 2, placed)
 
 
-def large_shape(chance, outside):
+def large_shape(chance, outside, placed=False):
     lengths = []
     while sum(lengths) < LARGE_CODE:
         lengths.append(chance.randrange(200, 2048))
-    return Shape(chance, lengths, outside, 200)
+    return Shape(chance, lengths, outside, 200, placed)
 
 
 def save(folder, name, content):
@@ -354,8 +375,10 @@ def library(folder, count, chained, each):
 def main():
     kind, folder, count = sys.argv[1], sys.argv[2], int(sys.argv[3])
     os.makedirs(folder, exist_ok=True)
-    if kind == "small":
-        files = tree(folder, count, Shapes(small_shape), 2)
+    if kind in ("small", "small-pic"):
+        files = tree(folder, count, Shapes(small_shape, placed=kind == "small-pic"), 2)
+    elif kind == "large-pic":
+        files = tree(folder, count, Shapes(large_shape, 4, True), 2)
     elif kind in ("large", "dead"):
         files = tree(folder, count, Shapes(large_shape, 4), 2, int(kind == "large"))
     else:

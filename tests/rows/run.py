@@ -24,6 +24,7 @@ SUBJECTS = (
     "validity",
     "agreement",
     "partial",
+    "shared",
     "limits",
 )
 
