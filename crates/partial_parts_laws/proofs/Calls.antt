@@ -36,7 +36,7 @@ use Rattle.partial_parts_laws.specs.Moves.{moving, StandsInLinks}
 use Rattle.partial_parts_laws.specs.Alike.{HeldChunk, HeldSymbol, CallsAlike, CallsAreAlike}
 use Rattle.partial_parts_laws.proofs.Zips.{BothOr, zip_more, zip_filter, zip_picked, zip_middle}
 use Rattle.partial_parts_laws.proofs.Parts.{res, own_parts, object_parts, parts_are, resolved_are}
-use Rattle.partial_parts_laws.proofs.Runs.{own_part}
+use Rattle.partial_parts_laws.proofs.RunParts.{own_part}
 use Rattle.partial_parts_laws.proofs.ByKind.{whole_zip}
 use Rattle.partial_parts_laws.proofs.Symbols.{symbol_at}
 use Rattle.partial_parts_laws.proofs.Referred.{whole_meaning, StoodBy, stood_by}
@@ -100,7 +100,7 @@ insert_keeps c (d ∷ ds) x has = by_test (nat_le c.priority d.priority) has (in
     by_test false (inl e) rest = inl e
     by_test false (inr h) rest = inr (rest h)
 
-has_sorted : (cs : List InitCall) (x : InitCall) → Has cs x → Has (by_priority cs) x
+pub has_sorted : (cs : List InitCall) (x : InitCall) → Has cs x → Has (by_priority cs) x
 has_sorted [] x has = has
 has_sorted (c ∷ cs) x (inl e) = subst (Has (insert_call c (by_priority cs))) e (insert_own c (by_priority cs))
 has_sorted (c ∷ cs) x (inr h) = insert_keeps c (by_priority cs) x (has_sorted cs x h)

@@ -23,7 +23,7 @@ use Rattle.partial_parts_laws.specs.Moves.{moved_chunk, StandsInLinks, ChunksMov
 use Rattle.partial_parts_laws.proofs.Zips.{zip_map, zip_filter, flat_alike}
 use Rattle.partial_parts_laws.proofs.Parts.{res, own_parts, object_parts, parts_by, function_parts, segment_parts, global_parts, functions_in, segments_in, globals_in}
 use Rattle.partial_parts_laws.proofs.ByKind.{whole_zip, before_zip, behind_zip}
-use Rattle.partial_parts_laws.proofs.Runs.{own_part}
+use Rattle.partial_parts_laws.proofs.RunParts.{own_part}
 use Rattle.partial_parts_laws.proofs.Middles.{functions_middle, segments_middle, globals_middle}
 
 module _ (run : Run) (os : Objects) (p : Program) where

@@ -34,7 +34,8 @@ use Rattle.partial_parts_laws.specs.Linked.{Links, alone_program, whole_program}
 use Rattle.partial_parts_laws.specs.Moves.{moved_chunk, StandsInLinks}
 use Rattle.partial_parts_laws.specs.Alike.{is_placed, HeldChunk, HeldSymbol, PartsMove, PartsAreMoved}
 use Rattle.partial_parts_laws.proofs.Parts.{make_function, make_segment, make_global, res, own_parts, object_parts, parts_are, function_parts, segment_parts, global_parts, object_input, of_three}
-use Rattle.partial_parts_laws.proofs.Runs.{made_input, chunks_kept, function_there, segment_there, global_there}
+use Rattle.partial_parts_laws.proofs.RunParts.{made_input}
+use Rattle.partial_parts_laws.proofs.Runs.{chunks_kept, function_there, segment_there, global_there}
 use Rattle.partial_parts_laws.proofs.Zips.{has_indexed}
 use Rattle.partial_parts_laws.proofs.Chunks.{chunk_before, chunk_behind, chunk_inside}
 

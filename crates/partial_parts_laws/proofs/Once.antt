@@ -17,7 +17,7 @@ use Rattle.partial_laws.proofs.Loading.{rise_above}
 use Rattle.partial_parts_laws.specs.Linked.{Linked, program}
 use Rattle.partial_parts_laws.proofs.Parts.{make_function, make_segment, make_global, own_parts, object_parts, parts_are, function_parts, segment_parts, global_parts, object_input}
 use Rattle.partial_parts_laws.proofs.Zips.{indexed_all, indexed_apart}
-use Rattle.partial_parts_laws.proofs.Runs.{own_part, made_input}
+use Rattle.partial_parts_laws.proofs.RunParts.{own_part, made_input}
 
 abbrev pub same_part : Part → Part → Bool
 same_part a b = same_chunk a.chunk b.chunk

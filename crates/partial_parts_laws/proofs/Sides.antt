@@ -41,7 +41,8 @@ use Rattle.partial_parts_laws.specs.Alike.{HeldChunk, HeldSymbol, CallsAlike}
 use Rattle.partial_parts_laws.proofs.Zips.{zip_more, zip_has, zip_filter, zip_length, flat_alike, indexed_all}
 use Rattle.partial_parts_laws.proofs.Parts.{make_function, make_segment, make_global, res, own_parts, object_parts, parts_by, files_are, function_parts, segment_parts, global_parts, functions_in, segments_in, globals_in, of_three}
 use Rattle.partial_parts_laws.proofs.ByKind.{whole_zip, before_zip, behind_zip}
-use Rattle.partial_parts_laws.proofs.Runs.{own_part, kept_is}
+use Rattle.partial_parts_laws.proofs.RunParts.{own_part}
+use Rattle.partial_parts_laws.proofs.Runs.{kept_is}
 use Rattle.partial_parts_laws.proofs.Middles.{functions_middle, segments_middle, globals_middle}
 use Rattle.partial_parts_laws.proofs.Chunks.{own_zip, chunk_before}
 use Rattle.partial_parts_laws.proofs.Built.{code_apart, data_apart, Alikes, AlikeSides}

@@ -30,7 +30,7 @@ use Rattle.partial_parts_laws.specs.Moves.{is_part}
 use Rattle.partial_parts_laws.specs.Alike.{is_placed}
 use Rattle.partial_parts_laws.proofs.Zips.{item_has}
 use Rattle.partial_parts_laws.proofs.Parts.{make_function, make_segment, make_global, res, own_parts, object_parts, parts_are, function_parts, segment_parts, global_parts}
-use Rattle.partial_parts_laws.proofs.Runs.{own_part}
+use Rattle.partial_parts_laws.proofs.RunParts.{own_part}
 
 not_true : (b : Bool) → not b ≡ true → b ≡ false
 not_true true h = absurd cc

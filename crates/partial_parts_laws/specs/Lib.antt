@@ -5,3 +5,12 @@ pub mod Alike
 pub mod AlikeLinks
 pub mod PartRows
 pub mod ReadBack
+pub mod SymbolsBack
+pub mod RunBack
+pub mod NamedObjects
+pub mod RulesKept
+pub mod GroupsBack
+pub mod NumbersFit
+pub mod RelocsFit
+pub mod Writable
+pub mod ReadOperands
