@@ -1,0 +1,17 @@
+pub mod Lie
+pub mod Places
+pub mod Solid
+pub mod Globals
+pub mod Data
+pub mod Read
+pub mod Linked
+pub mod Kept
+pub mod Meant
+pub mod Rows
+pub mod Named
+pub mod Standing
+pub mod Programs
+pub mod Steps
+pub mod Foreign
+pub mod Numbered
+pub mod Placed

@@ -1,0 +1,4 @@
+pub mod Linked
+pub mod Numbered
+pub mod Placed
+mod Rows
