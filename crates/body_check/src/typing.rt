@@ -5,6 +5,7 @@ ghost use Rattle.wasm_instr.specs.Skimming.{outline_of};
 ghost use Rattle.valid_rules.specs.Reading.{whole};
 ghost use Rattle.valid_bodies.specs.Shapes.{shape};
 ghost use Rattle.valid_bodies.specs.Steps.{step_on};
+ghost use Rattle.valid_bodies.specs.Went.{Went};
 ghost use Rattle.body_check.specs.Table.{IsTable};
 ghost use Rattle.body_check.specs.Judging.{judged, verdict};
 
@@ -14,7 +15,7 @@ use crate::skimming::{turns, unfit};
 use crate::table::{Table, table_of};
 use crate::verdict::Verdict;
 use std::alloc::Global;
-use valid_bodies::{Blocks, Context, reads_one};
+use valid_bodies::{Blocks, Context, reads_at, reads_one};
 use wasm_grammar::ReadFault;
 use wasm_instr::{Instr, LocalRun, Outline, instr_at};
 use wasm_types::FuncType;
@@ -40,6 +41,28 @@ fn closed(
     }
 }
 
+/// Types an instruction in the innermost block: whether it has a typing. What isn't of control is typed by its effect, so
+/// that what it takes and gives isn't put into lists.
+fn goes_on(
+    alloc: Global,
+    context: &Context,
+    kind: &FuncType,
+    locals: &[LocalRun],
+    blocks: &mut Blocks,
+    instr: &Instr,
+) -> Result<bool, OutOfMemory>
+    ensures { IfOk result (λ went. Went (step_on blocks.old (shape context.now kind.now locals.now instr.now)) went blocks.new) }
+{
+    match instr {
+        Instr::Plain(_)
+        | Instr::Block { .. }
+        | Instr::Branch { .. }
+        | Instr::Call(_)
+        | Instr::CallIndirect { .. } => reads_at(alloc, context, kind, locals, blocks, instr),
+        _ => reads_one(alloc, context, kind, locals, blocks, instr),
+    }
+}
+
 /// Types an instruction in the innermost block: its outline, where it has a typing.
 fn types(
     alloc: Global,
@@ -53,7 +76,7 @@ fn types(
         (λ outline. (step_on blocks.old (shape context.now kind.now locals.now instr) ≡ Some blocks.new) × (outline ≡ outline_of instr))) }
 {
     let outline = instr.outline();
-    if reads_one(alloc, context, kind, locals, blocks, &instr)? {
+    if goes_on(alloc, context, kind, locals, blocks, &instr)? {
         Ok(Some(outline))
     } else {
         Ok(None)

@@ -21,6 +21,7 @@ use wl_base::OutOfMemory;
 ///
 /// # Errors
 /// Want of memory.
+#[inline(never)]
 pub fn reads_one(
     alloc: Global,
     context: &Context,

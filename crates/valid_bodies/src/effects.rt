@@ -64,6 +64,7 @@ pub fn with_effect(alloc: Global, effect: Effect) -> Result<Shape, OutOfMemory>
 }
 
 /// An instruction of this effect on the operands of the innermost block: whether it found what it takes.
+#[inline(always)]
 pub fn applies(
     operands: &mut Operands,
     unreachable: bool,

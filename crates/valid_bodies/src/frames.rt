@@ -66,7 +66,7 @@ pub fn uses_slot(
 
 /// `drop`.
 #[tactic(auto, using(crate::proofs::Stepping::none_open, crate::proofs::Stepping::by_drop, crate::proofs::Stepping::drops_none, crate::proofs::Keeping::still))]
-fn drops(blocks: &mut Blocks) -> bool
+pub fn drops(blocks: &mut Blocks) -> bool
     ensures { Went (step_on blocks.old Drops) result blocks.new }
 {
     let Some(block) = blocks.inner else {
@@ -80,7 +80,7 @@ fn drops(blocks: &mut Blocks) -> bool
 
 /// `select` without types.
 #[tactic(auto, using(crate::proofs::Stepping::none_open, crate::proofs::Stepping::by_choice, crate::proofs::Keeping::still))]
-fn selects(blocks: &mut Blocks) -> Result<bool, OutOfMemory>
+pub fn selects(blocks: &mut Blocks) -> Result<bool, OutOfMemory>
     ensures { IfOk result (λ went. Went (step_on blocks.old Selects) went blocks.new) }
 {
     let Some(block) = blocks.inner else {
@@ -120,7 +120,7 @@ pub fn cuts(blocks: &mut Blocks, takes: &[ValType]) -> bool
 
 /// `br`.
 #[tactic(auto, using(crate::proofs::Stepping::none_open, crate::proofs::Stepping::branches_nowhere, crate::proofs::Stepping::branches_not, crate::proofs::Stepping::by_branch, crate::proofs::Keeping::still, crate::proofs::Keeping::target_stands))]
-fn branches(blocks: &mut Blocks, label: u32) -> bool
+pub fn branches(blocks: &mut Blocks, label: u32) -> bool
     ensures { Went (step_on blocks.old (Branches label)) result blocks.new }
 {
     let Some(block) = blocks.inner else {
@@ -140,7 +140,7 @@ fn branches(blocks: &mut Blocks, label: u32) -> bool
 
 /// `br_if`.
 #[tactic(auto, using(crate::proofs::Stepping::none_open, crate::proofs::Stepping::branches_if_nowhere, crate::proofs::Stepping::by_branch_if, crate::proofs::Keeping::still, crate::proofs::Keeping::target_stands))]
-fn branches_if(blocks: &mut Blocks, label: u32) -> Result<bool, OutOfMemory>
+pub fn branches_if(blocks: &mut Blocks, label: u32) -> Result<bool, OutOfMemory>
     ensures { IfOk result (λ went. Went (step_on blocks.old (BranchesIf label)) went blocks.new) }
 {
     let Some(block) = blocks.inner else {
@@ -302,7 +302,7 @@ pub fn opens(
 
 /// `else`.
 #[tactic(auto, using(crate::proofs::Stepping::none_open, crate::proofs::Opening::parts_not, crate::proofs::Opening::parts_other, crate::proofs::Opening::by_else, crate::proofs::Keeping::still))]
-fn parts(blocks: &mut Blocks) -> Result<bool, OutOfMemory>
+pub fn parts(blocks: &mut Blocks) -> Result<bool, OutOfMemory>
     ensures { IfOk result (λ went. Went (step_on blocks.old Else) went blocks.new) }
 {
     let Some(block) = blocks.inner else {
@@ -363,7 +363,7 @@ fn leave(
 
 /// `end`.
 #[tactic(auto, using(crate::proofs::Stepping::none_open, crate::proofs::Opening::ends_not, crate::proofs::Opening::ends_short, crate::proofs::Opening::by_end, crate::proofs::Opening::end_stands, crate::proofs::Keeping::still))]
-fn closes(blocks: &mut Blocks) -> Result<bool, OutOfMemory>
+pub fn closes(blocks: &mut Blocks) -> Result<bool, OutOfMemory>
     ensures { IfOk result (λ went. Went (step_on blocks.old End) went blocks.new) }
 {
     let Some(block) = blocks.inner else {

@@ -1,16 +1,21 @@
 //! An instruction of a module, read in its context. What it takes and gives is looked at where it lies: in the
 //! instruction itself (`effects`) or in the context's types. So none of it is copied.
 
-ghost use Rattle.std.specs.Prelude.{◌≡◌, slice_get, IfOk};
-ghost use Rattle.valid_rules.specs.declared.types.Shape.TheVariants.{Typed, Opens};
+ghost use Rattle.std.specs.Prelude.{◌≡◌, slice_get, IfOk, nat_eq, if◌then◌else◌};
+ghost use Rattle.valid_rules.specs.declared.types.Shape.TheVariants.{Typed, Opens, Branches, BranchesIf};
 ghost use Rattle.valid_bodies.specs.Meanings.{block_type, in_table, type_at, typed_as};
 ghost use Rattle.valid_bodies.specs.Shapes.{as_type, called_through, opener, plain, shape};
 ghost use Rattle.valid_bodies.specs.Steps.{step_on};
 ghost use Rattle.valid_bodies.specs.Went.{Went};
 
 use crate::blocks::Blocks;
-use crate::frames::{branches_by, cuts, opens, reads, uses, uses_slot};
+use crate::effects::Effect;
+use crate::frames::{
+    branches, branches_by, branches_if, closes, cuts, drops, opens, parts, reads, reads_effect,
+    selects, uses, uses_slot,
+};
 use crate::meanings::{type_at, type_through};
+use crate::numeric::numeric_effect;
 use crate::opcodes;
 use crate::shapes::{opener_of, shape_at};
 use crate::types::Context;
@@ -72,12 +77,31 @@ fn opens_block(
     }
 }
 
-/// `return`, in a function with these results.
+/// An instruction without immediates, in a function with these results.
 #[tactic(auto, unfolding(crate::specs::Shapes::plain))]
-fn returns(blocks: &mut Blocks, results: &[ValType]) -> bool
-    ensures { Went (step_on blocks.old (plain results.now 0x0f)) result blocks.new }
+fn reads_plain(blocks: &mut Blocks, results: &[ValType], op: u8) -> Result<bool, OutOfMemory>
+    ensures { IfOk result (λ went. Went (step_on blocks.old (plain results.now op)) went blocks.new) }
 {
-    cuts(blocks, results)
+    match op {
+        opcodes::UNREACHABLE => Ok(cuts(blocks, &[])),
+        opcodes::NOP => reads_effect(blocks, Effect::Nothing),
+        opcodes::ELSE => parts(blocks),
+        opcodes::END => closes(blocks),
+        opcodes::RETURN => Ok(cuts(blocks, results)),
+        opcodes::DROP => Ok(drops(blocks)),
+        opcodes::SELECT => selects(blocks),
+        _ => reads_effect(blocks, numeric_effect(op)),
+    }
+}
+
+/// `br` or `br_if`.
+fn reads_branch(blocks: &mut Blocks, op: u8, label: u32) -> Result<bool, OutOfMemory>
+    ensures { IfOk result (λ went. Went (step_on blocks.old (if nat_eq op 0x0c then Branches label else BranchesIf label)) went blocks.new) }
+{
+    match op {
+        opcodes::BR => Ok(branches(blocks, label)),
+        _ => branches_if(blocks, label),
+    }
 }
 
 /// One instruction of a function of this type with these locals, in its context: whether it has a typing in the
@@ -97,8 +121,9 @@ pub fn reads_at(
     ensures { IfOk result (λ went. Went (step_on blocks.old (shape context.now kind.now locals.now instr.now)) went blocks.new) }
 {
     match instr {
-        Instr::Plain(opcodes::RETURN) => Ok(returns(blocks, kind.results.as_slice())),
+        Instr::Plain(op) => reads_plain(blocks, kind.results.as_slice(), *op),
         Instr::Block { opcode, kind } => opens_block(context, blocks, *opcode, kind),
+        Instr::Branch { opcode, label } => reads_branch(blocks, *opcode, *label),
         Instr::BranchTable { labels, last } => Ok(branches_by(blocks, labels.as_slice(), *last)),
         Instr::Call(function) => calls(context, blocks, *function),
         Instr::CallIndirect { kind, table } => calls_through(context, blocks, *kind, *table),
