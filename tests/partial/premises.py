@@ -2,6 +2,7 @@
 
 from chunks import chunk_of, member_chunk
 from inputs import is_local_definition, is_undefined
+from made_symbols import PLAIN_SYMBOLS
 from names import Names
 from objects import *
 
@@ -59,6 +60,6 @@ def inits_stand(run):
 
 def hold(objects, begin, end):
     """Whether all of them hold of the objects, by their inputs, and of the run from the one input to before the other."""
-    whole = Names(objects)
-    run = Names({input: one for input, one in objects.items() if begin <= input < end})
+    whole = Names(objects, PLAIN_SYMBOLS)
+    run = Names({input: one for input, one in objects.items() if begin <= input < end}, PLAIN_SYMBOLS)
     return are_uniform(run) and imports_agree(whole) and groups_agree(whole) and inits_stand(run)

@@ -18,9 +18,9 @@ class Export:
         return Definition(*self.winner.at)
 
 
-def exports_of(names, options):
+def exports_of(names, options, more=()):
     """The exports by their winners' inputs and places. An asked name without a winner is left to the unresolved ones."""
-    winners = [names.winners[one] for one in exported_names(names, options) if one in names.winners]
+    winners = [names.winners[one] for one in exported_names(names, options) | set(more) if one in names.winners]
     return [Export(export_title(names.objects, one), one) for one in sorted(winners, key=lambda one: one.at)]
 
 
@@ -46,7 +46,7 @@ def export_title(objects, winner):
 
 def refuse_repeated_exports(exports, options):
     """The first export whose name an earlier one has is told; an own memory is exported first, as of input 0."""
-    inputs = {} if options.import_memory else {"memory": 0}
+    inputs = {"memory": 0} if options.own_memory else {}
     for export in exports:
         if export.title in inputs:
             raise Fault("duplicate %s: input %d and input %d" % (export.title, inputs[export.title], export.winner.input))

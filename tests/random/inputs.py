@@ -23,6 +23,7 @@ class Candidate:
 
 @dataclass
 class Options:
+    shared: bool = False
     entry: str | None = None
     exports: list = field(default_factory=list)
     exports_if_defined: list = field(default_factory=list)
@@ -36,6 +37,11 @@ class Options:
     stack_size: int = 65536
     initial_memory: int = 0
     max_memory: int | None = None
+
+    @property
+    def own_memory(self):
+        """A shared output has the memory of its loader."""
+        return not (self.shared or self.import_memory)
 
 
 def is_undefined(symbol):

@@ -2,7 +2,7 @@
 
 from chunks import chunk_of
 from inputs import ADDRESSES, PAGE, Fault
-from made_symbols import MADE_NAMES
+from made_symbols import PLAIN_SYMBOLS
 from objects import *
 
 
@@ -15,6 +15,10 @@ class Layout:
 
     def __init__(self, objects, segments, options):
         self.objects, self.options = objects, options
+        self.place_all(segments)
+        self.place_stack_and_heap()
+
+    def place_all(self, segments):
         zero = [one for one in segments if self.is_zero(one)]
         self.written = [one for one in segments if one not in zero]
         self.begin = self.data_begin()
@@ -23,10 +27,12 @@ class Layout:
         # Segments without content stand behind all others.
         for chunk in self.written + zero:
             self.place(chunk)
+
+    def place_stack_and_heap(self):
         self.stack_low, self.stack_high, self.heap_base = self.stack_and_heap()
         self.refuse_beyond("HeapBase", self.heap_base)
-        self.pages = rounded_up(max(self.heap_base, options.initial_memory), PAGE) // PAGE
-        if options.max_memory is not None and self.pages * PAGE > options.max_memory:
+        self.pages = rounded_up(max(self.heap_base, self.options.initial_memory), PAGE) // PAGE
+        if self.options.max_memory is not None and self.pages * PAGE > self.options.max_memory:
             raise Fault("overflow: MaxMemory needs %d" % (self.pages * PAGE))
 
     def content(self, chunk):
@@ -71,7 +77,7 @@ class Layout:
             "__stack_low": self.stack_low,
             "__stack_high": self.stack_high,
             "__heap_end": min(self.pages * PAGE, ADDRESSES - 1),
-        }[MADE_NAMES[place]]
+        }[PLAIN_SYMBOLS[place].name]
 
     def address(self, definition):
         """The address of a datum: that of its segment, and its offset there."""

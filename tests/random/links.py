@@ -3,18 +3,21 @@
 import random
 
 from inputs import Candidate, Options, defined_names
-from made_symbols import MADE_NAMES
+from made_symbols import made_symbols
 from objects import *
 from random_objects import ObjectMaker, rarely
+from shared_objects import SharedObjectMaker
 
 WORKERS = (1, 2, 4, 64)
 
 
 class RandomLink:
+    maker, shared = ObjectMaker, False
+
     def __init__(self, seed):
         self.choose = random.Random(seed)
         self.files, self.words, self.candidates = {}, [], []
-        self.options = Options()
+        self.options = Options(shared=self.shared)
         self.lazy = self.whole = False
         self.add_inputs()
         self.names = sorted(set().union(*(defined_names(one.object) for one in self.candidates)))
@@ -44,7 +47,7 @@ class RandomLink:
         if lazy != self.lazy:
             self.words.append("--start-lib" if lazy else "--end-lib")
             self.lazy = lazy
-        object = ObjectMaker(self.choose).make()
+        object = self.maker(self.choose).make()
         self.add_file(".o", object.bytes())
         self.candidates.append(Candidate(object, not lazy, defined_names(object) if lazy else set()))
 
@@ -54,7 +57,7 @@ class RandomLink:
         if whole != self.whole:
             self.words.append("--whole-archive" if whole else "--no-whole-archive")
             self.whole = whole
-        members = [ObjectMaker(self.choose).make() for _ in range(count)]
+        members = [self.maker(self.choose).make() for _ in range(count)]
         offers = [(title, place) for place, one in enumerate(members) for title in sorted(defined_names(one))]
         if rarely(self.choose, 0.15):
             offers.append((self.choose.choice(["f0", "f1", "d1"]), self.choose.randrange(count)))
@@ -67,7 +70,7 @@ class RandomLink:
     def some_name(self):
         """Mostly a name that some input defines, now and then a linker-made one, rarely one that may be undefined."""
         if rarely(self.choose, 0.12):
-            return self.choose.choice(MADE_NAMES)
+            return self.choose.choice(made_symbols(self.options)).name
         if self.names and not rarely(self.choose, 0.02):
             return self.choose.choice(self.names)
         return self.choose.choice(["f0", "f1", "d0", "absent"])
@@ -77,7 +80,7 @@ class RandomLink:
             self.options.entry = self.some_name()
             self.words.append("--entry=" + self.options.entry)
         else:
-            self.words.append("--no-entry")
+            self.add_no_entry()
         self.options.exports += [self.some_name() for _ in range(self.choose.choice([0, 1, 2, 3, 5]))]
         if rarely(self.choose, 0.25):
             self.options.exports.append("__wasm_call_ctors")
@@ -86,6 +89,9 @@ class RandomLink:
         self.words += ["--export=" + one for one in self.options.exports]
         self.words += ["--export-if-defined=" + one for one in self.options.exports_if_defined]
         self.words += [word for one in self.options.needed for word in ("-u", one)]
+
+    def add_no_entry(self):
+        self.words.append("--no-entry")
 
     def add_choices(self):
         self.options.export_dynamic = self.chosen(0.15, "--export-dynamic")
@@ -113,3 +119,19 @@ class RandomLink:
         size = self.choose.choice(sizes)
         self.words += words[:-1] + [words[-1] % size]
         return size
+
+
+class SharedLink(RandomLink):
+    """Sizes and the choices on memory and undefined names have no effect here. Outputs are valid, so that the check of them has none either."""
+
+    maker, shared = SharedObjectMaker, True
+
+    def __init__(self, seed):
+        super().__init__(seed)
+        self.words.insert(self.choose.choice([0, len(self.words)]), "-shared")
+        self.chosen(0.2, "--validate")
+
+    def add_no_entry(self):
+        """No entry is usual; the words may say so."""
+        if rarely(self.choose, 0.3):
+            super().add_no_entry()

@@ -24,24 +24,14 @@ class Liveness:
     def references(self, chunk):
         """Those of windows on symbols. The function of constructors calls the init functions."""
         if chunk == CONSTRUCTORS:
-            return [Reference(FUNCTION_INDEX_LEB, input, place) for input, place in self.init_functions()]
+            return [Reference(FUNCTION_INDEX_LEB, input, place) for input, place in self.names.init_functions()]
         if chunk.input == 0:
             return []
         windows = [window for _, window in windows_of(self.names.objects, chunk)]
         return [Reference(one.kind, chunk.input, one.target) for one in windows if one.kind != TYPE_INDEX_LEB]
 
     def meaning(self, reference):
-        return self.meanings.of(reference.input, reference.place)
-
-    def init_functions(self):
-        """By rising priority, then by input and by place in its list. Entries of functions in groups that aren't kept are skipped."""
-        entries = []
-        for input, object in self.names.objects.items():
-            for at, (priority, place) in enumerate(object.inits):
-                symbol = object.symbols[place]
-                if symbol.flags & UNDEFINED or self.names.is_kept_definition(input, symbol):
-                    entries.append((priority, input, at, place))
-        return [(input, place) for _, input, _, place in sorted(entries)]
+        return self.meanings.of_reference(reference)
 
     def roots(self):
         """The exports, winners with NO_STRIP and segments with RETAIN. Where the dead aren't dropped, all chunks of objects are roots."""

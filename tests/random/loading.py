@@ -1,7 +1,7 @@
 """Which inputs are loaded: some at once, others in rounds, by the names that are needed."""
 
 from inputs import Fault, defined_names, is_undefined
-from made_symbols import MADE_NAMES
+from made_symbols import made_symbols
 from objects import *
 
 
@@ -19,7 +19,7 @@ def loaded_objects(candidates, options):
 
 def next_round(numbered, loaded, options):
     """The candidates that a round adds, each with the names for which it is added."""
-    needed, defined = asked_names(options), set(MADE_NAMES)
+    needed, defined = asked_names(options), {one.name for one in made_symbols(options)}
     for number in loaded:
         needed |= strongly_referenced(numbered[number].object)
         defined |= defined_names(numbered[number].object)

@@ -11,7 +11,7 @@ class MadeSymbol(NamedTuple):
     type: object = None
 
 
-MADE_SYMBOLS = (
+PLAIN_SYMBOLS = (
     MadeSymbol("__wasm_call_ctors", FUNCTION, NOTHING),
     MadeSymbol("__stack_pointer", GLOBAL, (I32, True)),
     MadeSymbol("__memory_base", GLOBAL, (I32, False)),
@@ -25,4 +25,16 @@ MADE_SYMBOLS = (
     MadeSymbol("__stack_high", DATUM),
     MadeSymbol("__heap_end", DATUM),
 )
-MADE_NAMES = [one.name for one in MADE_SYMBOLS]
+SHARED_SYMBOLS = (
+    MadeSymbol("__wasm_call_ctors", FUNCTION, NOTHING),
+    MadeSymbol("__wasm_apply_data_relocs", FUNCTION, NOTHING),
+    MadeSymbol("__stack_pointer", GLOBAL, (I32, True)),
+    MadeSymbol("__memory_base", GLOBAL, (I32, False)),
+    MadeSymbol("__table_base", GLOBAL, (I32, False)),
+    MadeSymbol("__indirect_function_table", TABLE),
+    MadeSymbol("__dso_handle", DATUM),
+)
+
+
+def made_symbols(options):
+    return SHARED_SYMBOLS if options.shared else PLAIN_SYMBOLS

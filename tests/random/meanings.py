@@ -4,7 +4,6 @@ from dataclasses import dataclass
 
 from chunks import Chunk, chunk_of
 from inputs import is_local_definition
-from made_symbols import MADE_SYMBOLS
 from objects import *
 
 
@@ -34,6 +33,11 @@ class Null:
 UNRESOLVED = None
 
 
+def import_by(entry):
+    """The import that a reference names."""
+    return Imported(entry.imported.module, entry.imported.field, entry.kind, entry.type)
+
+
 class Meanings:
     def __init__(self, names, allow_undefined):
         self.names = names
@@ -48,6 +52,12 @@ class Meanings:
             return Definition(input, place) if self.names.is_kept_definition(input, symbol) else UNRESOLVED
         if symbol.title in self.names.winners:
             return Definition(*self.names.winners[symbol.title].at)
+        return self.without_winner(symbol)
+
+    def of_reference(self, reference):
+        return self.of(reference.input, reference.place)
+
+    def without_winner(self, symbol):
         return self.imported(symbol) or self.null(symbol)
 
     def imported(self, symbol):
@@ -56,8 +66,7 @@ class Meanings:
         explicit = [one for one in standing if one.explicit_place]
         if not explicit and not (standing and self.may_be_imported(symbol)):
             return None
-        least = (explicit or standing)[0]
-        return Imported(least.imported.module, least.imported.field, symbol.kind, least.type)
+        return import_by((explicit or standing)[0])
 
     def may_be_imported(self, symbol):
         """Undefined functions and globals may be, but not for weak references alone."""
@@ -73,7 +82,7 @@ class Meanings:
         if isinstance(meaning, Imported):
             return meaning.kind
         if meaning.input == 0:
-            return MADE_SYMBOLS[meaning.place].kind
+            return self.names.made[meaning.place].kind
         return self.symbol(meaning.input, meaning.place).kind
 
     def chunk(self, meaning):

@@ -4,7 +4,6 @@ from dataclasses import dataclass
 
 from chunks import chunk_of, dropped_members
 from inputs import Fault, import_of, is_local_definition, is_undefined
-from made_symbols import MADE_SYMBOLS
 from objects import *
 
 STRONG_CLASS, WEAK_CLASS, MADE_DATUM_CLASS = 0, 1, 2
@@ -48,17 +47,20 @@ class Entry:
 class Names:
     """The objects that are loaded, and their names. Entries of a name are in order of input and place, the linker-made one first."""
 
-    def __init__(self, objects):
-        self.objects = objects
+    def __init__(self, objects, made):
+        self.objects, self.made = objects, made
         self.dropped = dropped_members(objects)
         self.entries = {}
-        for entry in [*made_entries(), *self.object_entries()]:
+        for entry in [*self.made_entries(), *self.object_entries()]:
             self.entries.setdefault(entry.name, []).append(entry)
         self.winners = {}
         for name, entries in self.entries.items():
             definitions = [one for one in entries if one.is_definition]
             if definitions:
                 self.winners[name] = min(definitions, key=lambda one: (one.strength, one.at))
+
+    def made_entries(self):
+        return [Entry(0, place, one.name, one.kind, one.type, HIDDEN, True) for place, one in enumerate(self.made)]
 
     def object_entries(self):
         for number, object in self.objects.items():
@@ -70,6 +72,16 @@ class Names:
 
     def is_kept_definition(self, input, symbol):
         return not is_undefined(symbol) and chunk_of(input, symbol) not in self.dropped
+
+    def init_functions(self):
+        """By rising priority, then by input and by place in its list. Entries of functions in groups that aren't kept are skipped."""
+        entries = []
+        for input, object in self.objects.items():
+            for at, (priority, place) in enumerate(object.inits):
+                symbol = object.symbols[place]
+                if is_undefined(symbol) or self.is_kept_definition(input, symbol):
+                    entries.append((priority, input, at, place))
+        return [(input, place) for _, input, _, place in sorted(entries)]
 
     def refuse_clashes(self):
         """An entry clashes that differs from the least one of its name. The least clashing entry is told."""
@@ -87,10 +99,6 @@ class Names:
         if repeated:
             (input, _), first = min(repeated, key=lambda one: one[0])
             raise Fault("duplicate %s: input %d and input %d" % (first.name, first.input, input))
-
-
-def made_entries():
-    return [Entry(0, place, one.name, one.kind, one.type, HIDDEN, True) for place, one in enumerate(MADE_SYMBOLS)]
 
 
 def type_of(object, symbol):

@@ -38,6 +38,8 @@ def numbered(items):
 class Numbering:
     """Functions are chunks, stubs and imports; globals are chunks, constants, exported data and imports. Imports have the first numbers."""
 
+    FIRST_SLOT = 1
+
     def __init__(self, liveness):
         self.liveness, self.meanings = liveness, liveness.meanings
         self.names = liveness.names
@@ -55,8 +57,11 @@ class Numbering:
         return self.meanings.symbol(reference.input, reference.place)
 
     def imports(self, kind):
-        """The imports that live chunks name, by the least entry among their names."""
-        named = {self.liveness.meaning(one) for one in self.references}
+        return self.imports_of(self.references, kind)
+
+    def imports_of(self, references, kind):
+        """The imports that references name, by the least entry among their names."""
+        named = {self.liveness.meaning(one) for one in references}
         least = self.meanings.least_entries()
         return sorted((one for one in named if isinstance(one, Imported) and one.kind == kind), key=lambda one: least[one])
 
@@ -81,11 +86,14 @@ class Numbering:
         return self.functions[meaning if isinstance(meaning, Imported) else self.meanings.chunk(meaning)]
 
     def slots_in_order(self):
-        """The functions whose addresses live chunks take, by their numbers. The first slot is 1, and null has none."""
+        """The functions whose addresses live chunks take, by their numbers."""
         taking = [one for one in self.references if one.relocation in TAKE_SLOTS and self.symbol(one).kind == FUNCTION]
-        meanings = {self.liveness.meaning(one) for one in taking} - {Null(FUNCTION)}
-        functions = sorted({self.function(one) for one in meanings})
-        return {function: slot for slot, function in enumerate(functions, 1)}
+        meanings = {self.liveness.meaning(one) for one in taking}
+        functions = sorted({self.function(one) for one in meanings if self.has_slot(one)})
+        return {function: slot for slot, function in enumerate(functions, self.FIRST_SLOT)}
+
+    def has_slot(self, meaning):
+        return not isinstance(meaning, Null)
 
     def slot(self, meaning):
         return 0 if isinstance(meaning, Null) else self.slots[self.function(meaning)]
@@ -93,8 +101,10 @@ class Numbering:
     # Globals.
 
     def globals_in_order(self):
-        data = [one for one in self.liveness.exports if one.winner.kind == DATUM]
-        return self.liveness.of_kind(GLOBAL) + self.constants() + [ExportedDatum(one.title, one.definition) for one in data]
+        return self.liveness.of_kind(GLOBAL) + self.constants() + self.exported_data()
+
+    def exported_data(self):
+        return [ExportedDatum(one.title, one.definition) for one in self.liveness.exports if one.winner.kind == DATUM]
 
     def constants(self):
         """One for each meaning of functions and data that live code names as globals, in the order of code."""
@@ -105,6 +115,10 @@ class Numbering:
         meaning = self.liveness.meaning(reference)
         if self.symbol(reference).kind != GLOBAL:
             return self.globals[Constant(meaning)]
+        return self.own_global(meaning)
+
+    def own_global(self, meaning):
+        """The number of what a global's symbol means."""
         return self.globals[meaning if isinstance(meaning, Imported) else self.meanings.chunk(meaning)]
 
     # Types.
@@ -114,14 +128,14 @@ class Numbering:
         types = [one.type for one in self.imported_functions]
         types += [self.type_of(one) for one in self.defined_functions]
         for chunk in self.liveness.of_kind(FUNCTION):
-            windows = [] if chunk == CONSTRUCTORS else windows_of(self.names.objects, chunk)
+            windows = [] if chunk.input == 0 else windows_of(self.names.objects, chunk)
             types += [window.target for _, window in windows if window.kind == TYPE_INDEX_LEB]
         return list(dict.fromkeys(types))
 
     def type_of(self, function):
-        if function == CONSTRUCTORS:
-            return NOTHING
         if isinstance(function, Stub):
             return self.names.entries[function.name][0].type
+        if function.input == 0:
+            return NOTHING
         object = self.names.objects[function.input]
         return object.types[object.functions[function.place].type]

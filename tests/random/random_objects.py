@@ -1,7 +1,7 @@
 """Makes random objects whose names, kinds and types mostly agree with those of others."""
 
 from inputs import is_undefined
-from made_symbols import MADE_SYMBOLS
+from made_symbols import PLAIN_SYMBOLS
 from names import type_of
 from objects import *
 
@@ -24,6 +24,9 @@ def some_flags(choose, shares):
 
 class ObjectMaker:
     """Symbols are made first, then what refers to them. `choose` is a source of random choices."""
+
+    binding_shares = BINDING_SHARES
+    made_symbols = PLAIN_SYMBOLS
 
     def __init__(self, choose):
         self.choose = choose
@@ -78,7 +81,7 @@ class ObjectMaker:
 
     def add_reference(self, title):
         kind = self.kind(title)
-        binding = self.choose.choices([0, WEAK, LOCAL], BINDING_SHARES[kind])[0]
+        binding = self.choose.choices([0, WEAK, LOCAL], self.binding_shares[kind])[0]
         flags = binding | some_flags(self.choose, {HIDDEN: 0.2, EXPORTED: 0.08, NO_STRIP: 0.08})
         if kind == DATUM:
             self.object.needs_datum(title, flags)
@@ -96,7 +99,7 @@ class ObjectMaker:
 
     def add_made_references(self):
         """References to some linker-made symbols, and now and then a definition of such a name."""
-        for made in self.choose.sample(MADE_SYMBOLS, self.choose.choice([0, 0, 1, 2, 3])):
+        for made in self.choose.sample(self.made_symbols, self.choose.choice([0, 0, 1, 2, 3])):
             if made.kind != TABLE and rarely(self.choose, 0.1 if made.kind == DATUM else 0.01):
                 self.define_made(made)
             else:
@@ -216,12 +219,15 @@ class ObjectMaker:
 
     def add_groups(self):
         """Each function and segment is in one group at most."""
-        functions, segments = set(range(len(self.object.functions))), set(range(len(self.object.segments)))
+        functions, segments = set(self.free_functions()), set(range(len(self.object.segments)))
         for title in self.choose.sample(["c0", "c1", "c2"], self.choose.choice([0, 0, 1, 1, 2])):
             members = [[one for one in sorted(rest) if rarely(self.choose, 0.3)] for rest in (functions, segments)]
             functions -= set(members[0])
             segments -= set(members[1])
             self.object.group(title, *members)
+
+    def free_functions(self):
+        return range(len(self.object.functions))
 
     def add_init_functions(self):
         places = [place for place in self.places(FUNCTION) if type_of(self.object, self.object.symbols[place]) == NOTHING]

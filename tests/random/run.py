@@ -1,6 +1,7 @@
 """Makes the links of a range of seeds, and compares the program's answers with those of the reference linker.
 
 The words are the first seed, the seed behind the last one, and a folder that gets the files of each link that differs; all may be left out.
+Seeds from 1000000 on make shared links. A shared output is also given to node, where that is there, which tells whether it is valid.
 The last line is 'N passed, M failed'."""
 
 import os
@@ -8,14 +9,16 @@ import subprocess
 import sys
 from collections import Counter
 from concurrent.futures import ThreadPoolExecutor
+from itertools import chain
 
 import program
 from inputs import Fault
 from linker import link
-from links import RandomLink
+from links import RandomLink, SharedLink
 
-USUAL_SEEDS = (0, 400)
-SUBJECTS = ("clash", "duplicate", "index", "unresolved", "DataEnd", "HeapBase", "MaxMemory", "Reference")
+FIRST_SHARED = 1000000
+USUAL_SEEDS = (range(400), range(FIRST_SHARED, FIRST_SHARED + 300))
+SUBJECTS = ("clash", "duplicate", "index", "position", "unresolved", "DataEnd", "HeapBase", "MaxMemory", "Reference")
 
 
 def expected(made):
@@ -34,12 +37,20 @@ def found(made):
 
 
 def compared(seed):
-    made = RandomLink(seed)
+    made = SharedLink(seed) if seed >= FIRST_SHARED else RandomLink(seed)
     return seed, made, expected(made), found(made)
 
 
-def subject(answer):
-    return "linked" if answer.status == 0 else next(one for one in SUBJECTS if one in answer.printed)
+def is_invalid(made, answer):
+    """Code of plain links need not be valid."""
+    if not made.options.shared or answer.status != 0 or not program.NODE:
+        return False
+    return not program.node({"module": answer.files["out"]})["valid"]
+
+
+def subject(made, answer):
+    said = "linked" if answer.status == 0 else next(one for one in SUBJECTS if one in answer.printed)
+    return ("shared, " if made.options.shared else "") + said
 
 
 def tell(who, answer):
@@ -74,18 +85,24 @@ def save(folder, seed, made):
 
 def main():
     words = sys.argv[1:]
-    begin, end = map(int, words[:2]) if len(words) >= 2 else USUAL_SEEDS
+    seeds = list(range(*map(int, words[:2])) if len(words) >= 2 else chain(*USUAL_SEEDS))
     subjects, failed = Counter(), 0
     with ThreadPoolExecutor(os.cpu_count()) as pool:
-        for seed, made, wanted, answer in pool.map(compared, range(begin, end)):
-            subjects[subject(wanted)] += 1
-            if answer != wanted:
-                failed += 1
+        for seed, made, wanted, answer in pool.map(compared, seeds):
+            subjects[subject(made, wanted)] += 1
+            differs, invalid = answer != wanted, is_invalid(made, answer)
+            failed += differs or invalid
+            if differs:
                 tell_difference(seed, made, wanted, answer)
-                if len(words) >= 3:
-                    save(words[2], seed, made)
+            if invalid:
+                print("FAILED: the module of seed %d isn't valid: %s" % (seed, " ".join(made.words)))
+            if (differs or invalid) and len(words) >= 3:
+                save(words[2], seed, made)
+    program.close_node()
+    if not program.NODE:
+        print("skipped: whether shared outputs are valid (node isn't there)")
     print("the answers: " + ", ".join("%s %d" % one for one in subjects.most_common()))
-    print("%d passed, %d failed" % (end - begin - failed, failed))
+    print("%d passed, %d failed" % (len(seeds) - failed, failed))
     return 1 if failed else 0
 
 

@@ -32,21 +32,21 @@ class Writer:
 
     def module(self):
         """The sections in order, code before data: of several values out of range the first one is told."""
-        own_memory = [] if self.options.import_memory else [self.limits()]
+        return HEADER + b"".join(self.sections())
+
+    def sections(self):
         functions = self.numbering.defined_functions
-        return HEADER + b"".join(
-            (
-                listed(1, [function_type(*one) for one in self.numbering.types]),
-                listed(2, self.imports()),
-                listed(3, [self.type_number(self.numbering.type_of(one)) for one in functions]),
-                listed(4, [self.table()]),
-                listed(5, own_memory),
-                listed(6, [self.own_global(one) for one in self.numbering.defined_globals]),
-                listed(7, self.exports()),
-                self.elements(),
-                listed(10, [leb(len(body)) + body for body in map(self.body, functions)]),
-                self.data(),
-            )
+        return (
+            listed(1, [function_type(*one) for one in self.numbering.types]),
+            listed(2, self.imports()),
+            listed(3, [self.type_number(self.numbering.type_of(one)) for one in functions]),
+            listed(4, self.own_table()),
+            listed(5, self.own_memory()),
+            listed(6, [self.own_global(one) for one in self.numbering.defined_globals]),
+            listed(7, self.exports()),
+            self.elements(),
+            listed(10, [leb(len(body)) + body for body in map(self.body, functions)]),
+            self.data(),
         )
 
     # The values of windows.
@@ -89,13 +89,21 @@ class Writer:
         return leb(self.numbering.types.index(kind))
 
     def imports(self):
-        memory = [name("env") + name("memory") + MEMORY_ITEM + self.limits()] if self.options.import_memory else []
         functions = [place_of(one) + FUNCTION_ITEM + self.type_number(one.type) for one in self.numbering.imported_functions]
-        return memory + functions + [place_of(one) + GLOBAL_ITEM + bytes(one.type) for one in self.numbering.imported_globals]
+        return self.imported_parts() + functions + [place_of(one) + GLOBAL_ITEM + bytes(one.type) for one in self.numbering.imported_globals]
 
-    def table(self):
+    def imported_parts(self):
+        return [] if self.options.own_memory else [self.imported_memory()]
+
+    def imported_memory(self):
+        return name("env") + name("memory") + MEMORY_ITEM + self.limits()
+
+    def own_table(self):
         size = leb(1 + len(self.numbering.slots))
-        return FUNCTION_REFERENCE + b"\x01" + size + size
+        return [FUNCTION_REFERENCE + b"\x01" + size + size]
+
+    def own_memory(self):
+        return [self.limits()] if self.options.own_memory else []
 
     def limits(self):
         most = self.options.max_memory
@@ -122,7 +130,7 @@ class Writer:
     # Exports and elements.
 
     def exports(self):
-        memory = [] if self.options.import_memory else [name("memory") + MEMORY_ITEM + leb(0)]
+        memory = [name("memory") + MEMORY_ITEM + leb(0)] if self.options.own_memory else []
         return memory + [name(one.title) + self.exported(one) for one in self.liveness.exports]
 
     def exported(self, export):
@@ -131,13 +139,17 @@ class Writer:
             return FUNCTION_ITEM + leb(self.numbering.function(export.definition))
         if export.winner.kind == TABLE:
             return TABLE_ITEM + leb(0)
-        datum = ExportedDatum(export.title, export.definition)
-        return GLOBAL_ITEM + leb(self.numbering.globals[datum if export.winner.kind == DATUM else self.meanings.chunk(export.definition)])
+        if export.winner.kind == DATUM:
+            return GLOBAL_ITEM + leb(self.numbering.globals[ExportedDatum(export.title, export.definition)])
+        return GLOBAL_ITEM + leb(self.numbering.own_global(export.definition))
 
     def elements(self):
-        """One segment of all slots, which begins at 1."""
+        """One segment of all slots."""
         functions = list(self.numbering.slots)
-        return listed(9, [b"\x00" + constant(1) + vector(leb(one) for one in functions)] if functions else [])
+        return listed(9, [b"\x00" + self.slots_begin() + vector(leb(one) for one in functions)] if functions else [])
+
+    def slots_begin(self):
+        return constant(self.numbering.FIRST_SLOT)
 
     # Code and data.
 
@@ -160,7 +172,10 @@ class Writer:
         for chunk in self.layout.written:
             image += bytes(self.layout.addresses[chunk] - begin - len(image))
             image += self.filled(chunk.input, self.objects[chunk.input].segments[chunk.place])
-        return section(11, leb(1) + b"\x00" + constant(begin) + leb(len(image)) + bytes(image))
+        return section(11, leb(1) + b"\x00" + self.data_begin(begin) + leb(len(image)) + bytes(image))
+
+    def data_begin(self, address):
+        return constant(address)
 
 
 def spelled(window, value):
