@@ -1,0 +1,10 @@
+pub mod Fault
+pub mod Payload
+pub mod Reading
+pub mod PayloadLaws
+pub mod Section
+pub mod Fits
+pub mod Union
+pub mod Conflict
+pub mod Ascii
+pub mod Rows
