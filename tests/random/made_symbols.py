@@ -11,29 +11,17 @@ class MadeSymbol(NamedTuple):
     type: object = None
 
 
-PLAIN_SYMBOLS = (
-    MadeSymbol("__wasm_call_ctors", FUNCTION, NOTHING),
+CONSTRUCTORS = MadeSymbol("__wasm_call_ctors", FUNCTION, NOTHING)
+STORES = MadeSymbol("__wasm_apply_data_relocs", FUNCTION, NOTHING)
+BASES = (
     MadeSymbol("__stack_pointer", GLOBAL, (I32, True)),
     MadeSymbol("__memory_base", GLOBAL, (I32, False)),
     MadeSymbol("__table_base", GLOBAL, (I32, False)),
     MadeSymbol("__indirect_function_table", TABLE),
-    MadeSymbol("__heap_base", DATUM),
-    MadeSymbol("__data_end", DATUM),
-    MadeSymbol("__global_base", DATUM),
-    MadeSymbol("__dso_handle", DATUM),
-    MadeSymbol("__stack_low", DATUM),
-    MadeSymbol("__stack_high", DATUM),
-    MadeSymbol("__heap_end", DATUM),
 )
-SHARED_SYMBOLS = (
-    MadeSymbol("__wasm_call_ctors", FUNCTION, NOTHING),
-    MadeSymbol("__wasm_apply_data_relocs", FUNCTION, NOTHING),
-    MadeSymbol("__stack_pointer", GLOBAL, (I32, True)),
-    MadeSymbol("__memory_base", GLOBAL, (I32, False)),
-    MadeSymbol("__table_base", GLOBAL, (I32, False)),
-    MadeSymbol("__indirect_function_table", TABLE),
-    MadeSymbol("__dso_handle", DATUM),
-)
+PLAIN_DATA = ("__heap_base", "__data_end", "__global_base", "__dso_handle", "__stack_low", "__stack_high", "__heap_end")
+PLAIN_SYMBOLS = (CONSTRUCTORS, *BASES, *(MadeSymbol(name, DATUM) for name in PLAIN_DATA))
+SHARED_SYMBOLS = (CONSTRUCTORS, STORES, *BASES, MadeSymbol("__dso_handle", DATUM))
 
 
 def made_symbols(options):
