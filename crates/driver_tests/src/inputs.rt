@@ -104,6 +104,8 @@ fn plan_of(alloc: Global, inputs: Seq<InputWord>, case: Option<u32>, threads: u3
         keep_debug: false,
         like_lld: false,
         loose_calls: false,
+        names: false,
+        features: None,
     }
 }
 

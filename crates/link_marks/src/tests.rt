@@ -64,6 +64,8 @@ fn no_words(alloc: Global) -> Plan {
         keep_debug: false,
         like_lld: false,
         loose_calls: false,
+        names: false,
+        features: None,
     }
 }
 

@@ -3,4 +3,4 @@
 
 mod plan;
 
-pub use plan::{InputWord, Plan};
+pub use plan::{FeatureWords, InputWord, Plan};

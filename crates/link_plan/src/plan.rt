@@ -13,6 +13,19 @@ pub struct InputWord {
     pub whole: bool,
 }
 
+/// What drivers say of the features that objects use (Linking.md, "Target Features Section").
+#[derive(Debug, Drop)]
+pub struct FeatureWords {
+    /// `--features`: those that the module may use; none where they are those that objects use.
+    pub allowed: Option<Seq<Name>>,
+    /// `--extra-features`: those that the module says beside these.
+    pub extra: Seq<Name>,
+    /// `--check-features`: objects that don't agree are refused.
+    pub checked: bool,
+    /// A section `target_features` stands behind the module.
+    pub kept: bool,
+}
+
 /// What the words ask for, with one field for each option.
 #[derive(Debug, Drop)]
 pub struct Plan {
@@ -50,9 +63,9 @@ pub struct Plan {
     pub threads: u32,
     /// `--make-case`: how many objects are generated in place of inputs.
     pub make_case: Option<u32>,
-    /// A position-independent output, which a loader places at run time. No word sets it yet.
+    /// `-shared`: a position-independent output, which a loader places at run time.
     pub shared: bool,
-    /// A partial link: the output is one relocatable object. No word sets it yet.
+    /// `-r`: a partial link, whose output is one relocatable object.
     pub partial: bool,
     /// `--validate`: the output is checked by the standard's rules of validation.
     pub validate: bool,
@@ -62,4 +75,8 @@ pub struct Plan {
     pub like_lld: bool,
     /// A function may be called by another type than its definition has, as with wasm-ld: such a call traps. No word sets it.
     pub loose_calls: bool,
+    /// A section `name` with the functions' names stands behind the module (Core, appendix 7.4). No word sets it.
+    pub names: bool,
+    /// What is done with the features that objects use; none where nobody asks. No word sets it.
+    pub features: Option<FeatureWords>,
 }

@@ -71,6 +71,8 @@ plan_of inputs = record {
   keep_debug = false;
   like_lld = false;
   loose_calls = false;
+  names = false;
+  features = None;
 }
 
 -- the same with `--export` of each of these names

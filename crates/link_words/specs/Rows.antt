@@ -136,11 +136,13 @@ partial : plan_of (codes "-r" ∷ codes "a.o" ∷ codes "b.o" ∷ codes "--valid
       keep_debug = true;
       like_lld = false;
       loose_calls = false;
+      names = false;
+      features = None;
     })
 unfolding plan_of plan_from first_fault
 partial = refl
 
--- a plan of a shared output: it has no entry but a given one, and no debug sections
+-- a plan of a shared output: it has no entry but a given one, and debug sections as any other
 shared : plan_of (codes "a.o" ∷ codes "-o" ∷ codes "out" ∷ codes "-shared" ∷ codes "--export=d" ∷ codes "--keep-debug" ∷ [])
     ≡ Ok (record {
       inputs = record { place = 0; lazy = false; whole = false } ∷ [];
@@ -163,9 +165,11 @@ shared : plan_of (codes "a.o" ∷ codes "-o" ∷ codes "out" ∷ codes "-shared"
       shared = true;
       partial = false;
       validate = false;
-      keep_debug = false;
+      keep_debug = true;
       like_lld = false;
       loose_calls = false;
+      names = false;
+      features = None;
     })
 unfolding plan_of plan_from first_fault
 shared = refl
@@ -196,6 +200,8 @@ case : plan_of (codes "--export=g" ∷ codes "-z" ∷ codes "stack-size=0x20" �
       keep_debug = false;
       like_lld = false;
       loose_calls = false;
+      names = false;
+      features = None;
     })
 unfolding plan_of plan_from first_fault
 case = refl
@@ -229,6 +235,8 @@ link : plan_of (codes "a.o" ∷ codes "--start-lib" ∷ codes "b.o" ∷ codes "-
       keep_debug = true;
       like_lld = false;
       loose_calls = false;
+      names = false;
+      features = None;
     })
 unfolding plan_of plan_from first_fault
 link = refl

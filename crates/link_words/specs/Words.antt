@@ -1,15 +1,15 @@
 -- The plan of the words, or why they have none.
-use Rattle.std.specs.Prelude.{◌≡◌, ℕ, true, false, unwrap_or, slice_index_or, List, [], Result, Ok, Err}
+use Rattle.std.specs.Prelude.{◌≡◌, ℕ, true, false, unwrap_or, slice_index_or, List, [], Option, None, Result, Ok, Err}
 use Rattle.wl_base.specs.Choice.{unless}
 use Rattle.wl_base.specs.declared.usage.Usage.{Usage}
 use Rattle.link_plan.specs.declared.plan.Plan.{Plan}
 use Rattle.link_words.specs.declared.error.WordError.{WordError}
 use Rattle.link_words.specs.declared.error.WordError.TheVariants as errors
-use Rattle.link_words.specs.declared.kind.Kind.TheVariants.{Output, ExportIfDefined, ExportDynamic, AllowUndefined, Wanted, GlobalBase, StackFirst, StackSize, InitialMemory, MaxMemory, ImportMemory, GcSections, NoGcSections, Threads, Validate, Partial, Shared}
+use Rattle.link_words.specs.declared.kind.Kind.TheVariants.{Output, ExportIfDefined, ExportDynamic, AllowUndefined, Wanted, GlobalBase, StackFirst, StackSize, InitialMemory, MaxMemory, ImportMemory, GcSections, NoGcSections, Threads, Validate, KeepDebug, Partial, Shared}
 use Rattle.link_words.specs.declared.range.Range.TheVariants.{Address, Stack, Memory, Workers}
 use Rattle.link_words.specs.Items.{Said}
 use Rattle.link_words.specs.Cut.{cut_of}
-use Rattle.link_words.specs.Fields.{inputs, text, entry, usual_entry, all_exports, keeps_debug, texts, has, latest, switch, numeral, case}
+use Rattle.link_words.specs.Fields.{inputs, text, entry, usual_entry, all_exports, texts, has, latest, switch, numeral, case}
 use Rattle.link_words.specs.Faults.{first_fault}
 
 -- what the items say together
@@ -35,9 +35,11 @@ plan_from items = record {
   shared = has Shared items;
   partial = has Partial items;
   validate = has Validate items;
-  keep_debug = keeps_debug items;
+  keep_debug = has KeepDebug items;
   like_lld = false;
   loose_calls = false;
+  names = false;
+  features = None;
 }
 
 -- the plan of the words, or the first fault

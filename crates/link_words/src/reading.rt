@@ -9,8 +9,8 @@ use crate::WordError;
 use crate::cut::cut_words;
 use crate::faults::first_fault;
 use crate::fields::{
-    add_exports, case, entry, has, initial_memory, inputs, is_on, keeps_debug, names, numeral,
-    small_numeral, stack_size, text, threads,
+    add_exports, case, entry, has, initial_memory, inputs, is_on, names, numeral, small_numeral,
+    stack_size, text, threads,
 };
 use crate::item::Item;
 use crate::kind::Kind;
@@ -74,9 +74,11 @@ fn plan(alloc: Global, items: &[Item<'_>]) -> Result<Plan, OutOfMemory>
         shared: has(items, Kind::Shared),
         partial: has(items, Kind::Partial),
         validate: has(items, Kind::Validate),
-        keep_debug: keeps_debug(items),
+        keep_debug: has(items, Kind::KeepDebug),
         like_lld: false,
         loose_calls: false,
+        names: false,
+        features: None,
     })
 }
 

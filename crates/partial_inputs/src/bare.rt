@@ -55,5 +55,7 @@ pub fn bare_plan(alloc: Global, plan: &Plan) -> Result<Plan, OutOfMemory>
         keep_debug: false,
         like_lld: false,
         loose_calls: false,
+        names: false,
+        features: None,
     })
 }

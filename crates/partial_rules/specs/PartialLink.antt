@@ -40,6 +40,8 @@ bare plan = record {
   keep_debug = false;
   like_lld = false;
   loose_calls = false;
+  names = false;
+  features = None;
 }
 
 -- The first input from a place on that is a library or stands between `--start-lib` and `--end-lib`.

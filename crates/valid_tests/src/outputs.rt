@@ -36,6 +36,8 @@ fn plan(alloc: Global, validate: bool) -> Plan {
         keep_debug: false,
         like_lld: false,
         loose_calls: false,
+        names: false,
+        features: None,
     }
 }
 
