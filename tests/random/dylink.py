@@ -1,6 +1,5 @@
 """The section dylink.0, which tells the loader what a shared output needs (DynamicLinking.md)."""
 
-from foreign import cell
 from meanings import Imported
 from objects import *
 
@@ -17,16 +16,9 @@ def dylink_section(liveness, layout, numbering):
 
 
 def weak_imports(liveness):
-    """The imports that a name means all of whose references are WEAK; the cell of such a name where live chunks use it."""
+    """Those that live chunks use by names all of whose entries are WEAK: what is called, a global, or the cell of an address."""
     references = [one for one in liveness.live_references() if isinstance(liveness.meaning(one), Imported)]
-    return meant_imports(liveness) | {liveness.meaning(one) for one in references if is_weak(liveness, one)}
-
-
-def meant_imports(liveness):
-    """Those of WEAK names, used or not, but for their own cells."""
-    entries = [one for entries in liveness.names.entries.values() for one in entries if one.input > 0 and is_weak(liveness, one)]
-    meanings = [(liveness.meanings.of(*one.at), cell(liveness.meanings.symbol(*one.at))) for one in entries]
-    return {meaning for meaning, own in meanings if isinstance(meaning, Imported) and meaning != own}
+    return {liveness.meaning(one) for one in references if is_weak(liveness, one)}
 
 
 def is_weak(liveness, reference):

@@ -8,7 +8,7 @@ use Rattle.link_program.specs.declared.symbol.Symbol.{Symbol}
 use Rattle.link_program.specs.Seen.{no_symbol}
 use Rattle.link_layout.specs.link_numbers.link_keys.Noted.{flagged}
 use Rattle.link_loader.specs.Cells.{tells_cell, all_tell}
-use Rattle.link_loader.specs.Weak.{strong_of, noted_at, strong_row, object_row, strong_rows, weak_marks, all_marks}
+use Rattle.link_loader.specs.Weak.{strong_of, noted_at, strong_row, object_row, strong_rows}
 
 -- those of one item, and then of the others
 pub folded : (flags : List Bool) (xs ys : List (Option ℕ)) → fold flagged flags (xs ++ ys) ≡ fold flagged (fold flagged flags xs) ys
@@ -66,27 +66,6 @@ row_next row ss at flags below = by (slice_get ss at) refl
 
 pub row_past : (row : List (Option ℕ)) (ss : List Written) (at : ℕ) → length row ≤ at → strong_row (drop at row) (drop at ss) ≡ []
 row_past row ss at past = ap (λ r. strong_row r (drop at ss)) (all_left row at past)
-
--- ---- symbols
-
-marks_from : (strong used : List Bool) (cells : List (Option ℕ)) (ss : List Symbol) (at k : ℕ) (flags : List Bool) → at < length ss
-    → fold flagged flags (all_marks strong used cells k (drop at ss))
-    ≡ fold flagged (fold flagged flags (weak_marks strong used cells k (get_or ss at no_symbol))) (all_marks strong used cells (k + 1) (drop (suc at) ss))
-marks_from strong used cells [] at k flags below = absurd (omega (arith, below))
-marks_from strong used cells (s ∷ ss) zero k flags below = folded flags (weak_marks strong used cells k s) (all_marks strong used cells (k + 1) ss)
-marks_from strong used cells (s ∷ ss) (suc at) k flags below = marks_from strong used cells ss at k flags (omega (arith, below))
-
--- the marks of one symbol, and then of the others
-pub marks_more : (strong used : List Bool) (cells : List (Option ℕ)) (ss : List Symbol) (at : ℕ) (flags : List Bool) → at < length ss
-    → fold flagged flags (all_marks strong used cells at (drop at ss))
-    ≡ fold flagged (fold flagged flags (weak_marks strong used cells at (get_or ss at no_symbol))) (all_marks strong used cells (at + 1) (drop (at + 1) ss))
-marks_more strong used cells ss at flags below =
-    marks_from strong used cells ss at at flags below
-    ∙ ap (λ k. fold flagged (fold flagged flags (weak_marks strong used cells at (get_or ss at no_symbol))) (all_marks strong used cells (at + 1) (drop k ss))) (one_more at)
-
--- nothing is left
-pub marks_ended : (strong used : List Bool) (cells : List (Option ℕ)) (ss : List Symbol) (at : ℕ) → length ss ≤ at → all_marks strong used cells at (drop at ss) ≡ []
-marks_ended strong used cells ss at past = ap (all_marks strong used cells at) (all_left ss at past)
 
 -- ---- cells that are told
 

@@ -8,7 +8,6 @@ pub mod PlacesTold
 pub mod WordsTold
 mod Anys
 mod StrongTold
-mod UsedTold
 mod WeakTold
 mod SectionTold
 mod SolidTold

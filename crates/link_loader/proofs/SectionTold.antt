@@ -34,7 +34,7 @@ use Rattle.link_layout.proofs.link_numbers_lemmas.Whole as whole
 use Rattle.link_layout.proofs.link_numbers_lemmas.link_keys_lemmas.Equals.{OnePlace}
 use Rattle.link_layout.proofs.link_numbers_lemmas.link_keys_lemmas.Imports.{import_equal, import_itself, name_equal, name_itself}
 use Rattle.link_loader.specs.Cells.{all_tell}
-use Rattle.link_loader.specs.Used.{bound_part}
+use Rattle.link_loader.specs.Bound.{bound_part}
 use Rattle.link_loader.specs.Weak.{flag_at, weak_seen}
 use Rattle.link_loader.specs.Section.{content_align, align_at, info_of, info_seen, function_info, global_info, infos_seen, dylink_seen}
 use Rattle.link_loader.proofs.Lists.{import_there}
@@ -149,7 +149,7 @@ module _ (p : rules.Program) (parts : List rules.Part) (es : List InputSymbol) (
     key_info k held =
         let there = import_there I k held in
         ap (λ o. if flag_at Weak ((number_by same_import I k)) then option_map info_of o else None) there
-        ∙ ap (λ b. if b then Some (info_of k) else None) (weak_told p parts es d is live lives all bound ((number_by same_import I k)) k there)
+        ∙ ap (λ b. if b then Some (info_of k) else None) (weak_told p parts es d is all (number_by same_import I k) k there live lives bound)
 
     function_told : (f : keys.FunctionKey) → KnowsFunction N I f → function_info I Weak (told_function N I f) ≡ (if option_any Test (function_key_import Shared p parts L f) then option_map info_of (function_key_import Shared p parts L f) else None)
     function_told (outside k) knows = key_info k knows

@@ -1,104 +1,94 @@
--- The imports that are made for names of which all entries are WEAK, as the data tell them.
-use Rattle.std.proofs.Common.{◌≡◌, ℕ, zero, suc, ◌+◌, ◌==◌, Bool, true, false, not, ◌&&◌, ◌||◌, cond, List, [], ◌∷◌, ◌++◌, map, filter, filter_map, flat_map, length, slice_get, Option, Some, None, option_map, refl, sym, ap, subst, ◌∙◌, arith, append_assoc}
+-- The imports that live parts use by names of which all entries are WEAK, as the data tell them.
+use Rattle.std.proofs.Common.{◌≡◌, ℕ, ◌==◌, Bool, true, false, not, ◌&&◌, ◌||◌, List, [], ◌∷◌, map, filter, filter_map, flat_map, length, get_or, slice_get, Option, Some, None, unwrap_or, refl, sym, ap, subst, ◌∙◌, arith}
 use Rattle.std.specs.Prelude.{if◌then◌else◌, bytes_eq}
 use Rattle.std.specs.List.{list_any, list_all, All}
 use Rattle.std.proofs.lemmas.Bool.{and_parts}
 use Rattle.std.proofs.lemmas.List.Elements.{All-head, All-tail}
 use Rattle.std.proofs.lemmas.List.Folds.{list_any-append}
-use Rattle.std.proofs.lemmas.Option.{slice_get-map, slice_get_within}
-use Rattle.link_program.specs.wl_base.Names.{number_of}
+use Rattle.std.proofs.lemmas.Option.{slice_get_within}
+use Rattle.link_program.specs.wl_base.Choice.{given}
 use Rattle.link_program.specs.linking_section.Flags.{is_weak}
+use Rattle.link_program.specs.linking_section.declared.symbol.SymbolKind.TheVariants.{Function, Datum, GlobalVar}
 use Rattle.link_program.specs.made_symbols.declared.mode.Mode.TheVariants.{Shared}
-use Rattle.link_program.specs.name_rules.Entries.{InputSymbol, ImportKey, same_import, is_entry, name_of, is_named}
-use Rattle.link_program.specs.name_rules.Meanings.{Meaning, here, imported, null, nothing, cell_of}
-use Rattle.link_program.specs.link_names.Numbered.{Held, entry_names, is_entry_symbol, symbol_name}
-use Rattle.link_program.specs.linking_section.declared.symbol.Symbol.{Symbol as Written}
-use Rattle.link_program.specs.object_file.declared.object.Object.{Object}
-use Rattle.link_program.specs.name_rules.Entries.{entries_from, entry_in, symbols_of}
-use Rattle.link_program.specs.name_rules.Meanings.{Resolved, resolve, resolved_in, uses_of}
-use Rattle.link_program.specs.name_rules.Further.{further_imports}
-use Rattle.link_program.specs.wl_base.Choice.{distinct, distinct_onto}
 use Rattle.link_program.specs.index_layout.Numbers.{number_by}
-use Rattle.link_program.specs.link_rules.Keys.{imports_in_order, import_of}
+use Rattle.link_program.specs.name_rules.Entries.{InputSymbol, ImportKey, same_import, is_kind, is_entry, name_of, is_named}
+use Rattle.link_program.specs.name_rules.Meanings.{Meaning, here, imported, null, nothing, cell_of}
+use Rattle.link_program.specs.name_rules.Further.{is_here}
+use Rattle.link_program.specs.name_entries.View.{entry_number}
 use Rattle.link_program.specs.link_rules.Program as rules
-use Rattle.link_program.specs.link_rules.Keys.{foreign_cells, has_import}
+use Rattle.link_program.specs.link_rules.Program.{a_symbol, a_type, named_ref, refs}
+use Rattle.link_program.specs.link_rules.Marks.{refs_of}
+use Rattle.link_program.specs.link_rules.Keys.{import_of}
 use Rattle.link_program.specs.link_rules.Values as values
 use Rattle.link_program.specs.link_rules.Output.{layout}
-use Rattle.link_program.specs.link_rules.Loader.{imports_for, weak_meaning, zip_weak, weak_imports, is_weak_name, has_cell}
+use Rattle.link_program.specs.link_rules.Loader.{import_taken, is_weak_name, weak_imports}
 use Rattle.link_program.specs.declared.symbol.Symbol.{Symbol}
 use Rattle.link_program.specs.declared.symbol.Lead.TheVariants as leads
-use Rattle.link_program.specs.Told.{told_symbol, told_all, told_symbols, told_variant}
+use Rattle.link_program.specs.declared.named.Named.{Named}
+use Rattle.link_program.specs.declared.named.Named.TheVariants as names_of
+use Rattle.link_program.specs.Told.{told_lead, told_symbol}
+use Rattle.link_program.specs.Seen.{SeenRef, seen_named, told_ref, told_named, no_symbol}
+use Rattle.link_program.specs.Look.{row_at}
 use Rattle.link_program.specs.Live.{AreLive}
 use Rattle.link_layout.specs.declared.values.Layout.{Layout}
+use Rattle.link_layout.specs.link_numbers.Laws.{KnowsSharedRef}
 use Rattle.link_layout.specs.link_numbers.link_keys.Noted.{is_at}
-use Rattle.link_layout.proofs.link_numbers_lemmas.Begun.{given_of}
+use Rattle.link_layout.proofs.Parts.{row_told}
+use Rattle.link_layout.proofs.link_numbers_lemmas.Begun.{given_of, refs_known}
 use Rattle.link_layout.proofs.link_numbers_lemmas.Whole as whole
-use Rattle.link_layout.proofs.link_numbers_lemmas.link_keys_lemmas.Any.{all_at, any_at}
+use Rattle.link_layout.proofs.link_numbers_lemmas.link_keys_lemmas.Any.{any_filter}
 use Rattle.link_layout.proofs.link_numbers_lemmas.link_keys_lemmas.Flags.{flags_set}
-use Rattle.link_layout.proofs.link_numbers_lemmas.link_keys_lemmas.Equals.{OnePlace, holds_distinct}
+use Rattle.link_layout.proofs.link_numbers_lemmas.link_keys_lemmas.Equals.{OnePlace, same_number, holds_at}
 use Rattle.link_layout.proofs.link_numbers_lemmas.link_keys_lemmas.Imports.{import_equal, import_itself, name_equal, name_itself}
 use Rattle.link_loader.specs.Cells.{is_addressed, cell_at, tells_cell, all_tell}
-use Rattle.link_loader.specs.Used.{cells_used, bound_part}
-use Rattle.link_loader.specs.Weak.{flag_at, strong_names, own_cell, marks, weak_by, weak_marks, all_marks, weak_seen}
-use Rattle.link_loader.proofs.Lists.{import_there}
+use Rattle.link_loader.specs.Bound.{has_name, is_bound_by, is_bound, bound_part}
+use Rattle.link_loader.specs.Weak.{flag_at, strong_names, taken, weak_by, weak_use, part_uses, weak_seen}
+use Rattle.link_loader.proofs.Lists.{import_there, first_ones, last_ones}
 use Rattle.link_loader.proofs.Stands.{Stands}
-use Rattle.link_loader.proofs.StrongTold.{held_number, strong_told, none_strong}
-use Rattle.link_loader.proofs.WordsTold.{IsCellOf, told_cell, entry_name}
-use Rattle.link_loader.proofs.Anys.{option_any, any_flat, any_chosen}
-use Rattle.link_loader.proofs.UsedTold.{same_place, used_told}
+use Rattle.link_loader.proofs.StrongTold.{strong_told, none_strong}
+use Rattle.link_loader.proofs.WordsTold.{tells_at, told_cell, entry_name, seen_is}
+use Rattle.link_loader.proofs.Anys.{option_any, any_chosen}
 
--- ---- meanings of symbols
+-- ---- which cells are asked for
 
--- A symbol's name is held where the symbol is an entry.
-abbrev pub HeldEntry : List (List ℕ) → InputSymbol → Type 0
-HeldEntry names e = is_entry e ≡ true → Held names (name_of e)
+-- no cell is asked for what has no address
+unaddressed : (call var ours entry f t : Bool) → (f || t) ≡ false → (not call && not var && (not ours && entry && (f || t || var))) ≡ false
+unaddressed true var ours entry f t e = refl
+unaddressed false true ours entry f t e = refl
+unaddressed false false ours entry true t e = absurd cc
+unaddressed false false ours entry false true e = absurd cc
+unaddressed false false true entry false false e = refl
+unaddressed false false false true false false e = refl
+unaddressed false false false false false false e = refl
 
--- An import that is meant is one of the imports.
-abbrev pub IsImported : List ImportKey → Meaning → Type 0
-IsImported imports (here e) = Unit {0}
-IsImported imports (imported k) = list_any (same_import k) imports ≡ true
-IsImported imports null = Unit {0}
-IsImported imports nothing = Unit {0}
+-- a cell is asked for what is foreign and has one
+addressed : (call var entry f t : Bool) → (f || t) ≡ true → (call || var) ≡ false → entry ≡ true → (not call && not var && (not false && entry && (f || t || var))) ≡ true
+addressed true var entry f t a v e = absurd cc
+addressed false true entry f t a v e = absurd cc
+addressed false false true true t a v e = refl
+addressed false false true false true a v e = refl
+addressed false false true false false a v e = absurd cc
+addressed false false false f t a v e = absurd cc
 
--- ---- an object's symbols have held names
+owned : (call var entry more : Bool) → (not call && not var && (not true && entry && more)) ≡ false
+owned true var entry more = refl
+owned false true entry more = refl
+owned false false entry more = refl
 
-row_held : (names : List (List ℕ)) (objects : List Object) (o : Object) (place : ℕ) (ss : List Written) → All (Held names) (map symbol_name (filter is_entry_symbol ss))
-    → (j : ℕ) (e : InputSymbol) → slice_get (entries_from objects o place ss) j ≡ Some e → HeldEntry names e
-row_held names objects o place [] all j e at = absurd cc
-row_held names objects o place (s ∷ ss) all zero e at = λ entry. by entry (is_entry_symbol s) refl all
-  where
-    same : entry_in objects o place s ≡ e
-    same = cc
+no_flag : (w : Bool) → false ≡ (w && false)
+no_flag true = refl
+no_flag false = refl
 
-    by : is_entry e ≡ true → (r : Bool) → is_entry_symbol s ≡ r → All (Held names) (map symbol_name (cond r (s ∷ filter is_entry_symbol ss) (filter is_entry_symbol ss))) → Held names (name_of e)
-    by entry true is h = subst (λ (x : InputSymbol). Held names (name_of x)) same (All-head (Held names) (symbol_name s) (map symbol_name (filter is_entry_symbol ss)) h)
-    by entry false is h = absurd (let t : is_entry (entry_in objects o place s) ≡ true = subst (λ (x : InputSymbol). is_entry x ≡ true) (sym same) entry in let z : true ≡ false = sym t ∙ is in cc)
-row_held names objects o place (s ∷ ss) all (suc j) e at = by (is_entry_symbol s) all (λ h. row_held names objects o (place + 1) ss h j e at)
-  where
-    by : (r : Bool) → All (Held names) (map symbol_name (cond r (s ∷ filter is_entry_symbol ss) (filter is_entry_symbol ss)))
-        → (All (Held names) (map symbol_name (filter is_entry_symbol ss)) → HeldEntry names e) → HeldEntry names e
-    by true h again = again (All-tail (Held names) (symbol_name s) (map symbol_name (filter is_entry_symbol ss)) h)
-    by false h again = again h
+-- ---- what a reference uses, by its meaning
 
--- ---- imports that are meant
+abbrev is_by : rules.Ref → Bool
+is_by ref = (ref.kind == 0) || is_kind GlobalVar ref.entry
 
--- what was seen stays among more
-pub seen_held : (xs seen : List ImportKey) (k : ImportKey) → list_any (same_import k) seen ≡ true → list_any (same_import k) (distinct_onto same_import seen xs) ≡ true
-seen_held [] seen k held = held
-seen_held (x ∷ xs) seen k held = seen_held xs (if list_any (same_import x) seen then seen else seen ++ x ∷ []) k (by (list_any (same_import x) seen))
-  where
-    by : (r : Bool) → list_any (same_import k) (if r then seen else seen ++ x ∷ []) ≡ true
-    by true = held
-    by false = list_any-append (same_import k) seen (x ∷ []) ∙ ap (λ b. b || list_any (same_import k) (x ∷ [])) held
+abbrev asks_cell : rules.Ref → Meaning → Bool
+asks_cell ref m = not (ref.kind == 0) && not (is_kind GlobalVar ref.entry) && (not (is_here m) && is_entry ref.entry && (is_kind Function ref.entry || is_kind Datum ref.entry || is_kind GlobalVar ref.entry))
 
-import_known : (resolved : List Resolved) (i j : ℕ) (r : Resolved) (k : ImportKey) → slice_get resolved i ≡ Some r → slice_get r.meanings j ≡ Some (imported k)
-    → list_any (same_import k) (distinct same_import (filter_map import_of (flat_map (λ (r : Resolved). r.meanings) resolved))) ≡ true
-import_known resolved i j r k at there =
-    holds_distinct same_import import_equal import_itself (filter_map import_of (flat_map (λ (r : Resolved). r.meanings) resolved)) k
-    (any_chosen (same_import k) import_of (flat_map (λ (r : Resolved). r.meanings) resolved)
-    ∙ any_flat (λ m. option_any (same_import k) (import_of m)) (λ (r : Resolved). r.meanings) resolved
-    ∙ any_at (λ (r : Resolved). list_any (λ m. option_any (same_import k) (import_of m)) r.meanings) resolved i r at
-    (any_at (λ m. option_any (same_import k) (import_of m)) r.meanings j (imported k) there (import_itself k)))
+abbrev taken_by : rules.Ref → Meaning → Option ImportKey
+taken_by ref m = if is_by ref then import_of m else given (asks_cell ref m) (cell_of ref.entry)
 
 -- ---- a layout of a shared output
 
@@ -112,6 +102,9 @@ module _ (p : rules.Program) (parts : List rules.Part) (es : List InputSymbol) (
   abbrev C : List (Option ℕ)
   C = d.program.resolution.now.cells
 
+  abbrev S : List Symbol
+  S = d.program.tables.now.symbols
+
   abbrev L : values.Layout
   L = layout Shared p parts es
 
@@ -121,8 +114,11 @@ module _ (p : rules.Program) (parts : List rules.Part) (es : List InputSymbol) (
   one_name : OnePlace bytes_eq name_equal name_itself N
   one_name = whole.one_name (given_of d.program p is.live.0 parts is.program is.stand is.live.1 is.meant)
 
+  -- two imports are one where they have one number
   same : (i j : ℕ) (a b : ImportKey) → slice_get I i ≡ Some a → slice_get I j ≡ Some b → (j == i) ≡ same_import a b
-  same i j a b at_i at_j = same_place p parts es d is i j a b at_i at_j
+  same i j a b at_i at_j =
+      ap (λ n. n == i) (sym (ap (λ o. unwrap_or o 0) (one_import j b at_j)))
+      ∙ same_number same_import import_equal import_itself I i a b one_import at_i (holds_at same_import import_equal import_itself I j b at_j)
 
   abbrev strong : List Bool
   strong = strong_names (length N) d.program.names.now.made d.program.names.now.symbols d.program.objects.now
@@ -135,176 +131,147 @@ module _ (p : rules.Program) (parts : List rules.Part) (es : List InputSymbol) (
       ∙ ap (list_any (λ (f : InputSymbol). is_named (name_of e) f && not (is_weak f.symbol))) (sym is.program.entries)
       ∙ none_strong p.entries (name_of e)
 
-  -- ---- all symbols
+  module _ (all : all_tell N I C 0 d.program.tables.now.symbols ≡ true) (n : ℕ) (k : ImportKey) (at_n : slice_get I n ≡ Some k) where
+    -- whether a reference uses the import by a WEAK name
+    abbrev Uses : rules.Ref → Meaning → Bool
+    Uses ref m = is_weak_name Shared p parts L ref.entry && option_any (same_import k) (taken_by ref m)
 
-  abbrev row : Object → Resolved
-  row o = resolved_in Shared (uses_of Shared p.objects) p.plan.allow_undefined p.entries p.objects o
+    -- ---- imported symbols
 
-  rows_are : p.resolved ≡ map row p.objects
-  unfolding resolve
-  rows_are = is.program.resolved
+    cell_taken : (ref : rules.Ref) (at : ℕ) (key : ImportKey) → is_by ref ≡ false → tells_cell N I C at (told_symbol N I ref.entry (imported key)) ≡ true → (r : Bool) → is_addressed (told_symbol N I ref.entry (imported key)) ≡ r
+        → is_at n (if r then Some (cell_at C at (told_symbol N I ref.entry (imported key))) else None) ≡ option_any (same_import k) (given (asks_cell ref (imported key)) (cell_of ref.entry))
+    cell_taken ref at key by cell false none =
+        sym (ap (λ b. option_any (same_import k) (given b (cell_of ref.entry))) (unaddressed (ref.kind == 0) (is_kind GlobalVar ref.entry) false (is_entry ref.entry) (is_kind Function ref.entry) (is_kind Datum ref.entry) none))
+    cell_taken ref at key by cell true some =
+        let s : Symbol = told_symbol N I ref.entry (imported key) in
+        let c = told_cell N I C at ref.entry key s refl some cell in
+        same n (cell_at C at s) k (cell_of ref.entry) at_n c.at
+        ∙ sym (ap (λ b. option_any (same_import k) (given b (cell_of ref.entry))) (addressed (ref.kind == 0) (is_kind GlobalVar ref.entry) (is_entry ref.entry) (is_kind Function ref.entry) (is_kind Datum ref.entry) some by c.entry))
 
-  symbols_held : (i j : ℕ) (r : Resolved) (e : InputSymbol) → slice_get p.resolved i ≡ Some r → slice_get r.symbols j ≡ Some e → HeldEntry N e
-  symbols_held i j r e at there = by_object (slice_get p.objects i) refl (sym (slice_get-map row p.objects i) ∙ ap (λ rs. slice_get rs i) (sym rows_are) ∙ at)
-    where
-      by_object : (o : Option Object) → slice_get p.objects i ≡ o → option_map row o ≡ Some r → HeldEntry N e
-      by_object None here_o same_r = absurd cc
-      by_object (Some o) here_o same_r =
-          let is_r : row o ≡ r = cc in
-          let symbol : slice_get (symbols_of p.objects o) j ≡ Some e = ap (λ (x : Resolved). slice_get x.symbols j) is_r ∙ there in
-          row_held N p.objects o 0 o.symbols (all_at (λ o. All (Held N) (entry_names o)) p.objects i o is.program.numbers.symbols_held here_o) j e symbol
+    import_used : (ref : rules.Ref) (at : ℕ) (key : ImportKey) → list_any (same_import key) I ≡ true → tells_cell N I C at (told_symbol N I ref.entry (imported key)) ≡ true → (r : Bool) → is_by ref ≡ r
+        → is_at n (if r then Some (number_by same_import I key) else if is_addressed (told_symbol N I ref.entry (imported key)) then Some (cell_at C at (told_symbol N I ref.entry (imported key))) else None)
+        ≡ option_any (same_import k) (if r then Some key else given (asks_cell ref (imported key)) (cell_of ref.entry))
+    import_used ref at key held cell true by = same n (number_by same_import I key) k key at_n (import_there I key held)
+    import_used ref at key held cell false by = cell_taken ref at key by cell (is_addressed (told_symbol N I ref.entry (imported key))) refl
 
-  in_order : (k : ImportKey) → list_any (same_import k) (distinct same_import (filter_map import_of (flat_map (λ (r : Resolved). r.meanings) p.resolved))) ≡ true → list_any (same_import k) (imports_in_order p) ≡ true
-  unfolding imports_in_order
-  in_order k held = held
+    import_taken_so : (ref : rules.Ref) (at : ℕ) (key : ImportKey) → list_any (same_import key) I ≡ true → tells_cell N I C at (told_symbol N I ref.entry (imported key)) ≡ true
+        → is_at n (taken C ref.kind at (told_symbol N I ref.entry (imported key)) (number_by same_import I key)) ≡ option_any (same_import k) (taken_by ref (imported key))
+    import_taken_so ref at key held cell = import_used ref at key held cell (is_by ref) refl
 
-  meanings_imported : (i j : ℕ) (r : Resolved) (m : Meaning) → slice_get p.resolved i ≡ Some r → slice_get r.meanings j ≡ Some m → IsImported I m
-  meanings_imported i j r (here e) at there = tt
-  meanings_imported i j r (imported k) at there =
-      subst (λ is. list_any (same_import k) is ≡ true) (sym is.program.imports)
-      (seen_held (further_imports Shared p.entries p.resolved) (imports_in_order p) k (in_order k (import_known p.resolved i j r k at there)))
-  meanings_imported i j r null at there = tt
-  meanings_imported i j r nothing at there = tt
+    named_use : (ref : rules.Ref) (at : ℕ) (key : ImportKey) → list_any (same_import key) I ≡ true → tells_cell N I C at (told_symbol N I ref.entry (imported key)) ≡ true → (o : Option ℕ) → entry_number N ref.entry ≡ o → has_name o ≡ true
+        → is_at n (weak_by strong C ref.kind at (told_symbol N I ref.entry (imported key)) (leads.Import (number_by same_import I key)) o) ≡ Uses ref (imported key)
+    named_use ref at key held cell None number named = absurd cc
+    named_use ref at key held cell (Some j) number named =
+        let there = (entry_name N ref.entry j number).1 in
+        ap (λ b. is_at n (if b then None else taken C ref.kind at (told_symbol N I ref.entry (imported key)) (number_by same_import I key))) (weak_name ref.entry j there)
+        ∙ by (is_weak_name Shared p parts L ref.entry) (import_taken_so ref at key held cell)
+      where
+        by : (w : Bool) → is_at n (taken C ref.kind at (told_symbol N I ref.entry (imported key)) (number_by same_import I key)) ≡ option_any (same_import k) (taken_by ref (imported key))
+            → is_at n (if not w then None else taken C ref.kind at (told_symbol N I ref.entry (imported key)) (number_by same_import I key)) ≡ (w && option_any (same_import k) (taken_by ref (imported key)))
+        by true e = e
+        by false e = refl
 
-  module _ (live : List ℕ) (lives : AreLive p live parts) (all : all_tell N I C 0 d.program.tables.now.symbols ≡ true) (bound : list_all (bound_part d.program.tables.now) live ≡ true) where
-    abbrev used : List Bool
-    used = cells_used d.program.tables.now C (length I) live
+    -- ---- other symbols
 
-    module _ (n : ℕ) (k : ImportKey) (at_n : slice_get I n ≡ Some k) where
-      -- ---- one symbol
+    none_used : (ref : rules.Ref) (m : Meaning) → import_of m ≡ None → ((r : Bool) → is_by ref ≡ r → r ≡ false → asks_cell ref m ≡ false) → false ≡ Uses ref m
+    none_used ref m none no_cell =
+        no_flag (is_weak_name Shared p parts L ref.entry) ∙ ap (λ b. is_weak_name Shared p parts L ref.entry && b) (by (is_by ref) refl)
+      where
+        by : (r : Bool) → is_by ref ≡ r → false ≡ option_any (same_import k) (if r then import_of m else given (asks_cell ref m) (cell_of ref.entry))
+        by true e = sym (ap (option_any (same_import k)) none)
+        by false e = sym (ap (λ b. option_any (same_import k) (given b (cell_of ref.entry))) (no_cell false e refl))
 
-      -- the import alone
-      plain_marks : (e : InputSymbol) (key : ImportKey) → list_any (same_import key) I ≡ true → has_cell Shared p parts L e ≡ false
-          → list_any (is_at n) (marks used None (number_by same_import I key)) ≡ list_any (same_import k) (imports_for Shared p parts L e key)
-      plain_marks e key held none =
-          ap (λ b. b || false) (same n (number_by same_import I key) k key at_n (import_there I key held))
-          ∙ sym (ap (λ b. list_any (same_import k) (filter (λ i. not (b && same_import i (cell_of e))) (key ∷ []) ++ filter (λ i. b && has_import (foreign_cells parts) i) (cell_of e ∷ []))) none)
+    or_first : (a b : Bool) → (a || b) ≡ false → a ≡ false
+    or_first true b e = absurd cc
+    or_first false b e = refl
 
-      two : (a b : Bool) (j c : ℕ) (key cell : ImportKey) → (j == n) ≡ same_import k key → (c == n) ≡ same_import k cell
-          → (is_at n (if a then None else Some j) || (is_at n (if b then Some c else None) || false))
-          ≡ list_any (same_import k) (cond (not (true && a)) (key ∷ []) [] ++ cond (true && b) (cell ∷ []) [])
-      two true true j c key cell ej ec = ap (λ x. x || false) ec
-      two true false j c key cell ej ec = refl
-      two false true j c key cell ej ec = λ i. ej i || (ec i || false)
-      two false false j c key cell ej ec = λ i. ej i || false
+    not_true : (b : Bool) → not b ≡ true → b ≡ false
+    not_true true e = absurd cc
+    not_true false e = refl
 
-      -- the import, and the cell beside it
-      cell_marks : (e : InputSymbol) (key : ImportKey) (c : ℕ) → list_any (same_import key) I ≡ true → IsCellOf I e c → has_cell Shared p parts L e ≡ true
-          → list_any (is_at n) (marks used (Some c) (number_by same_import I key)) ≡ list_any (same_import k) (imports_for Shared p parts L e key)
-      cell_marks e key c held cell has =
-          let j = number_by same_import I key in
-          let at_j = import_there I key held in
-          let apart : (c == j) ≡ same_import key (cell_of e) = same j c key (cell_of e) at_j cell.at in
-          let uses : flag_at used c ≡ has_import (foreign_cells parts) (cell_of e) = used_told p parts es d is c (cell_of e) cell.at all live lives bound in
-          (λ i. is_at n (if apart i then None else Some j) || (is_at n (if uses i then Some c else None) || false))
-          ∙ two (same_import key (cell_of e)) (has_import (foreign_cells parts) (cell_of e)) j c key (cell_of e) (same n j k key at_n at_j) (same n c k (cell_of e) at_n cell.at)
-          ∙ sym (ap (λ b. list_any (same_import k) (filter (λ i. not (b && same_import i (cell_of e))) (key ∷ []) ++ filter (λ i. b && has_import (foreign_cells parts) i) (cell_of e ∷ []))) has)
+    -- what is null has no address, unless it is called
+    null_asks : (ref : rules.Ref) (m : Meaning) → ((ref.kind == 0) || not (is_kind Function ref.entry || is_kind Datum ref.entry)) ≡ true → (r : Bool) → is_by ref ≡ r → r ≡ false → asks_cell ref m ≡ false
+    null_asks ref m bound true e f = absurd cc
+    null_asks ref m bound false e f =
+        let call = or_first (ref.kind == 0) (is_kind GlobalVar ref.entry) e in
+        let none : not (is_kind Function ref.entry || is_kind Datum ref.entry) ≡ true = ap (λ b. b || not (is_kind Function ref.entry || is_kind Datum ref.entry)) (sym call) ∙ bound in
+        unaddressed (ref.kind == 0) (is_kind GlobalVar ref.entry) (is_here m) (is_entry ref.entry) (is_kind Function ref.entry) (is_kind Datum ref.entry) (not_true (is_kind Function ref.entry || is_kind Datum ref.entry) none)
 
-      import_marks : (at : ℕ) (e : InputSymbol) (key : ImportKey) → list_any (same_import key) I ≡ true → tells_cell N I C at (told_symbol N I e (imported key)) ≡ true → (r : Bool) → is_addressed (told_symbol N I e (imported key)) ≡ r
-          → list_any (is_at n) (marks used (own_cell C at (told_symbol N I e (imported key))) (number_by same_import I key)) ≡ list_any (same_import k) (imports_for Shared p parts L e key)
-      import_marks at e key held cell false none =
-          ap (λ b. list_any (is_at n) (marks used (if b then Some (cell_at C at (told_symbol N I e (imported key))) else None) (number_by same_import I key))) none
-          ∙ plain_marks e key held none
-      import_marks at e key held cell true some =
-          ap (λ b. list_any (is_at n) (marks used (if b then Some (cell_at C at (told_symbol N I e (imported key))) else None) (number_by same_import I key))) some
-          ∙ cell_marks e key (cell_at C at (told_symbol N I e (imported key))) held (told_cell N I C at e key (told_symbol N I e (imported key)) refl some cell) some
+    -- ---- windows
 
-      named_marks : (at : ℕ) (e : InputSymbol) (key : ImportKey) → list_any (same_import key) I ≡ true → HeldEntry N e → tells_cell N I C at (told_symbol N I e (imported key)) ≡ true → (r : Bool) → is_entry e ≡ r
-          → list_any (is_at n) (weak_by strong used C at (told_symbol N I e (imported key)) (if r then number_of N (name_of e) else None) (leads.Import (number_by same_import I key)))
-          ≡ list_any (same_import k) (if r then weak_meaning Shared p parts L e (imported key) else [])
-      named_marks at e key held names cell false entry = refl
-      named_marks at e key held names cell true entry =
-          let name = held_number N (name_of e) (names entry) in
-          let there = (entry_name N e name.0 (ap (λ b. if b then number_of N (name_of e) else None) entry ∙ name.1)).1 in
-          ap (λ o. list_any (is_at n) (weak_by strong used C at (told_symbol N I e (imported key)) o (leads.Import (number_by same_import I key)))) name.1
-          ∙ ap (λ b. list_any (is_at n) (if b then [] else marks used (own_cell C at (told_symbol N I e (imported key))) (number_by same_import I key))) (weak_name e name.0 there)
-          ∙ by (is_weak_name Shared p parts L e) (import_marks at e key held cell (is_addressed (told_symbol N I e (imported key))) refl)
-        where
-          by : (w : Bool) → list_any (is_at n) (marks used (own_cell C at (told_symbol N I e (imported key))) (number_by same_import I key)) ≡ list_any (same_import k) (imports_for Shared p parts L e key)
-              → list_any (is_at n) (if not w then [] else marks used (own_cell C at (told_symbol N I e (imported key))) (number_by same_import I key)) ≡ list_any (same_import k) (if w then imports_for Shared p parts L e key else [])
-          by true same = same
-          by false same = refl
+    use_meant : (ref : rules.Ref) (at : ℕ) (m : Meaning) → ((key : ImportKey) → m ≡ imported key → list_any (same_import key) I ≡ true)
+        → tells_cell N I C at (told_symbol N I ref.entry m) ≡ true → is_bound_by ref.kind (told_symbol N I ref.entry m) (told_lead I m) ≡ true
+        → is_at n (weak_by strong C ref.kind at (told_symbol N I ref.entry m) (told_lead I m) (entry_number N ref.entry)) ≡ Uses ref m
+    use_meant ref at (here e) held cell bound =
+        none_used ref (here e) refl (λ r is f. owned (ref.kind == 0) (is_kind GlobalVar ref.entry) (is_entry ref.entry) (is_kind Function ref.entry || is_kind Datum ref.entry || is_kind GlobalVar ref.entry))
+    use_meant ref at (imported key) held cell bound = named_use ref at key (held key refl) cell (entry_number N ref.entry) refl bound
+    use_meant ref at null held cell bound = none_used ref null refl (null_asks ref null bound)
+    use_meant ref at nothing held cell bound = none_used ref nothing refl (null_asks ref nothing bound)
 
-      none_made : (e : InputSymbol) (m : Meaning) → weak_meaning Shared p parts L e m ≡ [] → false ≡ list_any (same_import k) (if is_entry e then weak_meaning Shared p parts L e m else [])
-      none_made e m none = by (is_entry e)
-        where
-          by : (r : Bool) → false ≡ list_any (same_import k) (if r then weak_meaning Shared p parts L e m else [])
-          by true = sym (ap (list_any (same_import k)) none)
-          by false = refl
+    use_told : (ref : rules.Ref) (at : ℕ) (s : Symbol) → KnowsSharedRef N I ref → s ≡ told_symbol N I ref.entry ref.meaning → tells_cell N I C at s ≡ true → is_bound_by ref.kind s s.lead ≡ true
+        → is_at n (weak_by strong C ref.kind at s s.lead s.name) ≡ Uses ref ref.meaning
+    use_told ref at s knows same =
+        subst (λ (s : Symbol). tells_cell N I C at s ≡ true → is_bound_by ref.kind s s.lead ≡ true → is_at n (weak_by strong C ref.kind at s s.lead s.name) ≡ Uses ref ref.meaning) (sym same)
+        (use_meant ref at ref.meaning knows.imported)
 
-      symbol_marks : (at : ℕ) (e : InputSymbol) (m : Meaning) → IsImported I m → HeldEntry N e → tells_cell N I C at (told_symbol N I e m) ≡ true
-          → list_any (is_at n) (weak_marks strong used C at (told_symbol N I e m)) ≡ list_any (same_import k) (if is_entry e then weak_meaning Shared p parts L e m else [])
-      symbol_marks at e (here x) held names cell = none_made e (here x) refl
-      symbol_marks at e (imported key) held names cell = named_marks at e key held names cell (is_entry e) refl
-      symbol_marks at e null held names cell = none_made e null refl
-      symbol_marks at e nothing held names cell = none_made e nothing refl
+    abbrev UsesIt : rules.Ref → Bool
+    UsesIt ref = is_weak_name Shared p parts L ref.entry && option_any (same_import k) (import_taken Shared p parts L ref)
 
-      -- ---- symbols in turn
+    window_use : (x : Named) (ref : rules.Ref) → KnowsSharedRef N I ref → seen_named S d.program.tables.now.types x ≡ told_named N I (a_symbol ref) → is_bound S x ≡ true → is_at n (weak_use strong C S x) ≡ UsesIt ref
+    window_use (names_of.Symbol kind place addend at) ref knows same bound =
+        let r = seen_is (record { place = place; kind = kind; addend = addend; symbol = get_or S at no_symbol }) (told_ref N I ref) same in
+        let kinds : kind ≡ ref.kind = ap (λ (x : SeenRef). x.kind) r in
+        let symbols : get_or S at no_symbol ≡ told_symbol N I ref.entry ref.meaning = ap (λ (x : SeenRef). x.symbol) r in
+        ap (λ x. is_at n (weak_by strong C x at (get_or S at no_symbol) (get_or S at no_symbol).lead (get_or S at no_symbol).name)) kinds
+        ∙ use_told ref at (get_or S at no_symbol) knows symbols (subst (λ (x : ℕ). tells_cell N I C x (get_or S at no_symbol) ≡ true) (omega arith) (tells_at N I C 0 S all at))
+        (ap (λ x. is_bound_by x (get_or S at no_symbol) (get_or S at no_symbol).lead) (sym kinds) ∙ bound)
+    window_use (names_of.Type place number) ref knows same bound = absurd cc
 
-      all_any : (at : ℕ) (ss ts : List Symbol) → list_any (is_at n) (all_marks strong used C at (ss ++ ts)) ≡ (list_any (is_at n) (all_marks strong used C at ss) || list_any (is_at n) (all_marks strong used C (at + length ss) ts))
-      all_any at [] ts = let e : at ≡ at + 0 = omega arith in ap (λ x. list_any (is_at n) (all_marks strong used C x ts)) e
-      all_any at (s ∷ ss) ts =
-          let e : at + 1 + length ss ≡ at + suc (length ss) = omega arith in
-          list_any-append (is_at n) (weak_marks strong used C at s) (all_marks strong used C (at + 1) (ss ++ ts))
-          ∙ ap (λ b. list_any (is_at n) (weak_marks strong used C at s) || b) (all_any (at + 1) ss ts ∙ ap (λ x. list_any (is_at n) (all_marks strong used C (at + 1) ss) || list_any (is_at n) (all_marks strong used C x ts)) e)
-          ∙ or_assoc (list_any (is_at n) (weak_marks strong used C at s)) (list_any (is_at n) (all_marks strong used C (at + 1) ss)) (list_any (is_at n) (all_marks strong used C (at + suc (length ss)) ts))
-          ∙ ap (λ b. b || list_any (is_at n) (all_marks strong used C (at + suc (length ss)) ts)) (sym (list_any-append (is_at n) (weak_marks strong used C at s) (all_marks strong used C (at + 1) ss)))
-        where
-          or_assoc : (a b c : Bool) → (a || (b || c)) ≡ ((a || b) || c)
-          or_assoc true b c = refl
-          or_assoc false b c = refl
+    type_use : (x : Named) (w : rules.TypeWindow) → seen_named S d.program.tables.now.types x ≡ told_named N I (a_type w) → is_at n (weak_use strong C S x) ≡ false
+    type_use (names_of.Symbol kind place addend at) w same = absurd cc
+    type_use (names_of.Type place number) w same = refl
 
-      row_marks : (at : ℕ) (xs : List InputSymbol) (ms : List Meaning) → all_tell N I C at (told_all N I xs ms) ≡ true
-          → ((j : ℕ) (e : InputSymbol) → slice_get xs j ≡ Some e → HeldEntry N e) → ((j : ℕ) (m : Meaning) → slice_get ms j ≡ Some m → IsImported I m)
-          → list_any (is_at n) (all_marks strong used C at (told_all N I xs ms)) ≡ list_any (same_import k) (zip_weak Shared p parts L xs ms)
-      row_marks at [] ms tells held known = refl
-      row_marks at (e ∷ xs) [] tells held known = refl
-      row_marks at (e ∷ xs) (m ∷ ms) tells held known =
-          let both = and_parts (tells_cell N I C at (told_symbol N I e m)) (all_tell N I C (at + 1) (told_all N I xs ms)) tells in
-          let first = symbol_marks at e m (known 0 m refl) (held 0 e refl) both.0 in
-          let rest = row_marks (at + 1) xs ms both.1 (λ j x there. held (suc j) x there) (λ j x there. known (suc j) x there) in
-          list_any-append (is_at n) (weak_marks strong used C at (told_symbol N I e m)) (all_marks strong used C (at + 1) (told_all N I xs ms))
-          ∙ (λ i. first i || rest i)
-          ∙ sym (list_any-append (same_import k) (if is_entry e then weak_meaning Shared p parts L e m else []) (zip_weak Shared p parts L xs ms))
+    row_use : (row : List Named) (ns : List rules.Named) → All (KnowsSharedRef N I) (filter_map named_ref ns) → map (seen_named S d.program.tables.now.types) row ≡ map (told_named N I) ns → list_all (is_bound S) row ≡ true
+        → list_any (is_at n) (map (weak_use strong C S) row) ≡ list_any UsesIt (filter_map named_ref ns)
+    row_use [] [] knows e bound = refl
+    row_use [] (y ∷ ns) knows e bound = absurd cc
+    row_use (x ∷ row) [] knows e bound = absurd cc
+    row_use (x ∷ row) (a_symbol ref ∷ ns) knows e bound =
+        let same : seen_named S d.program.tables.now.types x ≡ told_named N I (a_symbol ref) = cc in
+        let rest : map (seen_named S d.program.tables.now.types) row ≡ map (told_named N I) ns = cc in
+        let both = and_parts (is_bound S x) (list_all (is_bound S) row) bound in
+        let first = window_use x ref (All-head (KnowsSharedRef N I) ref (filter_map named_ref ns) knows) same both.0 in
+        let more = row_use row ns (All-tail (KnowsSharedRef N I) ref (filter_map named_ref ns) knows) rest both.1 in
+        λ i. first i || more i
+    row_use (x ∷ row) (a_type w ∷ ns) knows e bound =
+        let same : seen_named S d.program.tables.now.types x ≡ told_named N I (a_type w) = cc in
+        let rest : map (seen_named S d.program.tables.now.types) row ≡ map (told_named N I) ns = cc in
+        let both = and_parts (is_bound S x) (list_all (is_bound S) row) bound in
+        let first = type_use x w same in
+        let more = row_use row ns knows rest both.1 in
+        λ i. first i || more i
 
-      tell_first : (at : ℕ) (ss ts : List Symbol) → all_tell N I C at (ss ++ ts) ≡ true → (all_tell N I C at ss ≡ true) × (all_tell N I C (at + length ss) ts ≡ true)
-      tell_first at [] ts tells = let e : at ≡ at + 0 = omega arith in (refl, ap (λ x. all_tell N I C x ts) (sym e) ∙ tells)
-      tell_first at (s ∷ ss) ts tells =
-          let both = and_parts (tells_cell N I C at s) (all_tell N I C (at + 1) (ss ++ ts)) tells in
-          let rest = tell_first (at + 1) ss ts both.1 in
-          let e : at + 1 + length ss ≡ at + suc (length ss) = omega arith in
-          (ap (λ b. b && all_tell N I C (at + 1) ss) both.0 ∙ rest.0, ap (λ x. all_tell N I C x ts) (sym e) ∙ rest.1)
+    -- ---- parts
 
-      rows_marks : (at : ℕ) (rs : List Resolved) (ts : List Symbol) → all_tell N I C at (told_symbols N I rs ++ ts) ≡ true
-          → ((i j : ℕ) (r : Resolved) (e : InputSymbol) → slice_get rs i ≡ Some r → slice_get r.symbols j ≡ Some e → HeldEntry N e)
-          → ((i j : ℕ) (r : Resolved) (m : Meaning) → slice_get rs i ≡ Some r → slice_get r.meanings j ≡ Some m → IsImported I m)
-          → list_any (is_at n) (all_marks strong used C at (told_symbols N I rs)) ≡ list_any (same_import k) (flat_map (λ (r : Resolved). zip_weak Shared p parts L r.symbols r.meanings) rs)
-      rows_marks at [] ts tells held known = refl
-      rows_marks at (r ∷ rs) ts tells held known =
-          let mine = told_all N I r.symbols r.meanings in
-          let others = told_symbols N I rs in
-          let split = tell_first at mine (others ++ ts) (ap (λ ss. all_tell N I C at ss) (sym (append_assoc mine others ts)) ∙ tells) in
-          let first = row_marks at r.symbols r.meanings split.0 (λ j e there. held 0 j r e refl there) (λ j m there. known 0 j r m refl there) in
-          let rest = rows_marks (at + length mine) rs ts split.1 (λ i j x e a b. held (suc i) j x e a b) (λ i j x m a b. known (suc i) j x m a b) in
-          all_any at mine others
-          ∙ (λ i. first i || rest i)
-          ∙ sym (list_any-append (same_import k) (zip_weak Shared p parts L r.symbols r.meanings) (flat_map (λ (r : Resolved). zip_weak Shared p parts L r.symbols r.meanings) rs))
+    parts_use : (ns : List ℕ) (xs : List rules.Part) → All (KnowsSharedRef N I) (refs_of xs) → map (slice_get p.parts) ns ≡ map Some xs → list_all (bound_part d.program.tables.now) ns ≡ true
+        → list_any (is_at n) (flat_map (part_uses strong C d.program.tables.now) ns) ≡ list_any UsesIt (refs_of xs)
+    parts_use [] [] knows e bound = refl
+    parts_use [] (x ∷ xs) knows e bound = absurd cc
+    parts_use (m ∷ ns) [] knows e bound = absurd cc
+    parts_use (m ∷ ns) (x ∷ xs) knows e bound =
+        let at : slice_get p.parts m ≡ Some x = cc in
+        let rest : map (slice_get p.parts) ns ≡ map Some xs = cc in
+        let both = and_parts (bound_part d.program.tables.now m) (list_all (bound_part d.program.tables.now) ns) bound in
+        let first = row_use (row_at d.program.tables.now m) x.named (first_ones (KnowsSharedRef N I) (refs x) (refs_of xs) knows) (row_told N I d.program.tables.now p is.program.tables m x at) both.0 in
+        let more = parts_use ns xs (last_ones (KnowsSharedRef N I) (refs x) (refs_of xs) knows) rest both.1 in
+        list_any-append (is_at n) (part_uses strong C d.program.tables.now m) (flat_map (part_uses strong C d.program.tables.now) ns)
+        ∙ (λ i. first i || more i)
+        ∙ sym (list_any-append UsesIt (refs x) (refs_of xs))
 
-      -- variants are null
-      variant_marks : (at : ℕ) (vs : List InputSymbol) → list_any (is_at n) (all_marks strong used C at (map (told_variant N I) vs)) ≡ false
-      variant_marks at [] = refl
-      variant_marks at (v ∷ vs) = variant_marks (at + 1) vs
-
-      -- By the number of an import: whether it is made for names alone of which all entries are WEAK.
-      pub weak_told : flag_at (weak_seen d.program live) n ≡ list_any (same_import k) (weak_imports Shared p parts L)
-      weak_told =
-          let symbols = is.program.tables.symbols in
-          flags_set (length I) (all_marks strong used C 0 d.program.tables.now.symbols) n (slice_get_within I n k at_n)
-          ∙ ap (λ ss. list_any (is_at n) (all_marks strong used C 0 ss)) symbols
-          ∙ all_any 0 (told_symbols N I p.resolved) (map (told_variant N I) p.variants)
-          ∙ (λ i. rows_marks 0 p.resolved (map (told_variant N I) p.variants) (ap (all_tell N I C 0) (sym symbols) ∙ all) symbols_held meanings_imported i || variant_marks (0 + length (told_symbols N I p.resolved)) p.variants i)
-          ∙ or_none (list_any (same_import k) (weak_imports Shared p parts L))
-        where
-          or_none : (b : Bool) → (b || false) ≡ b
-          or_none true = refl
-          or_none false = refl
+    -- By the number of an import: whether live parts use it by a name of which all entries are WEAK.
+    pub weak_told : (live : List ℕ) → AreLive p live parts → list_all (bound_part d.program.tables.now) live ≡ true → flag_at (weak_seen d.program live) n ≡ list_any (same_import k) (weak_imports Shared p parts L)
+    weak_told live lives bound =
+        flags_set (length I) (flat_map (part_uses strong C d.program.tables.now) live) n (slice_get_within I n k at_n)
+        ∙ parts_use live parts (refs_known Shared d.program p is.live.0 parts is.program is.stand is.live.1 is.meant) lives.are bound
+        ∙ sym (any_filter (λ ref. option_any (same_import k) (import_taken Shared p parts L ref)) (λ (ref : rules.Ref). is_weak_name Shared p parts L ref.entry) (refs_of parts))
+        ∙ sym (any_chosen (same_import k) (import_taken Shared p parts L) (filter (λ (ref : rules.Ref). is_weak_name Shared p parts L ref.entry) (refs_of parts)))

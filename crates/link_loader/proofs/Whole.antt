@@ -15,7 +15,7 @@ use Rattle.link_layout.specs.declared.values.Layout.{Layout}
 use Rattle.link_layout.specs.Layout.{looked, IsLayout}
 use Rattle.link_loader.specs.Cells.{all_tell}
 use Rattle.link_loader.specs.Words.{Loading, told_part, words_seen}
-use Rattle.link_loader.specs.Used.{bound_part}
+use Rattle.link_loader.specs.Bound.{bound_part}
 use Rattle.link_loader.specs.Section.{dylink_seen}
 use Rattle.link_loader.specs.Layout.{loading}
 use Rattle.link_loader.proofs.Stands.{Stands}

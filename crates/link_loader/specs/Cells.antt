@@ -1,7 +1,7 @@
 -- The cells of foreign addresses, by the numbers of their imports, as the data tell them.
 use Rattle.std.specs.Prelude.{ℕ, ◌+◌, ◌==◌, Bool, true, false, not, ◌&&◌, ◌||◌, List, [], ◌∷◌, slice_get, slice_index_or, if◌then◌else◌, Option, Some, None, unwrap_or}
 use Rattle.link_program.specs.wasm_types.declared.value.ValType.TheVariants.{I32}
-use Rattle.link_program.specs.linking_section.declared.symbol.SymbolKind.TheVariants.{Function, Datum}
+use Rattle.link_program.specs.linking_section.declared.symbol.SymbolKind.TheVariants.{Function, Datum, GlobalVar}
 use Rattle.link_program.specs.linking_section.Flags.{kind_code}
 use Rattle.link_program.specs.name_rules.Entries.{ImportKey, SymbolType, of_global, same_import}
 use Rattle.link_program.specs.name_meanings.Kept.{cell_key}
@@ -14,6 +14,9 @@ is_function s = kind_code s.kind == kind_code Function
 
 abbrev pub is_datum : Symbol → Bool
 is_datum s = kind_code s.kind == kind_code Datum
+
+abbrev pub is_global : Symbol → Bool
+is_global s = kind_code s.kind == kind_code GlobalVar
 
 -- What has an address.
 abbrev pub is_addressed : Symbol → Bool

@@ -1,6 +1,6 @@
 pub mod Cells
 pub mod Words
-pub mod Used
+pub mod Bound
 pub mod Weak
 pub mod Section
 pub mod Layout

@@ -1,15 +1,20 @@
 -- The imports that may be absent, as the data tell them.
-use Rattle.std.specs.Prelude.{ℕ, ◌+◌, ◌==◌, Bool, false, List, [], ◌∷◌, ◌++◌, map, fold, length, replicate, slice_index_or, if◌then◌else◌, Option, Some, None}
+use Rattle.std.specs.Prelude.{ℕ, ◌==◌, Bool, false, ◌||◌, List, [], ◌∷◌, ◌++◌, map, flat_map, fold, length, replicate, slice_index_or, if◌then◌else◌, Option, Some, None}
 use Rattle.link_program.specs.linking_section.declared.symbol.Symbol.{Symbol as Written}
 use Rattle.link_program.specs.linking_section.Flags.{is_weak}
+use Rattle.link_program.specs.reloc_section.declared.kinds.TheConstants as relocs
 use Rattle.link_program.specs.object_file.declared.object.Object.{Object}
 use Rattle.link_program.specs.declared.symbol.Lead.{Lead}
 use Rattle.link_program.specs.declared.symbol.Lead.TheVariants as leads
 use Rattle.link_program.specs.declared.symbol.Symbol.{Symbol}
-use Rattle.link_loader.specs.Cells.{is_addressed, cell_at}
+use Rattle.link_program.specs.declared.named.Named.{Named}
+use Rattle.link_program.specs.declared.named.Named.TheVariants as names
 use Rattle.link_program.specs.declared.program.Program.{Program}
+use Rattle.link_program.specs.declared.program.Tables.{Tables}
+use Rattle.link_program.specs.Look.{row_at}
+use Rattle.link_program.specs.Seen.{no_symbol}
 use Rattle.link_layout.specs.link_numbers.link_keys.Noted.{flagged}
-use Rattle.link_loader.specs.Used.{cells_used}
+use Rattle.link_loader.specs.Cells.{is_addressed, is_global, cell_at}
 
 abbrev pub flag_at : List Bool → ℕ → Bool
 flag_at flags n = slice_index_or flags n false
@@ -44,38 +49,34 @@ object_row row (Some o) = strong_row row o.symbols
 abbrev pub strong_names : ℕ → List ℕ → List (List (Option ℕ)) → List Object → List Bool
 strong_names count made rows objects = fold flagged (fold flagged (replicate count false) (map Some made)) (strong_rows rows objects)
 
--- ---- imports that are made for other names alone
+-- ---- imports that live parts use by other names
 
--- The import of the cell of a symbol that has an address.
-abbrev pub own_cell : List (Option ℕ) → ℕ → Symbol → Option ℕ
-own_cell cells at s = if is_addressed s then Some (cell_at cells at s) else None
+-- Of an imported symbol, by the type of a window's relocation: the import itself where it is called or a global, else the cell of its address.
+abbrev pub taken : List (Option ℕ) → ℕ → ℕ → Symbol → ℕ → Option ℕ
+taken cells kind at s n =
+    if (kind == relocs.FUNCTION_INDEX_LEB) || is_global s then Some n
+    else if is_addressed s then Some (cell_at cells at s) else None
 
--- The import that a symbol means; but its cell only where it is used as one.
-abbrev pub marks : List Bool → Option ℕ → ℕ → List (Option ℕ)
-marks used None n = Some n ∷ []
-marks used (Some c) n = (if c == n then None else Some n) ∷ (if flag_at used c then Some c else None) ∷ []
+-- The same, unless some entry of the name isn't WEAK.
+abbrev pub weak_named : List Bool → List (Option ℕ) → ℕ → ℕ → Symbol → ℕ → Option ℕ → Option ℕ
+weak_named strong cells kind at s n None = None
+weak_named strong cells kind at s n (Some k) = if flag_at strong k then None else taken cells kind at s n
 
-abbrev pub weak_named : List Bool → List Bool → List (Option ℕ) → ℕ → Symbol → ℕ → Option ℕ → List (Option ℕ)
-weak_named strong used cells at s n None = []
-weak_named strong used cells at s n (Some k) = if flag_at strong k then [] else marks used (own_cell cells at s) n
+abbrev pub weak_by : List Bool → List (Option ℕ) → ℕ → ℕ → Symbol → Lead → Option ℕ → Option ℕ
+weak_by strong cells kind at s (leads.Here d) name = None
+weak_by strong cells kind at s (leads.Import n) name = weak_named strong cells kind at s n name
+weak_by strong cells kind at s leads.Null name = None
+weak_by strong cells kind at s leads.Nothing name = None
 
-abbrev pub weak_by : List Bool → List Bool → List (Option ℕ) → ℕ → Symbol → Option ℕ → Lead → List (Option ℕ)
-weak_by strong used cells at s name (leads.Here d) = []
-weak_by strong used cells at s name (leads.Import n) = weak_named strong used cells at s n name
-weak_by strong used cells at s name leads.Null = []
-weak_by strong used cells at s name leads.Nothing = []
+-- The import that a window uses by a name of which all entries are WEAK.
+abbrev pub weak_use : List Bool → List (Option ℕ) → List Symbol → Named → Option ℕ
+weak_use strong cells symbols (names.Symbol kind place addend symbol) =
+    weak_by strong cells kind symbol (slice_index_or symbols symbol no_symbol) (slice_index_or symbols symbol no_symbol).lead (slice_index_or symbols symbol no_symbol).name
+weak_use strong cells symbols (names.Type place number) = None
 
--- The imports that are made for a symbol, if all entries of its name are WEAK.
-abbrev pub weak_marks : List Bool → List Bool → List (Option ℕ) → ℕ → Symbol → List (Option ℕ)
-weak_marks strong used cells at s = weak_by strong used cells at s s.name s.lead
-
--- The same for the symbols from a place on.
-abbrev pub all_marks : List Bool → List Bool → List (Option ℕ) → ℕ → List Symbol → List (Option ℕ)
-all_marks strong used cells at [] = []
-all_marks strong used cells at (s ∷ ss) = weak_marks strong used cells at s ++ all_marks strong used cells (at + 1) ss
+abbrev pub part_uses : List Bool → List (Option ℕ) → Tables → ℕ → List (Option ℕ)
+part_uses strong cells t n = map (weak_use strong cells t.symbols) (row_at t n)
 
 abbrev pub weak_seen : Program → List ℕ → List Bool
-weak_seen d live = fold flagged (replicate (length d.resolution.now.imports) false) (all_marks
-    (strong_names (length d.names.now.names) d.names.now.made d.names.now.symbols d.objects.now)
-    (cells_used d.tables.now d.resolution.now.cells (length d.resolution.now.imports) live)
-    d.resolution.now.cells 0 d.tables.now.symbols)
+weak_seen d live = fold flagged (replicate (length d.resolution.now.imports) false)
+    (flat_map (part_uses (strong_names (length d.names.now.names) d.names.now.made d.names.now.symbols d.objects.now) d.resolution.now.cells d.tables.now) live)

@@ -51,13 +51,13 @@ fn is_cell_type(kind: &ImportType) -> bool
 }
 
 // Whether this is the module of the cells of functions, or of data.
-fn is_module(function: bool, module: &[u8]) -> bool
-    ensures { result ≡ bytes_eq module.now (if function then codes "GOT.func" else codes "GOT.mem") }
+fn is_module(function: bool, name: &[u8]) -> bool
+    ensures { result ≡ bytes_eq name.now (if function then codes "GOT.func" else codes "GOT.mem") }
 {
     if function {
-        module == b"GOT.func".as_slice()
+        name == b"GOT.func".as_slice()
     } else {
-        module == b"GOT.mem".as_slice()
+        name == b"GOT.mem".as_slice()
     }
 }
 

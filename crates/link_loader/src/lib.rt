@@ -2,13 +2,13 @@
 #![tactic(auto)]
 
 mod all_words;
+mod bound;
 mod cells;
 mod own;
 mod placed;
 mod section;
 #[cfg(test)]
 mod tests;
-mod used;
 mod weak;
 mod windows;
 

@@ -11,11 +11,11 @@ ghost use Rattle.link_program.specs.made_symbols.Made.{made};
 ghost use Rattle.link_program.specs.Live.{Stage, AreLive};
 ghost use Rattle.link_layout.specs.Layout.{looked, IsLayout};
 ghost use Rattle.link_loader.specs.Section.{content_align, align_at, greatest_align, info_seen, function_info, global_info, infos_seen, dylink_seen};
-ghost use Rattle.link_loader.specs.Used.{bound_part};
+ghost use Rattle.link_loader.specs.Bound.{bound_part};
 ghost use Rattle.link_loader.specs.Cells.{all_tell};
 
+use crate::bound::all_are_bound;
 use crate::cells::all_tell;
-use crate::used::all_are_bound;
 use crate::weak::{flag_at, weak_imports};
 use dylink_out::{Dylink, ImportInfo};
 use link_layout::Layout;

@@ -1,17 +1,30 @@
-//! The imports that may be absent when a shared output is loaded: those that are made for names of which all entries are WEAK.
-ghost use Rattle.std.specs.Prelude.{◌≡◌, ◌==◌, if◌then◌else◌, Some, None, fold, map, length, slice_get, slice_index_or, [], IfOk};
+//! The imports that may be absent when a shared output is loaded: those that live parts use by a name of which all entries are WEAK. A window uses the
+//! import that it calls or reads, or the cell from which it takes an address.
+ghost use Rattle.std.specs.Prelude.{◌≡◌, Some, fold, map, flat_map, length, slice_get, slice_index_or, [], IfOk};
 ghost use Rattle.link_program.specs.object_columns.Seen.{symbol_seen};
 ghost use Rattle.link_layout.specs.link_numbers.link_keys.Noted.{flagged};
 ghost use Rattle.link_program.specs.made_symbols.declared.mode.Mode.TheVariants.{Shared};
 ghost use Rattle.link_program.specs.made_symbols.Made.{made};
-ghost use Rattle.link_loader.specs.Weak.{flag_at, strong_of, noted_at, strong_row, object_row, strong_rows, strong_names, own_cell, marks, weak_marks, all_marks, weak_seen};
+ghost use Rattle.link_loader.specs.Weak.{flag_at, strong_of, noted_at, strong_row, object_row, strong_rows, strong_names, taken, weak_by, weak_use, part_uses, weak_seen};
 
 use crate::cells::{cell_at, is_addressed};
-use crate::used::{cells_used, flag};
-use link_program::{Lead, Names, Object, Program, Resolution, Symbol, SymbolRef, symbol_at};
+use link_program::{Lead, Named, Names, Object, Program, Symbol, SymbolRef, row_at, symbol_at};
+use linking_section::SymbolKind;
 use made_symbols::{Mode, count};
+use reloc_section::kinds;
 use std::alloc::Global;
 use wl_base::OutOfMemory;
+
+// Flags a number, if there is one.
+fn flag(flags: &mut [bool], number: Option<u32>)
+    ensures { flags.new ≡ flagged flags.old number }
+{
+    if let Some(number) = number {
+        if (number as usize) < flags.len() {
+            flags[number as usize] = true;
+        }
+    }
+}
 
 /// The flag of a number.
 #[tactic(auto, using(link_program::proofs::ReadAt::read))]
@@ -97,86 +110,84 @@ fn strong_names(alloc: Global, names: &Names, objects: &[Object]) -> Result<Vec<
     Ok(flags)
 }
 
-// The import of the cell of a symbol that has an address.
-fn own_cell(resolution: &Resolution, at: u32, symbol: Symbol) -> Option<u32>
-    ensures { result ≡ own_cell resolution.now.cells at symbol }
+// Of an imported symbol, by the type of a window's relocation: the import itself where it is called or a global, else the cell of its address.
+fn taken(program: Program<'_>, kind: u8, at: u32, symbol: Symbol, number: u32) -> Option<u32>
+    ensures { result ≡ taken program.entry.resolution.now.cells kind at symbol number }
 {
-    if is_addressed(symbol) {
-        Some(cell_at(resolution, at, symbol))
+    if kind == kinds::FUNCTION_INDEX_LEB || symbol.kind == SymbolKind::GlobalVar {
+        Some(number)
+    } else if is_addressed(symbol) {
+        Some(cell_at(program.resolution, at, symbol))
     } else {
         None
     }
 }
 
-// The cell, where it is used as one.
-fn where_used(used: &[bool], cell: u32) -> Option<u32>
-    ensures { result ≡ (if flag_at used.now cell then Some cell else None) }
+// The import that a window uses, if all entries of its symbol's name are WEAK. `strong` flags the names of which some entry isn't.
+fn weak_by(program: Program<'_>, strong: &[bool], kind: u8, at: u32, symbol: Symbol) -> Option<u32>
+    ensures { result ≡ weak_by strong.now program.entry.resolution.now.cells kind at symbol symbol.lead symbol.name }
 {
-    if flag_at(used, cell) {
-        Some(cell)
-    } else {
-        None
-    }
-}
-
-// Flags the import that a symbol means; but its cell only where it is used as one.
-fn mark(flags: &mut [bool], used: &[bool], cell: Option<u32>, number: u32)
-    ensures { flags.new ≡ fold flagged flags.old (marks used.now cell number) }
-{
-    match cell {
-        None => flag(flags, Some(number)),
-        Some(cell) => {
-            flag(flags, unless_same(cell, number));
-            flag(flags, where_used(used, cell));
-        }
-    }
-}
-
-// The number, unless it is that of the cell.
-fn unless_same(cell: u32, number: u32) -> Option<u32>
-    ensures { result ≡ (if cell == number then None else Some number) }
-{
-    if cell == number { None } else { Some(number) }
-}
-
-/// What is known of names and of cells.
-#[derive(Clone, Copy)]
-struct Known<'a> {
-    /// By the number of a name, whether some entry of it isn't WEAK.
-    strong: &'a [bool],
-    /// By the number of an import, whether live parts use it as a cell.
-    used: &'a [bool],
-    resolution: &'a Resolution,
-}
-
-// Flags the imports that are made for a symbol, if all entries of its name are WEAK.
-fn note_import(flags: &mut [bool], known: Known<'_>, at: u32, symbol: Symbol)
-    ensures { flags.new ≡ fold flagged flags.old (weak_marks known.entry.strong.now known.entry.used.now known.entry.resolution.now.cells at symbol) }
-{
-    let Some(name) = symbol.name else {
-        return;
-    };
     let Lead::Import(number) = symbol.lead else {
-        return;
+        return None;
     };
-    if !flag_at(known.strong, name) {
-        let cell = own_cell(known.resolution, at, symbol);
-        mark(flags, known.used, cell, number);
+    let Some(name) = symbol.name else {
+        return None;
+    };
+    if flag_at(strong, name) {
+        None
+    } else {
+        taken(program, kind, at, symbol, number)
     }
 }
 
-// Flags the imports that are made for each of these symbols.
-#[tactic(auto, using(crate::proofs::Flagged::marks_more, crate::proofs::Flagged::marks_ended))]
-fn note_imports(flags: &mut [bool], known: Known<'_>, symbols: &[Symbol], count: u32)
-    requires { length symbols.now ≡ count }
-    ensures { flags.new ≡ fold flagged flags.old (all_marks known.entry.strong.now known.entry.used.now known.entry.resolution.now.cells 0 symbols.now) }
+// The same, by the window.
+fn weak_use(program: Program<'_>, strong: &[bool], named: Named) -> Option<u32>
+    ensures { result ≡ weak_use strong.now program.entry.resolution.now.cells program.entry.tables.now.symbols named }
 {
-    for at in 0..count {
-        note_import(flags, known, at, symbol_at(symbols, at));
+    match named {
+        Named::Symbol {
+            kind,
+            place: _,
+            addend: _,
+            symbol: at,
+        } => {
+            let symbol = symbol_at(program.tables.symbols.as_slice(), at);
+            weak_by(program, strong, kind, at, symbol)
+        }
+        Named::Type {
+            place: _,
+            number: _,
+        } => None,
     }
 }
 
-/// By the number of an import, whether it is made for names alone of which all entries are WEAK.
+// Flags the imports that a part uses so.
+fn note_row(flags: &mut [bool], program: Program<'_>, strong: &[bool], row: &[Named])
+    ensures { flags.new ≡ fold flagged flags.old (map (weak_use strong.now program.entry.resolution.now.cells program.entry.tables.now.symbols) row.now) }
+{
+    for named in row {
+        flag(flags, weak_use(program, strong, *named));
+    }
+}
+
+// The same, by the part's number.
+fn note_part(flags: &mut [bool], program: Program<'_>, strong: &[bool], number: u32)
+    ensures { flags.new ≡ fold flagged flags.old (part_uses strong.now program.entry.resolution.now.cells program.entry.tables.now number) }
+{
+    note_row(flags, program, strong, row_at(program.tables, number));
+}
+
+// The same of these parts.
+#[tactic(auto, using(crate::proofs::Flagged::folded))]
+fn note_parts(flags: &mut [bool], program: Program<'_>, strong: &[bool], live: &[u32])
+    ensures { flags.new ≡ fold flagged flags.old (flat_map (part_uses strong.now program.entry.resolution.now.cells program.entry.tables.now) live.now) }
+{
+    for number in live {
+        note_part(flags, program, strong, *number);
+    }
+}
+
+/// By the number of an import, whether live parts use it by a name of which all entries are WEAK.
 pub(crate) fn weak_imports(
     alloc: Global,
     program: Program<'_>,
@@ -186,17 +197,7 @@ pub(crate) fn weak_imports(
     ensures { IfOk result (λ flags. flags.items ≡ weak_seen program.entry live.now) }
 {
     let strong = strong_names(alloc, program.names, program.objects)?;
-    let used = cells_used(alloc, program, live)?;
-    let known = Known {
-        strong: strong.as_slice(),
-        used: used.as_slice(),
-        resolution: program.resolution,
-    };
-    let symbols = program.tables.symbols.as_slice();
-    let Ok(count) = u32::try_from(symbols.len()) else {
-        return Err(OutOfMemory);
-    };
     let mut flags = vec![in alloc; false; program.resolution.imports() as usize]?;
-    note_imports(flags.as_mut_slice(), known, symbols, count);
+    note_parts(flags.as_mut_slice(), program, strong.as_slice(), live);
     Ok(flags)
 }

@@ -1,12 +1,11 @@
 -- What the function of a shared output makes right when it is loaded, and what its loader is told (DynamicLinking.md).
-use Rattle.std.specs.Prelude.{ℕ, ◌+◌, max, Bool, true, false, not, ◌&&◌, ◌||◌, ◌==◌, List, [], ◌∷◌, ◌++◌, map, filter, filter_map, flat_map, if◌then◌else◌, Option, Some, None, pos, ◌+ℤ◌}
+use Rattle.std.specs.Prelude.{ℕ, ◌+◌, max, Bool, true, false, ◌==◌, List, [], ◌∷◌, ◌++◌, map, filter, filter_map, flat_map, if◌then◌else◌, Option, Some, None, pos, ◌+ℤ◌}
 use Rattle.std.specs.List.{list_any, list_all}
-use Rattle.name_rules.specs.object_file.linking_section.declared.symbol.SymbolKind.TheVariants.{Function, Datum}
+use Rattle.name_rules.specs.object_file.linking_section.declared.symbol.SymbolKind.TheVariants.{Function}
 use Rattle.name_rules.specs.object_file.linking_section.Flags.{is_weak}
 use Rattle.name_rules.specs.object_file.reloc_section.declared.kinds.TheConstants as relocs
 use Rattle.made_symbols.specs.declared.mode.Mode.{Mode}
-use Rattle.name_rules.specs.Entries.{InputSymbol, ImportKey, is_kind, is_entry, named, name_of, same_import}
-use Rattle.name_rules.specs.Meanings.{Meaning, here, imported, null, nothing, cell_of}
+use Rattle.name_rules.specs.Entries.{InputSymbol, ImportKey, is_kind, named, name_of, same_import}
 use Rattle.reloc_apply.specs.Windows.{bits32}
 use Rattle.dylink_out.specs.declared.dylink.Dylink.{Dylink}
 use Rattle.dylink_out.specs.declared.dylink.ImportInfo.{ImportInfo}
@@ -15,8 +14,8 @@ use Rattle.dylink_out.specs.declared.word.WordPlace.TheVariants.{Window as Windo
 use Rattle.dylink_out.specs.declared.word.WordValue.{WordValue}
 use Rattle.dylink_out.specs.declared.word.WordValue.TheVariants.{OwnDatum, OwnFunction, ForeignDatum, ForeignFunction}
 use Rattle.link_rules.specs.Program.{Program, Part, Ref, refs}
-use Rattle.link_rules.specs.Marks.{is_foreign}
-use Rattle.link_rules.specs.Keys.{FunctionKey, GlobalKey, GotKey, got_entry, got_import, got_null, outside, linker_function, stub, own, outside_global, linker_global, own_global, got, exported_datum, cell_key, global_number, has_import, foreign_cells}
+use Rattle.link_rules.specs.Marks.{refs_of, is_foreign}
+use Rattle.link_rules.specs.Keys.{FunctionKey, GlobalKey, GotKey, got_entry, got_import, got_null, outside, linker_function, stub, own, outside_global, linker_global, own_global, got, exported_datum, cell_key, global_number, import_of, imports_by, foreign_cell}
 use Rattle.link_rules.specs.Values.{Layout, segments, solid_segments, slot_count, segment_address, got_value, meant_address, ref_slot, content_align}
 
 abbrev pub greatest : List ℕ → ℕ
@@ -59,33 +58,17 @@ module _ (mode : Mode) (p : Program) (parts : List Part) (l : Layout) where
   abbrev pub words : List WordReloc
   words = flat_map segment_words (solid_segments p parts) ++ filter_map got_word l.numbers.globals
 
-  -- ---- imports that may be absent: those that were made for a name of which all references are WEAK
+  -- ---- imports that may be absent: those that live parts use by a name of which all references are WEAK
 
   abbrev pub is_weak_name : InputSymbol → Bool
   is_weak_name e = list_all (λ f. is_weak f.symbol) (named p.entries (name_of e))
 
-  -- The imports that are made for a WEAK name: the one that its symbols mean, but the cell of an address only where live parts use it.
-  abbrev pub has_cell : InputSymbol → Bool
-  has_cell e = is_kind Function e || is_kind Datum e
-
-  abbrev pub imports_for : InputSymbol → ImportKey → List ImportKey
-  imports_for e k =
-      filter (λ i. not (has_cell e && same_import i (cell_of e))) (k ∷ [])
-      ++ filter (λ i. has_cell e && has_import (foreign_cells parts) i) (cell_of e ∷ [])
-
-  abbrev pub weak_meaning : InputSymbol → Meaning → List ImportKey
-  weak_meaning e (imported k) = if is_weak_name e then imports_for e k else []
-  weak_meaning e (here d) = []
-  weak_meaning e null = []
-  weak_meaning e nothing = []
-
-  abbrev pub zip_weak : List InputSymbol → List Meaning → List ImportKey
-  zip_weak [] ms = []
-  zip_weak (e ∷ es) [] = []
-  zip_weak (e ∷ es) (m ∷ ms) = (if is_entry e then weak_meaning e m else []) ++ zip_weak es ms
+  -- The import that a reference uses: the function that it calls or the global that it names, or the cell of an address.
+  abbrev pub import_taken : Ref → Option ImportKey
+  import_taken ref = if imports_by mode ref then import_of ref.meaning else foreign_cell ref
 
   abbrev pub weak_imports : List ImportKey
-  weak_imports = flat_map (λ r. zip_weak r.symbols r.meanings) p.resolved
+  weak_imports = filter_map import_taken (filter (λ ref. is_weak_name ref.entry) (refs_of parts))
 
   abbrev pub function_key_import : FunctionKey → Option ImportKey
   function_key_import (outside k) = Some k

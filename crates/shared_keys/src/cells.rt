@@ -37,13 +37,13 @@ pub(crate) fn asks_cell(kind: u8, symbol: Symbol) -> bool
 }
 
 /// Whether this is the module of the cells of functions, or of data.
-fn is_module(function: bool, module: &[u8]) -> bool
-    ensures { result ≡ bytes_eq module.now (if function then codes "GOT.func" else codes "GOT.mem") }
+fn is_module(function: bool, name: &[u8]) -> bool
+    ensures { result ≡ bytes_eq name.now (if function then codes "GOT.func" else codes "GOT.mem") }
 {
     if function {
-        module == FUNCTION_CELLS.as_bytes()
+        name == FUNCTION_CELLS.as_bytes()
     } else {
-        module == DATA_CELLS.as_bytes()
+        name == DATA_CELLS.as_bytes()
     }
 }
 
@@ -58,10 +58,10 @@ fn is_cell_type(kind: &ImportType) -> bool
 }
 
 /// Whether an import of this module, field and type is the cell of a name.
-fn agrees(function: bool, module: &[u8], field: &[u8], kind: &ImportType, name: &[u8]) -> bool
-    ensures { result ≡ agrees function module.now field.now (type_kept kind.now) name.now }
+fn agrees(function: bool, from: &[u8], field: &[u8], kind: &ImportType, name: &[u8]) -> bool
+    ensures { result ≡ agrees function from.now field.now (type_kept kind.now) name.now }
 {
-    is_module(function, module) && field == name && is_cell_type(kind)
+    is_module(function, from) && field == name && is_cell_type(kind)
 }
 
 /// Whether an import is the cell of a name.

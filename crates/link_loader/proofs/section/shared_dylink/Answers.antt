@@ -1,7 +1,7 @@
 use Rattle.std.proofs.Common.{rules, ◌≡◌, true, ◌∙◌}
 use Rattle.std.specs.List.{list_all}
 use Rattle.link_loader.specs.Cells.{all_tell}
-use Rattle.link_loader.specs.Used.{bound_part}
+use Rattle.link_loader.specs.Bound.{bound_part}
 use Rattle.link_loader.proofs.Whole.{dylink_is, made_count}
 use Rattle.link_loader.proofs.section.shared_dylink.Goals as goal
 
