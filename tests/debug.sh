@@ -1,7 +1,7 @@
 #!/usr/bin/env bash
 # Links objects that clang makes with -g, and compares what LLVM's tools read of the module's debug sections with what they read of wasm-ld's module: of C
-# with a library and dead functions, and of C++ with functions that two objects define, as DWARF 4 and 5. Then a trap's place under node, what drivers' words
-# do, and the faults of debug sections. Skipped where a tool isn't installed. The linker is $WASMLD, or else bin/wasmld, and under its other name bin/wasm-ld.
+# with a library and dead functions, of C++ with functions that two objects define, and of a side module, as DWARF 4 and 5. Then a trap's place under node, what
+# drivers' words do, and the faults of debug sections. Skipped where a tool isn't installed. The linker is $WASMLD, or else bin/wasmld, and under its other name bin/wasm-ld.
 # The last line is 'N passed, M failed'.
 set -u
 top=$(cd "$(dirname "${BASH_SOURCE[0]}")/.." && pwd)
@@ -55,6 +55,15 @@ keeps() {
   grep -qw '.debug_info' names.txt && grep -qw '.debug_line' names.txt && ! grep -qwv '\.debug_[a-z_]*' names.txt
 }
 
+# The same C as position-independent code, of which one object exports all its names.
+compile_side() {
+  local flags=(--target=wasm32-unknown-emscripten -fPIC -mno-bulk-memory "$level" "-gdwarf-$version") source
+  clang "${flags[@]}" -fvisibility=default -c "$sources/program.c" -o side_program.o || return 1
+  for source in scaled counted unneeded; do
+    clang "${flags[@]}" -c "$sources/$source.c" -o "side_$source.o" || return 1
+  done
+}
+
 # What the verifier finds wrong with a module, without places.
 found_wrong() {
   llvm-dwarfdump --verify "$1" 2>&1 | grep -iE '^(error|warning)' | sed -E 's/0x[0-9a-f]+/N/g' | sort
@@ -76,6 +85,18 @@ compare() {
   expect "wasm-ld links it" wasm-ld --no-entry "$@" -o "$name.theirs"
   expect "the verifier finds nothing of its own in it" is_sound "$name.wasm" "$name.theirs"
   expect "each function has the lines that it has in wasm-ld's" python3 "$sources/lines.py" same "$name.wasm" "$name.theirs"
+}
+
+# A side module: its data count from where a loader puts them.
+compare_side() {
+  local objects=(side_program.o side_scaled.o side_counted.o side_unneeded.o)
+  expect "C for a side module, DWARF $version $level, is compiled" compile_side
+  expect "its debug sections are kept" keeps side.wasm side.plain -shared --export-dynamic "${objects[@]}"
+  expect "wasm-ld links it" wasm-ld -shared --experimental-pic "${objects[@]}" -o side.theirs
+  expect "the verifier finds nothing of its own in it" is_sound side.wasm side.theirs
+  expect "each function has the lines that it has in wasm-ld's" python3 "$sources/lines.py" same side.wasm side.theirs
+  expect "data have their addresses" python3 "$sources/data.py" side.wasm table=1 factor=3
+  command -v node >/dev/null && expect "a trap's place is a line" traps_at side.wasm look program.c:9
 }
 
 # Takes the module without debug sections by own words, and drivers' words: debug sections are kept, but where a word strips them.
@@ -179,9 +200,11 @@ for level in -O0 -O2; do
     compare c program.o lib.a
     compare cpp shapes.o shapes_other.o
     command -v node >/dev/null && expect "a trap's place is a line" traps_at c.wasm look program.c:9
+    compare_side
   done
 done
 drivers_keep --no-entry program.o lib.a
+drivers_keep -shared --export-dynamic side_program.o side_scaled.o
 faults
 with_libraries
 

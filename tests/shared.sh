@@ -50,7 +50,7 @@ places_are_ignored() {
     cmp placed.wasm first.wasm
 }
 
-# Under the name that compilers call, definitions are exported without a word, and debug sections left out.
+# Under the name that compilers call, definitions are exported without a word.
 same_by_name() {
   ln -s "$wasmld" wasm-ld && ./wasm-ld -shared --experimental-pic -o named.wasm first.o && cmp named.wasm first.wasm
 }

@@ -56,6 +56,17 @@ def joined():
     same(module[-len(tail) :], tail, "the sections")
 
 
+@row("they stand behind a shared output too, where data count from __memory_base, and the linker's globals are imports")
+def shared():
+    one = object_of(CALLS, PLACES)
+    module = bytes(linked([one], "--export=f", "-shared").data)
+    same(bytes(linked([one], "--export=f", "-shared", "--keep-debug").data), module + SECTION_OF_F + hexa("0B 00 00 00"), "the module and its section")
+    two = Object().segment([bytes(range(1, 9))]).datum("d", 0, 4).needs_global("__memory_base", var=False).custom(".debug_x", bytes(8))
+    two.custom("reloc..debug_x", hexa("03 02 05 00 00 02 0D 04 01"))
+    tail = custom(".debug_x", hexa("06 00 00 00 01 00 00 00"))
+    same(bytes(linked([two], "--export=d", "-shared", "--keep-debug").data)[-len(tail) :], tail, "the section")
+
+
 @row("a generated case has none")
 def case():
     plain = run(["--make-case=3", "-o", "out"], {})

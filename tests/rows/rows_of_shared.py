@@ -1,6 +1,6 @@
 """Shared outputs: position-independent modules with the section dylink.0, which a loader places (DynamicLinking.md)."""
 
-from modules import Module
+from modules import Module, Reader
 from objects import *
 from program import NODE, answers, holds, node, row, run_alike, same
 from samples import CALL_OBJECT
@@ -105,3 +105,36 @@ def slots():
     same(module.elements, [(0, ("global", 2), [module.export("f")[1] + 1])], "the elements")
     same(module.body("f"), hexa("00 41 80 80 80 80 00 1A 0B"), "the body")
     same(module.data[8:25], hexa("00 0F 08 64 79 6C 69 6E 6B 2E 30 01 04 00 00 01 00"), "the section dylink.0")
+
+
+def may_be_absent(module):
+    """The imports that the section dylink.0 tells as such."""
+    payloads = dict(module.customs)
+    parts, infos = Reader(payloads["dylink.0"]), []
+    while not parts.done():
+        kind, part = parts.byte(), Reader(parts.take(parts.u32()))
+        if kind == 4:
+            infos = part.vector(lambda: (part.name(), part.name(), part.u32()))
+    same([flags for _, _, flags in infos], [1] * len(infos), "the flags")
+    return [(module, field) for module, field, _ in infos]
+
+
+@row("an import may be absent where live parts use it by a WEAK name: a function that is called, a global, the cell of an address")
+def weak_uses():
+    object = Object().needs("called", flags=WEAK).needs("asked", flags=WEAK).needs_global("g", flags=WEAK).needs_datum("x", WEAK).needs("s")
+    object.data("d", [word("x")]).function("f", [call("called"), call("s"), global_get("asked"), DROP, global_get("g"), DROP])
+    module = shared(object, "--export=f", "--export=d")
+    same(may_be_absent(module), [("env", "called"), ("GOT.func", "asked"), ("GOT.mem", "x"), ("env", "g")], "the imports")
+    same(module.imported("function"), [("env", "called"), ("env", "s")], "the imported functions")
+
+
+@row("an import isn't told to be absent for a WEAK name that no live part uses, where a strong name uses it, or the linker does")
+def weak_unused():
+    object = Object().needs_global("sp", flags=WEAK, field="__stack_pointer").function("f")
+    same(may_be_absent(shared(object, "--export=f")), [], "beside the stack pointer")
+    object = Object().needs("s", module="m", field="i").needs("w", flags=WEAK, module="m", field="i").function("f", call("s"))
+    same(may_be_absent(shared(object, "--export=f")), [], "beside a function that is called")
+    object = Object().needs_global("s", module="m", field="i").needs_global("w", flags=WEAK, module="m", field="i").function("f", [global_get("s"), DROP])
+    same(may_be_absent(shared(object, "--export=f")), [], "beside a global")
+    object = Object().needs_datum("x").needs_global("w", flags=WEAK, module="GOT.mem", field="x").function("f", [global_get("x"), DROP])
+    same(may_be_absent(shared(object, "--export=f")), [], "beside the cell of a datum")

@@ -131,5 +131,5 @@ made_more at n old new x lt so_far is pushed =
     let few : n < length (made_data at) = lt in
     pushed ∙ (ap (λ ys. ys ++ x ∷ []) so_far ∙ (ap (λ y. take n (made_data at) ++ y ∷ []) is ∙ sym (take_more (made_data at) n 0 few)))
 
-pub made_all : (at : Places) (n : ℕ) (table : List ℕ) → length (made Plain) ≤ n → table ≡ take n (made_data at) → AreMade table at
+pub made_all : (at : Places) (n : ℕ) (table : List ℕ) → length (made Plain) ≤ n → table ≡ take n (made_data at) → AreMade Plain table at
 made_all at n table le so_far k = ap (λ ys. slice_index_or ys k 0) (so_far ∙ take_all n (made_data at) le)

@@ -2,6 +2,7 @@ pub mod Found
 pub mod Keys
 pub mod Trees
 pub mod Starts
+pub mod Linkers
 pub mod Meanings
 pub mod Homes
 pub mod All

@@ -2,7 +2,6 @@
 use Rattle.std.specs.Prelude.{List}
 use Rattle.link_program.specs.round_rules.Rounds.{Candidate}
 use Rattle.link_program.specs.image_emit.Bytes.{Tree, tree_of}
-use Rattle.link_program.specs.made_symbols.declared.mode.Mode.{Mode}
 use Rattle.link_program.specs.link_rules.ModeOf.{mode_of}
 use Rattle.link_program.specs.link_rules.Output.{layout, image}
 use Rattle.link_program.specs.Live.{Stage}
@@ -12,10 +11,6 @@ pub record LoadedStage : Type 0 where
   pub stage : Stage
   pub all : List Candidate
 
--- The output of a stage before its windows are written.
-abbrev pub the_tree_in : Mode → Stage → Tree
-the_tree_in mode s = tree_of s.program.files (image mode s.program s.parts s.exports (layout mode s.program s.parts s.exports))
-
--- That which its plan asks for.
+-- The output of a stage, which its plan asks for, before its windows are written.
 abbrev pub the_tree : Stage → Tree
-the_tree s = the_tree_in (mode_of s.program.plan) s
+the_tree s = let mode = mode_of s.program.plan in tree_of s.program.files (image mode s.program s.parts s.exports (layout mode s.program s.parts s.exports))

@@ -1,23 +1,24 @@
 //! Addresses of live data.
 ghost use Rattle.std.specs.Prelude.{◌≡◌, slice_index_or, IfOk};
 ghost use Rattle.link_program.specs.made_symbols.declared.mode.Mode.TheVariants as modes;
+ghost use Rattle.link_program.specs.link_rules.ModeOf.{mode_of};
 ghost use Rattle.link_program.specs.link_rules.Values.{made_data};
 ghost use Rattle.link_program.specs.Live.{Stage};
-ghost use Rattle.link_layout.specs.Layout.{IsLayoutIn};
+ghost use Rattle.link_layout.specs.Layout.{IsLayout, IsLayoutIn};
 ghost use Rattle.debug_places.specs.Found.{AreMade};
 ghost use Rattle.debug_places.specs.Seen.{seen, address_at, segment_address};
 
 use crate::live::is_marked;
 use crate::rows::View;
 use link_layout::Layout;
-use link_program::{Definition, chunk_number};
+use link_program::{Definition, chunk_number, mode_of};
 use linking_section::SymbolKind;
 use made_symbols::{Mode, count};
 use mark_bits::{Chunk, kinds};
 use std::alloc::Global;
 use wl_base::{OutOfMemory, Seq};
 
-/// The address of the linker's datum of a number.
+/// The address of the linker's datum of a number, in a plain output.
 fn made_address(layout: Layout<'_>, number: u32) -> u64
     ghost s: { Stage }
     requires { IsLayoutIn modes.Plain s.program s.parts s.exports layout }
@@ -32,17 +33,30 @@ fn made_address(layout: Layout<'_>, number: u32) -> u64
     })
 }
 
-/// The addresses of the linker's own data, by their numbers.
-pub(crate) fn made_addresses(alloc: Global, layout: Layout<'_>) -> Result<Seq<u64>, OutOfMemory>
+/// The addresses of the linker's own data in a plain output, by their numbers.
+fn plain_addresses(alloc: Global, layout: Layout<'_>) -> Result<Seq<u64>, OutOfMemory>
     ghost s: { Stage }
     requires { IsLayoutIn modes.Plain s.program s.parts s.exports layout }
-    ensures { IfOk result (λ made. AreMade made layout.entry.placed.now.places) }
+    ensures { IfOk result (λ made. AreMade modes.Plain made layout.entry.placed.now.places) }
 {
     let mut made = Seq::new(alloc);
     for number in 0..count(Mode::Plain) {
         made.push(made_address(layout, number))?;
     }
     Ok(made)
+}
+
+/// The same in either output. The linker's one datum of a shared output stands at 0, where no address
+/// is told.
+pub(crate) fn made_addresses(alloc: Global, layout: Layout<'_>) -> Result<Seq<u64>, OutOfMemory>
+    ghost s: { Stage }
+    requires { IsLayout s.program s.parts s.exports layout }
+    ensures { IfOk result (λ made. AreMade (mode_of s.program.plan) made layout.entry.placed.now.places) }
+{
+    match mode_of(layout.program.plan) {
+        Mode::Plain => plain_addresses(alloc, layout),
+        Mode::Shared => Ok(Seq::new(alloc)),
+    }
 }
 
 /// The number at a place, or 0.
@@ -75,7 +89,7 @@ fn segment_address(view: View<'_>, offset: u32, part: Option<u32>) -> Option<u64
     if !is_marked(view.live, number) {
         return None;
     }
-    let begin = address_or_none(view.placed.addresses.as_slice(), number);
+    let begin = address_or_none(view.layout.placed.addresses.as_slice(), number);
     Some(u64::from(begin) + u64::from(offset))
 }
 
@@ -91,6 +105,6 @@ pub(crate) fn address_at(view: View<'_>, definition: Definition) -> Option<u64>
         kind: kinds::SEGMENT,
         index: definition.index,
     };
-    let part = chunk_number(view.chunks, chunk);
+    let part = chunk_number(&view.layout.program.tables.chunks, chunk);
     segment_address(view, definition.offset, part)
 }

@@ -17,4 +17,5 @@ mod spans;
 mod tail;
 
 pub use places::debug_places;
+pub use spans::object_spans;
 pub use tail::debug_tail;

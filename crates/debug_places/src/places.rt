@@ -1,17 +1,17 @@
 //! Where the things of a link are that debug sections name.
 ghost use Rattle.std.specs.Prelude.{◌≡◌, map, IfOk};
 ghost use Rattle.link_program.specs.image_emit.Pieces.{code_place, source_places};
-ghost use Rattle.link_program.specs.made_symbols.declared.mode.Mode.TheVariants as modes;
+ghost use Rattle.link_program.specs.link_rules.ModeOf.{mode_of};
 ghost use Rattle.link_program.specs.link_rules.Output.{layout as layout_by};
 ghost use Rattle.link_program.specs.Live.{Stage, AreLive};
-ghost use Rattle.link_layout.specs.Layout.{IsLayoutIn};
+ghost use Rattle.link_layout.specs.Layout.{IsLayout};
 ghost use Rattle.link_debug.specs.Places.{link_places};
 ghost use Rattle.debug_out.specs.Inputs.{places_of};
 ghost use Rattle.debug_places.specs.declared.rows.Asked.TheVariants as asked;
 ghost use Rattle.debug_places.specs.Spans.{span_seen};
 ghost use Rattle.debug_places.specs.Seen.{place_meant, rows_by, sight_of};
 ghost use Rattle.debug_places.specs.Bodies.{body_row, code_of};
-ghost use Rattle.debug_places.specs.Tails.{the_tree_in};
+ghost use Rattle.debug_places.specs.Tails.{the_tree};
 
 use crate::addresses::made_addresses;
 use crate::bodies::{Bodies, body_rows};
@@ -49,13 +49,7 @@ fn all_places(
         places: measured.places.as_slice(),
         code: measured.code,
     };
-    let view = View {
-        numbering: layout.numbering,
-        chunks: &layout.program.tables.chunks,
-        placed: layout.placed,
-        made,
-        live,
-    };
+    let view = View { layout, made, live };
     let inputs = spans(alloc, homes, objects)?;
     let bodies = body_rows(alloc, code, objects)?;
     let addresses = rows(alloc, view, Asked::Address, objects, symbols)?;
@@ -71,8 +65,9 @@ fn all_places(
     })
 }
 
-/// Where the bodies of functions, the addresses of data, slots and numbers of globals of a plain link are, by
-/// object and symbol, and where the bytes of the objects stand. `live` are the numbers of the live
+/// Where the bodies of functions, the addresses of data, slots and numbers of globals of a link are, by
+/// object and symbol, and where the bytes of the objects stand. Addresses in a shared output count from
+/// `__memory_base`, and slots from `__table_base`. `live` are the numbers of the live
 /// parts, `measured` tells where the code and the sources of the output's image stand, and `homes` where
 /// each input stands.
 ///
@@ -85,11 +80,11 @@ pub fn debug_places(
     homes: &[Home],
 ) -> Result<DebugPlaces, OutOfMemory>
     ghost s: { Stage }
-    requires layout { IsLayoutIn modes.Plain s.program s.parts s.exports layout }
+    requires layout { IsLayout s.program s.parts s.exports layout }
     requires live { AreLive s.program live.now s.parts }
-    requires places { measured.now.places ≡ source_places (the_tree_in modes.Plain s) }
-    requires code { measured.now.code ≡ code_place (the_tree_in modes.Plain s) }
-    ensures places { IfOk result (λ d. places_of d ≡ link_places modes.Plain s.program s.parts s.exports (layout_by modes.Plain s.program s.parts s.exports)) }
+    requires places { measured.now.places ≡ source_places (the_tree s) }
+    requires code { measured.now.code ≡ code_place (the_tree s) }
+    ensures places { IfOk result (λ d. places_of d ≡ link_places (mode_of s.program.plan) s.program s.parts s.exports (layout_by (mode_of s.program.plan) s.program s.parts s.exports)) }
     ensures inputs { IfOk result (λ d. d.inputs ≡ map (λ o. span_seen homes.now o.input) s.program.objects) }
     ensures length { IfOk result (λ d. d.length ≡ measured.now.len) }
 {

@@ -1,24 +1,23 @@
 //! Where the things are that symbols mean: a list for each object, with a place for each symbol.
 ghost use Rattle.std.specs.Prelude.{◌≡◌, ◌==◌, take, drop, IfOk};
 ghost use Rattle.link_program.specs.linking_section.Flags.{kind_code};
-ghost use Rattle.debug_places.specs.Seen.{seen, address_meant, slot_meant, global_meant, place_meant, row_by, rows_by};
+ghost use Rattle.debug_places.specs.Seen.{seen, address_meant, slot_meant, linkers_global, global_here, global_meant, place_meant, row_by, rows_by};
 
 use crate::addresses::address_at;
 use crate::finding::{global_at, slot_at};
-use link_layout::{Numbering, Placed};
-use link_program::{FunctionKey, GlobalKey, Lead, Object, Symbol, function_of, index_of};
+use link_layout::{Layout, Numbering, made_import};
+use link_program::{
+    Definition, FunctionKey, GlobalKey, Lead, Object, Symbol, function_of, mode_of,
+};
 use linking_section::SymbolKind;
-use mark_bits::ChunkTable;
+use made_symbols::Mode;
 use std::alloc::Global;
 use wl_base::{OutOfMemory, Seq};
 
 /// What is looked up of a link, by reference.
 #[derive(Clone, Copy)]
 pub(crate) struct View<'a> {
-    pub numbering: &'a Numbering,
-    /// The chunk of each part.
-    pub chunks: &'a ChunkTable,
-    pub placed: &'a Placed,
+    pub layout: Layout<'a>,
     /// The addresses of the linker's own data.
     pub made: &'a [u64],
     /// Of each part whether it is live.
@@ -72,23 +71,53 @@ fn slot_meant(numbering: &Numbering, lead: Lead) -> Option<u32>
     }
 }
 
+/// The number of a global of the linker, by that of its symbol. In a shared output it is an import.
+fn linkers_global(view: View<'_>, mode: Mode, number: u32) -> Option<u32>
+    ensures { result ≡ linkers_global (seen view.entry) mode number }
+{
+    match mode {
+        Mode::Plain => {
+            let key = GlobalKey::Own {
+                input: 0,
+                index: number,
+            };
+            global_at(view.layout.numbering, key)
+        }
+        Mode::Shared => match made_import(view.layout.program.resolution, number) {
+            Some(import) => global_at(view.layout.numbering, GlobalKey::Import(import)),
+            None => None,
+        },
+    }
+}
+
+/// The number of the global that is defined.
+fn global_here(view: View<'_>, definition: Definition) -> Option<u32>
+    ensures { result ≡ global_here (seen view.entry) definition }
+{
+    if definition.input == 0 {
+        let mode = mode_of(view.layout.program.plan);
+        return linkers_global(view, mode, definition.place);
+    }
+    let key = GlobalKey::Own {
+        input: definition.input,
+        index: definition.index,
+    };
+    global_at(view.layout.numbering, key)
+}
+
 /// The number of the global that is meant.
-fn global_meant(numbering: &Numbering, lead: Lead) -> Option<u32>
-    ensures { result ≡ global_meant numbering.now lead }
+fn global_meant(view: View<'_>, lead: Lead) -> Option<u32>
+    ensures { result ≡ global_meant (seen view.entry) lead }
 {
     match lead {
         Lead::Here(definition) => {
             if is_of(definition.kind, SymbolKind::GlobalVar) {
-                let key = GlobalKey::Own {
-                    input: definition.input,
-                    index: index_of(definition),
-                };
-                global_at(numbering, key)
+                global_here(view, definition)
             } else {
                 None
             }
         }
-        Lead::Import(number) => global_at(numbering, GlobalKey::Import(number)),
+        Lead::Import(number) => global_at(view.layout.numbering, GlobalKey::Import(number)),
         Lead::Null | Lead::Nothing => None,
     }
 }
@@ -121,8 +150,8 @@ fn place_meant(view: View<'_>, asked: Asked, lead: Lead) -> Option<u64>
 {
     match asked {
         Asked::Address => address_meant(view, lead),
-        Asked::Slot => widened(slot_meant(view.numbering, lead)),
-        Asked::Global => widened(global_meant(view.numbering, lead)),
+        Asked::Slot => widened(slot_meant(view.layout.numbering, lead)),
+        Asked::Global => widened(global_meant(view, lead)),
     }
 }
 

@@ -1,5 +1,8 @@
 //! Where the bytes of objects stand.
 ghost use Rattle.std.specs.Prelude.{◌≡◌, map, IfOk};
+ghost use Rattle.link_program.specs.Loaded.{IsLoaded, Origin};
+ghost use Rattle.link_debug.specs.Places.{link_inputs};
+ghost use Rattle.debug_out.specs.Inputs.{inputs_of};
 ghost use Rattle.debug_places.specs.Spans.{span_seen};
 
 use link_program::{Home, Object};
@@ -38,5 +41,19 @@ pub(crate) fn spans(
     for o in objects {
         spans.push(span_of(homes, o.input))?;
     }
+    Ok(spans)
+}
+
+/// Where the bytes of each loaded object stand in the files, by where each input does.
+pub fn object_spans(
+    alloc: Global,
+    homes: &[Home],
+    objects: &[Object],
+) -> Result<Seq<FileSpan>, OutOfMemory>
+    ghost origin: { Origin }
+    requires { IsLoaded origin.files origin.all objects.now homes.now }
+    ensures { IfOk result (λ spans. inputs_of origin.files objects.now spans ≡ link_inputs origin.files origin.all objects.now) }
+{
+    let spans = spans(alloc, homes, objects)?;
     Ok(spans)
 }

@@ -91,9 +91,9 @@ is_partial items = has Relocatable items
 abbrev pub is_shared : List Said → Bool
 is_shared items = has Shared items
 
--- debug sections are kept, as LLVM's wasm-ld keeps them, unless a word strips them; but none yet in a shared output
+-- debug sections are kept, as LLVM's wasm-ld keeps them, unless a word strips them
 abbrev pub keeps_debug : List Said → Bool
-keeps_debug items = not (has Strip items) && not (is_shared items)
+keeps_debug items = not (has Strip items)
 
 -- warnings are errors
 abbrev pub fatal : List Said → Bool

@@ -193,11 +193,11 @@ pub fn is_shared(items: &[Item<'_>]) -> bool
     has(items, Meaning::Shared)
 }
 
-/// Whether debug sections are kept: none are yet in a shared output.
+/// Whether debug sections are kept, as no word strips them.
 pub fn keeps_debug(items: &[Item<'_>]) -> bool
     ensures { result ≡ keeps_debug_of items.now }
 {
-    !has(items, Meaning::Strip) && !is_shared(items)
+    !has(items, Meaning::Strip)
 }
 
 /// Whether warnings are errors.

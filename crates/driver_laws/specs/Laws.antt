@@ -52,7 +52,7 @@ planned_files own plan = map (λ i. file i.lazy i.whole (word own i.place)) plan
 abbrev pub OwnWordsHavePlans : Type 0
 OwnWordsHavePlans = (held : World) (words own warnings : List (List ℕ)) (fatal : Bool) → translated held words ≡ Links own warnings fatal → IsOk (plan_of own)
 
--- It keeps debug sections unless a word strips them, or asks for a shared output.
+-- It keeps debug sections unless a word strips them.
 abbrev pub PlansKeepDebug : Type 0
 PlansKeepDebug = (held : World) (items : List Said) (own warnings : List (List ℕ)) (fatal : Bool) (plan : Plan) → answered held items ≡ Links own warnings fatal → plan_of own ≡ Ok plan
     → plan.keep_debug ≡ keeps_debug items

@@ -45,7 +45,7 @@ relocatable = refl
 
 -- A shared output exports all definitions that aren't hidden, unless the words say otherwise.
 shared : own_or_line (cut_of (codes "-shared" ∷ codes "a.o" ∷ codes "-o" ∷ codes "b" ∷ []))
-    ≡ codes "-o" ∷ codes "b" ∷ codes "--export-dynamic" ∷ codes "--stack-first" ∷ codes "-shared" ∷ []
+    ≡ codes "-o" ∷ codes "b" ∷ codes "--export-dynamic" ∷ codes "--stack-first" ∷ codes "-shared" ∷ codes "--keep-debug" ∷ []
 unfolding own_words name_words switch_words name_switches memory_switches number_words memory_numbers export_of exported_if alone_row equals_row letter_of option_in
 shared = refl
 

@@ -138,7 +138,7 @@ fn words_of_clang(rt: HostRuntime) -> Result<(), Fail> {
             SYSROOT,
             "-m wasm32 -LSR SR/crt1-reactor.o --entry _initialize -shared m-1.o -lc RT/libclang_rt.builtins-wasm32.a -o m",
             Want::Own(
-                "-o m --entry=_initialize --export-dynamic --stack-first -shared SR/crt1-reactor.o m-1.o SR/libc.a RT/libclang_rt.builtins-wasm32.a",
+                "-o m --entry=_initialize --export-dynamic --stack-first -shared --keep-debug SR/crt1-reactor.o m-1.o SR/libc.a RT/libclang_rt.builtins-wasm32.a",
             ),
         ),
         (

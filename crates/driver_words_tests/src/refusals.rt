@@ -234,7 +234,7 @@ fn words_of_shared_outputs(rt: HostRuntime) -> Result<(), Fail> {
         (
             NONE,
             "-shared a.o -o b",
-            Want::Own("-o b --export-dynamic --stack-first -shared a.o"),
+            Want::Own("-o b --export-dynamic --stack-first -shared --keep-debug a.o"),
         ),
         (
             NONE,
@@ -244,18 +244,20 @@ fn words_of_shared_outputs(rt: HostRuntime) -> Result<(), Fail> {
         (
             NONE,
             "m.o -shared --no-export-dynamic -E -o o",
-            Want::Own("-o o --export-dynamic --stack-first -shared m.o"),
+            Want::Own("-o o --export-dynamic --stack-first -shared --keep-debug m.o"),
         ),
         (
             NONE,
             "m.o -shared -shared --no-entry --export=f --experimental-pic -Bsymbolic -o o",
-            Want::Own("-o o --no-entry --export=f --export-dynamic --stack-first -shared m.o"),
+            Want::Own(
+                "-o o --no-entry --export=f --export-dynamic --stack-first -shared --keep-debug m.o",
+            ),
         ),
         (
             NONE,
             "m.o -shared --unresolved-symbols=import-dynamic -o o",
             Want::Warned(
-                "-o o --export-dynamic --stack-first -shared m.o",
+                "-o o --export-dynamic --stack-first -shared --keep-debug m.o",
                 "ignored: --unresolved-symbols=import-dynamic\n",
             ),
         ),

@@ -31,8 +31,6 @@ use wl_outside::Gate;
 /// the moment that the output's buffer is reserved nothing can want memory; but where the plan asks for the check of the output, from the end
 /// of the check on.
 ///
-/// A shared output with debug sections isn't linked yet: that is answered as want of memory.
-///
 /// What was read of the files, and the names, aren't given back, but kept until the process ends: that would be a free for each small piece,
 /// which takes up to a tenth of a link of many objects.
 pub fn link<R: Threads + Sync, G: Gate>(

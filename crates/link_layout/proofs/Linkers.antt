@@ -153,7 +153,8 @@ means_own mode uses allow all e every own = by_entry (is_entry e)
 
 -- ---- a program
 
-symbol_means : (mode : Mode) (allow : Bool) (objects : List Object) (all : List InputSymbol) → all ≡ entries mode objects → InputsRise 0 objects → (e : InputSymbol) (m : Meaning)
+-- what a symbol means, where it is the linker's own
+pub symbol_means : (mode : Mode) (allow : Bool) (objects : List Object) (all : List InputSymbol) → all ≡ entries mode objects → InputsRise 0 objects → (e : InputSymbol) (m : Meaning)
     → IsSymbolOf (resolve mode allow all objects) e m → MeansLinkers mode m
 unfolding resolve
 symbol_means mode allow objects all from rise e m is = by_object (slice_get objects is.0) refl (sym (slice_get-map row objects is.0) ∙ is.3)

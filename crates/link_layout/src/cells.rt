@@ -53,7 +53,7 @@ fn made_place(number: u32) -> Option<usize>
 }
 
 /// The import of a linker-made global, by the number of its symbol.
-fn made_import(resolution: &Resolution, number: u32) -> Option<u32>
+pub fn made_import(resolution: &Resolution, number: u32) -> Option<u32>
     ensures { result ≡ option_and_then (slice_get resolution.now.made) (made_place number) }
 {
     let place = made_place(number)?;

@@ -13,6 +13,7 @@ mod sharing;
 mod usual;
 mod values;
 
+pub use cells::made_import;
 pub use link_numbers::{Numbering, number};
 pub use placing::{Placed, place_segments};
 pub use values::Layout;

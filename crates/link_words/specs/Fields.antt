@@ -5,7 +5,7 @@ use Rattle.std.specs.Option.{option_or}
 use Rattle.wl_base.specs.Choice.{given}
 use Rattle.link_plan.specs.declared.plan.InputWord.{InputWord}
 use Rattle.link_words.specs.declared.kind.Kind.{Kind}
-use Rattle.link_words.specs.declared.kind.Kind.TheVariants.{Input, Entry, NoEntry, Export, ExportTable, WholeArchive, NoWholeArchive, StartLib, EndLib, MakeCase, KeepDebug, Shared}
+use Rattle.link_words.specs.declared.kind.Kind.TheVariants.{Input, Entry, NoEntry, Export, ExportTable, WholeArchive, NoWholeArchive, StartLib, EndLib, MakeCase, Shared}
 use Rattle.link_words.specs.declared.range.Range.{Range}
 use Rattle.link_words.specs.declared.range.Range.TheVariants.{Cases}
 use Rattle.link_words.specs.Kinds.{same}
@@ -68,10 +68,6 @@ entry usual items = latest (λ said. option_or (saying Entry (λ s. Some s.value
 -- a generated case and a shared output are as if `--no-entry` stood before the first word
 abbrev pub usual_entry : List Said → Option (List ℕ)
 usual_entry items = if is_some (case items) || has Shared items then None else Some (codes "_start")
-
--- debug sections are kept where a word asks for them, but none yet in a shared output
-abbrev pub keeps_debug : List Said → Bool
-keeps_debug items = has KeepDebug items && not (has Shared items)
 
 -- the name that an item exports
 abbrev pub exported : Said → Option (List ℕ)

@@ -2,7 +2,7 @@
 ghost use Rattle.std.specs.Prelude.{◌≡◌, ◌≤◌, ◌<◌, ◌^◌, ◌++◌, ℕ, length, unwrap_or, All, IfOk, IfSome, OnOk};
 ghost use Rattle.std.specs.Option.{option_map};
 ghost use Rattle.link_words.specs.Numbers.{most_of, IsIn};
-ghost use Rattle.link_words.specs.Fields.{has as has_of, keeps_debug as keeps_debug_of, text as text_of, texts, numeral as numeral_of, latest, switch, entry as entry_of, exported as exported_of, exports as exports_of, inputs as inputs_of, open_group as open_group_of, case as case_of};
+ghost use Rattle.link_words.specs.Fields.{has as has_of, text as text_of, texts, numeral as numeral_of, latest, switch, entry as entry_of, exported as exported_of, exports as exports_of, inputs as inputs_of, open_group as open_group_of, case as case_of};
 
 use crate::item::Item;
 use crate::kind::Kind;
@@ -17,13 +17,6 @@ pub fn has(items: &[Item<'_>], kind: Kind) -> bool
     ensures { result ≡ has_of kind items.now }
 {
     items.iter().any(|item| item.kind().is(kind))
-}
-
-/// Whether debug sections are kept: none are yet in a shared output.
-pub fn keeps_debug(items: &[Item<'_>]) -> bool
-    ensures { result ≡ keeps_debug_of items.now }
-{
-    has(items, Kind::KeepDebug) && !has(items, Kind::Shared)
 }
 
 /// What the last of two opposite kinds decides, or what stands where there is none.

@@ -1,10 +1,19 @@
-use Rattle.std.proofs.Common.{rules}
-use Rattle.debug_places.proofs.Found.{made_more, made_all}
+use Rattle.std.proofs.Common.{◌≡◌, ℕ, List, refl, sym, ap, subst, ◌∙◌}
+use Rattle.std.specs.Prelude.{IfOk, slice_index_or}
+use Rattle.link_program.specs.link_rules.ModeOf.{mode_of}
+use Rattle.link_layout.specs.Layout.{IsLayoutIn}
+use Rattle.debug_places.specs.Found.{AreMade}
 use Rattle.debug_places.proofs.addresses.made_addresses.Goals as goal
 
-pub loop-number-preserved : goal.loop-number-preserved
-loop-number-preserved g c =
-    made_more c.args.layout.placed.now.places c.loop-number.number c.loop-number.made _ _ (search rules) c.loop-number.invariant c.made_address.ensures c.in_ok-push.ensures.ok
+pub plain_addresses-requires : goal.plain_addresses-requires
+plain_addresses-requires g c =
+    subst (λ m. IsLayoutIn m g.s.program g.s.parts g.s.exports c.args.layout) (sym (ap mode_of c.requires.program.plan) ∙ sym c.in-Plain.ensures) c.requires
 
-pub returns : goal.returns
-returns g c = made_all c.args.layout.placed.now.places c.loop-number.number c.loop-number.made (search rules) c.loop-number.invariant
+pub returns-in-Plain : goal.returns-in-Plain
+returns-in-Plain g c =
+    subst (λ m. IfOk c.plain_addresses.result (λ made. AreMade m made c.args.layout.placed.now.places)) (c.in-Plain.ensures ∙ ap mode_of c.requires.program.plan) c.plain_addresses.ensures
+
+pub returns-in-Shared : goal.returns-in-Shared
+returns-in-Shared g c =
+    subst (λ m. AreMade m c.new.result c.args.layout.placed.now.places) (c.in-Shared.ensures ∙ ap mode_of c.requires.program.plan)
+    (subst (λ (made : List ℕ). (n : ℕ) → slice_index_or made n 0 ≡ 0) (sym c.new.ensures) (λ n. refl))

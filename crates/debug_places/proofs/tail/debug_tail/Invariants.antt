@@ -1,4 +1,4 @@
 use Rattle.debug_places.proofs.tail.debug_tail.Given as goal
 
-abbrev pub ghost-plain_tail : goal.ghost-plain_tail
-ghost-plain_tail g a = g.s
+abbrev pub ghost-debug_places : goal.ghost-debug_places
+ghost-debug_places g a = g.s.stage

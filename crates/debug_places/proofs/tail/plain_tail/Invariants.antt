@@ -1,4 +1,0 @@
-use Rattle.debug_places.proofs.tail.plain_tail.Given as goal
-
-abbrev pub ghost-debug_places : goal.ghost-debug_places
-ghost-debug_places g a = g.s.stage
