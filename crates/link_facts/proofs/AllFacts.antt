@@ -93,7 +93,7 @@ module _ (sound_law : SoundLaw) (bodies_law : BodiesLaw) (addresses_law : Addres
   coded_in o ho part z (as_function k f at e) =
       let from = read.each o ho in
       subst (IsCoded p) (sym e)
-      (coded_at plan.allow_undefined objects o p all k f at from (object_sound o ho)
+      (coded_at Plain no_uses plan.allow_undefined (entries Plain objects) objects o p all k f at from (object_sound o ho)
       (all_has (BodyStands (bytes_of files from.candidate)) o.functions (bodies_law o.input (bytes_of files from.candidate) o from.is) f (has_at o.functions k f at)))
   coded_in o ho part z (as_segment k g at e) = absurd (let q : part.chunk.kind ≡ 1 = ap (λ (x : Part). x.chunk.kind) e in omega (arith, q, z))
   coded_in o ho part z (as_global k g at e) = absurd (let q : part.chunk.kind ≡ 2 = ap (λ (x : Part). x.chunk.kind) e in omega (arith, q, z))

@@ -18,9 +18,9 @@ use Rattle.object_file.specs.declared.object.Object.{Object}
 use Rattle.object_file.specs.Bodies.{IsOperandOf, AreOperandsOf, BodyStands}
 use Rattle.object_file.specs.Sound.{Sound as ObjectSound, OperandNames, IsNamedBy, is_code_type}
 use Rattle.round_rules.specs.Rounds.{Candidate}
-use Rattle.made_symbols.specs.declared.mode.Mode.TheVariants.{Plain}
-use Rattle.name_rules.specs.Entries.{InputSymbol, entry_in, entries_from, symbols_of, entries}
-use Rattle.name_rules.specs.Meanings.{Meaning, Resolved, resolved_in, meaning, no_uses}
+use Rattle.made_symbols.specs.declared.mode.Mode.{Mode}
+use Rattle.name_rules.specs.Entries.{InputSymbol, entry_in, entries_from, symbols_of}
+use Rattle.name_rules.specs.Meanings.{Meaning, Resolved, Uses, resolved_in, meaning}
 use Rattle.output_module.specs.link_rules.Program.{Program, Ref, Named, a_symbol, ref_to, ref_in, operand_named, function_part, span_in}
 use Rattle.output_module.specs.link_rules.Values.{part_bytes}
 use Rattle.image_emit.specs.Bytes.{file_part}
@@ -35,12 +35,12 @@ named_listed objects o place [] k s h = absurd (grind arith)
 named_listed objects o place (y ∷ ys) zero s h = (entry_in objects o place y, refl)
 named_listed objects o place (y ∷ ys) (suc k) s h = named_listed objects o (place + 1) ys k s h
 
-module _ (allow : Bool) (objects : List Object) (o : Object) where
+module _ (mode : Mode) (uses : Uses) (allow : Bool) (es : List InputSymbol) (objects : List Object) (o : Object) where
   abbrev res : Resolved
-  res = resolved_in Plain no_uses allow (entries Plain objects) objects o
+  res = resolved_in mode uses allow es objects o
 
   abbrev mean : InputSymbol → Meaning
-  mean = meaning Plain no_uses allow (entries Plain objects)
+  mean = meaning mode uses allow es
 
   named_there : (kind symbol : ℕ) (x : Option Symbol) → slice_get o.symbols symbol ≡ x → IsNamedBy kind x → (e : InputSymbol) × (slice_get (symbols_of objects o) symbol ≡ Some e)
   named_there kind symbol None q n = absurd n

@@ -8,7 +8,7 @@ pub mod Parts
 pub mod Refs
 pub mod SoundPrograms
 mod Bytes
-mod Coded
+pub mod Coded
 mod Reading
 pub mod Loosened
 mod AllFacts

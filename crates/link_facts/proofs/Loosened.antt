@@ -63,7 +63,7 @@ module _ (all : List InputSymbol) where
   chunk_is true part = refl
   chunk_is false part = refl
 
-  content_is : (b : Bool) (part : Part) → (part_by b part).content ≡ part.content
+  pub content_is : (b : Bool) (part : Part) → (part_by b part).content ≡ part.content
   content_is true part = refl
   content_is false part = refl
 
@@ -263,7 +263,7 @@ module _ (q : Program) (none : q.variants ≡ []) (symbol_of : (part : Part) (re
   names_map (None ∷ os) = names_map os
   names_map (Some n ∷ os) = ap (λ r. named_by q.entries b n ∷ r) (names_map os)
 
-  coded : (x : Part) → IsCoded q x → IsCoded l (part_by q.entries b x)
+  pub coded : (x : Part) → IsCoded q x → IsCoded l (part_by q.entries b x)
   coded x c = record {
     body = c.body;
     stands = map (option_map (named_by q.entries b)) c.stands;

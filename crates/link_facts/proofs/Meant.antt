@@ -29,7 +29,7 @@ least_has (e ∷ es) w h = onto (least es) refl h (λ q. least_has es w q)
         by_rank true h = inr (rest (q ∙ h))
         by_rank false h = inl (grind arith)
 
-import_has : (es : List InputSymbol) (k : ImportKey) → least_import es ≡ Some k → (r : InputSymbol) × Has es r × (r.import ≡ Some k)
+pub import_has : (es : List InputSymbol) (k : ImportKey) → least_import es ≡ Some k → (r : InputSymbol) × Has es r × (r.import ≡ Some k)
 import_has [] k h = absurd (grind arith)
 import_has (e ∷ es) k h = onto e.import refl h (λ q. import_has es k q)
   where
@@ -55,7 +55,7 @@ chosen es e None None (Some k) g fa fb fc fg = fc k refl
 chosen es e None None None true fa fb fc fg = fg refl
 chosen es e None None None false fa fb fc fg = tt
 
-given_import : (b : Bool) (o : Option ImportKey) (k : ImportKey) → where_given b o ≡ Some k → o ≡ Some k
+pub given_import : (b : Bool) (o : Option ImportKey) (k : ImportKey) → where_given b o ≡ Some k → o ≡ Some k
 given_import true o k h = h
 given_import false o k h = absurd (grind arith)
 

@@ -68,5 +68,5 @@ module _ (allow : Bool) (objects : List Object) (o : Object) where
   pub reading_at : (p : Program) (all : List Candidate) (k : ℕ) (f : FunctionDef) → slice_get o.functions k ≡ Some f → (from : IsFrom p.files all o) → ObjectSound (length (bytes_of p.files from.candidate)) o
       → ReadsAddresses (bytes_of p.files from.candidate) o f → IsReading p (function_part all objects res k f)
   reading_at p all k f at from sound r b spelled x h =
-      let reads = r b (subst (SpellsBody b) (sym (bytes_are allow objects o p all k f at from sound)) spelled) in
+      let reads = r b (subst (SpellsBody b) (sym (bytes_are Plain no_uses allow (entries Plain objects) objects o p all k f at from sound)) spelled) in
       reads_at f.operands x x.instr (all_has (λ (x : Placed). ObjectReadsAt o f.operands x x.instr) b.code reads x h)

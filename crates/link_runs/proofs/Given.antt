@@ -43,11 +43,11 @@ ContentFits (linker_made m) = Unit {0}
 no_name : IsUtf8 []
 no_name = ([], (refl, refl))
 
-name_or : (o : Option (List ℕ)) → IsName o → IsUtf8 (unwrap_or o [])
+pub name_or : (o : Option (List ℕ)) → IsName o → IsUtf8 (unwrap_or o [])
 name_or None h = no_name
 name_or (Some n) h = h
 
-given_or : (o : Option (List ℕ)) (name : List ℕ) → IsName o → IsUtf8 name → IsUtf8 (unwrap_or o name)
+pub given_or : (o : Option (List ℕ)) (name : List ℕ) → IsName o → IsUtf8 name → IsUtf8 (unwrap_or o name)
 given_or None name h k = k
 given_or (Some n) name h k = h
 
@@ -57,7 +57,7 @@ low_at [] e (suc i) = omega arith
 low_at (x ∷ xs) e zero = ltb-true x 128 (and_parts (nat_lt x 128) (list_all (λ b. nat_lt b 128) xs) e).0
 low_at (x ∷ xs) e (suc i) = low_at xs (and_parts (nat_lt x 128) (list_all (λ b. nat_lt b 128) xs) e).1 i
 
-low_name : (bytes : List ℕ) → list_all (λ b. nat_lt b 128) bytes ≡ true → IsUtf8 bytes
+pub low_name : (bytes : List ℕ) → list_all (λ b. nat_lt b 128) bytes ≡ true → IsUtf8 bytes
 low_name bytes e = IsUtf8-from_ascii bytes (low_at bytes e)
 
 of_made : (ms : List MadeSymbol) → list_all (λ m. list_all (λ b. nat_lt b 128) m.name) ms ≡ true → (m : MadeSymbol) → Has ms m → IsUtf8 m.name

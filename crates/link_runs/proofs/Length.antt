@@ -29,7 +29,7 @@ use Rattle.link_output.proofs.Sources.{windows_stand}
 use Rattle.link_output.proofs.Apart.{all_lie, all_apart}
 use Rattle.link_facts.specs.link_worlds.Worlds.{layout_of, linked_tree}
 
-same_long : (t : Tree) (wss : List (List Window)) → StandInSources wss (sources t) → length (bytes_of (tree_filled (map (map patch_of) wss) t)) ≡ length (bytes_of t)
+pub same_long : (t : Tree) (wss : List (List Window)) → StandInSources wss (sources t) → length (bytes_of (tree_filled (map (map patch_of) wss) t)) ≡ length (bytes_of t)
 same_long t wss s =
     let pss = map (map patch_of) wss in
     ap length (sym (fill_law pss t (all_lie t wss s))) ∙ long_all (all_moved (source_places t) pss) (bytes_of t) (lie_in_all 0 (length (bytes_of t)) (all_moved (source_places t) pss) (all_apart t wss s))
@@ -56,11 +56,11 @@ picks f marked at (x ∷ xs) h =
     }
     onto false r = record { numbers = r.numbers; above = All-weaker (λ n. at + 1 ≤ n) (λ n. at ≤ n) (λ n l. omega (arith, l)) r.numbers r.above; rise = r.rise; are = r.are }
 
-lives : (p : Program) (exports : List InputSymbol) → (numbers : List ℕ) × AreLive p numbers (live p exports)
+pub lives : (p : Program) (exports : List InputSymbol) → (numbers : List ℕ) × AreLive p numbers (live p exports)
 unfolding live
 lives p exports = let r = picks (slice_get p.parts) (reached (targets p) (root_places p exports)) 0 p.parts (λ k. let e : 0 + k ≡ k = omega arith in ap (slice_get p.parts) e) in (r.numbers, record { rise = r.rise; are = r.are })
 
-given_none : {A : Type 0} (b : Bool) (x : A) → given b x ≡ None → b ≡ false
+pub given_none : {A : Type 0} (b : Bool) (x : A) → given b x ≡ None → b ≡ false
 given_none true x e = absurd (grind arith)
 given_none false x e = refl
 

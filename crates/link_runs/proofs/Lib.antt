@@ -6,10 +6,10 @@ mod Few
 mod Constants
 mod Leb
 mod Limits
-mod Length
+pub mod Length
 mod Names
-mod Given
+pub mod Given
 mod Ranged
-mod LinksRun
+pub mod LinksRun
 pub use Rattle.link_facts.proofs as link_facts_lemmas
 pub use Rattle.link_facts.proofs.link_worlds_lemmas as link_worlds_lemmas

@@ -46,7 +46,7 @@ use Rattle.link_facts.proofs.Loads.{are_loaded}
 use Rattle.link_facts.proofs.Steps.{is_marked, is_linked, is_link}
 use Rattle.name_rules.specs.Entries.{entries as entries_of}
 
-is_from : (plan : Plan) (files : List (List ℕ)) (all : List Candidate) (objects : List Object) → candidates_of the_readers plan files ≡ Ok all → IsLoaded files all objects (map home_of all)
+pub is_from : (plan : Plan) (files : List (List ℕ)) (all : List Candidate) (objects : List Object) → candidates_of the_readers plan files ≡ Ok all → IsLoaded files all objects (map home_of all)
     → (o : Object) → Has objects o → IsFrom files all o
 is_from plan files all objects c loaded o h =
     let each = all_has (λ (o : Object). (c : Candidate) × (slice_get all (o.input - 1) ≡ Some c) × IsReadFrom files c o) objects loaded.each o h in
@@ -119,7 +119,7 @@ gives_bytes law runs facts loads plan files bytes all objects fit long c l e =
     subst (Gives p (exported Plain p)) m.1 (runs p (exported Plain p) (accepted law p (exported Plain p) r f m.0))
 
 -- a step that ends in a value had one before
-step_gives : {A B F : Type 0} (r : Result A F) (f : A → Result B F) (y : B) → (r >>= f) ≡ Ok y → (x : A) × (r ≡ Ok x) × (f x ≡ Ok y)
+pub step_gives : {A B F : Type 0} (r : Result A F) (f : A → Result B F) (y : B) → (r >>= f) ≡ Ok y → (x : A) × (r ≡ Ok x) × (f x ≡ Ok y)
 step_gives (Ok x) f y e = (x, refl, e)
 step_gives (Err g) f y e = absurd (grind arith)
 

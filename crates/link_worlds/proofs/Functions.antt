@@ -82,9 +82,12 @@ apart_picked marked at (x ∷ xs) a = onto (is_among marked at) (apart_picked ma
     onto true r f = (f, r)
     onto false r f = r
 
-pub live_apart : (p : Program) (exports : List InputSymbol) → Sound p → Apart same_part (live p exports)
+pub picks_apart : (p : Program) (exports : List InputSymbol) → Apart same_part p.parts → Apart same_part (live p exports)
 unfolding live
-live_apart p exports sound = apart_picked (reached (targets p) (root_places p exports)) 0 p.parts sound.apart
+picks_apart p exports apart = apart_picked (reached (targets p) (root_places p exports)) 0 p.parts apart
+
+pub live_apart : (p : Program) (exports : List InputSymbol) → Sound p → Apart same_part (live p exports)
+live_apart p exports sound = picks_apart p exports sound.apart
 
 module _ (parts : List Part) where
   abbrev pub Stood : FunctionKey → Type 0

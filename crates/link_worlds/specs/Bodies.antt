@@ -10,6 +10,7 @@ use Rattle.wasm_instr.specs.declared.body.Placed.{Placed}
 use Rattle.wasm_instr.specs.declared.body.Body.{Body}
 use Rattle.wasm_instr.specs.Bodies.{body_at}
 use Rattle.linking_section.specs.declared.symbol.SymbolKind.TheVariants.{GlobalVar}
+use Rattle.made_symbols.specs.declared.mode.Mode.{Mode}
 use Rattle.made_symbols.specs.declared.mode.Mode.TheVariants.{Plain}
 use Rattle.name_rules.specs.Entries.{is_kind}
 use Rattle.reloc_apply.specs.Windows.{signed32}
@@ -21,7 +22,7 @@ use Rattle.run_rules.specs.Ops.{block_type, opening, cell_op}
 use Rattle.link_rules.specs.Program.{Program, Part, Ref, Named, a_symbol, a_type, refs}
 use Rattle.link_rules.specs.Keys.{FunctionKey, outside, linker_function, stub, own, is_function_at, function_number, ref_function, ref_global, ref_got}
 use Rattle.link_rules.specs.Values.{Layout, part_bytes, got_value}
-use Rattle.link_worlds.specs.Names.{callee, cell_place, number_at}
+use Rattle.link_worlds.specs.Names.{callee, cell_place, number_in, number_at}
 
 -- ---- what stands at a place of a body
 
@@ -36,6 +37,46 @@ named_at names place = find (λ n. place_of n == place) names
 -- The place of the first immediate. That of the last one is `mid`.
 abbrev pub first_place : Placed → ℕ
 first_place x = x.at + 1
+
+abbrev pub no_body : Body
+no_body = record { locals = []; code = [] }
+
+-- an instruction that no object wrote, with no places
+abbrev pub bare : Instr → Placed
+bare x = record { instr = x; at = 0; mid = 0; end = 0 }
+
+-- ---- as an output of a mode has them: each reference is a number
+
+module _ (mode : Mode) (l : Layout) where
+  -- the number in the place of an immediate, where a reference stands there
+  abbrev pub number_or_in : ℕ → Option Named → ℕ
+  number_or_in n None = n
+  number_or_in n (Some named) = number_in mode l named
+
+  abbrev pub constant_or_in : Instr → Option Named → Instr
+  constant_or_in x None = x
+  constant_or_in x (Some named) = instrs.I32Const (signed32 (number_in mode l named))
+
+  abbrev pub instr_in : List Named → Placed → Instr → Instr
+  instr_in names x (instrs.Block op (blocks.Index n)) = instrs.Block op (blocks.Index (number_or_in n (named_at names x.mid)))
+  instr_in names x (instrs.Call f) = instrs.Call (number_or_in f (named_at names x.mid))
+  instr_in names x (instrs.CallIndirect kind table) = instrs.CallIndirect (number_or_in kind (named_at names (first_place x))) (number_or_in table (named_at names x.mid))
+  instr_in names x (instrs.GlobalAt op g) = instrs.GlobalAt op (number_or_in g (named_at names x.mid))
+  instr_in names x (instrs.Access op align offset) = instrs.Access op align (number_or_in offset (named_at names x.mid))
+  instr_in names x (instrs.I32Const n) = constant_or_in (instrs.I32Const n) (named_at names x.mid)
+  instr_in names x i = i
+
+  abbrev pub placed_in : List Named → Placed → Placed
+  placed_in names x = record { instr = instr_in names x x.instr; at = x.at; mid = x.mid; end = x.end }
+
+  abbrev pub body_in : List Named → Result Body Stop → Body
+  body_in names (Err stop) = no_body
+  body_in names (Ok b) = record { locals = b.locals; code = map (placed_in names) b.code }
+
+  -- A part of an object.
+  abbrev pub part_in : Program → Option Part → Body
+  part_in p None = no_body
+  part_in p (Some part) = body_in part.named (body_at (part_bytes p part))
 
 -- ---- as the objects have them: each reference is what it means
 
@@ -73,12 +114,10 @@ module _ (p : Program) (l : Layout) where
 
   -- the number in the place of an immediate, where a reference stands there
   abbrev pub number_or : ℕ → Option Named → ℕ
-  number_or n None = n
-  number_or n (Some named) = number_at l named
+  number_or n o = number_or_in Plain l n o
 
   abbrev pub constant_or : Instr → Option Named → Instr
-  constant_or x None = x
-  constant_or x (Some named) = instrs.I32Const (signed32 (number_at l named))
+  constant_or x o = constant_or_in Plain l x o
 
   abbrev pub op_at : List Named → Placed → Instr → Op
   op_at names x (instrs.Block op (blocks.Index n)) = opened op (named_at names x.mid)
@@ -120,31 +159,19 @@ module _ (p : Program) (l : Layout) where
   -- ---- as the output has them: each reference is a number
 
   abbrev pub linked_at : List Named → Placed → Instr → Instr
-  linked_at names x (instrs.Block op (blocks.Index n)) = instrs.Block op (blocks.Index (number_or n (named_at names x.mid)))
-  linked_at names x (instrs.Call f) = instrs.Call (number_or f (named_at names x.mid))
-  linked_at names x (instrs.CallIndirect kind table) = instrs.CallIndirect (number_or kind (named_at names (first_place x))) (number_or table (named_at names x.mid))
-  linked_at names x (instrs.GlobalAt op g) = instrs.GlobalAt op (number_or g (named_at names x.mid))
-  linked_at names x (instrs.Access op align offset) = instrs.Access op align (number_or offset (named_at names x.mid))
-  linked_at names x (instrs.I32Const n) = constant_or (instrs.I32Const n) (named_at names x.mid)
-  linked_at names x i = i
+  linked_at names x i = instr_in Plain l names x i
 
   abbrev pub linked_placed : List Named → Placed → Placed
-  linked_placed names x = record { instr = linked_at names x x.instr; at = x.at; mid = x.mid; end = x.end }
-
-  abbrev pub no_body : Body
-  no_body = record { locals = []; code = [] }
+  linked_placed names x = placed_in Plain l names x
 
   abbrev pub linked_body : List Named → Result Body Stop → Body
-  linked_body names (Err stop) = no_body
-  linked_body names (Ok b) = record { locals = b.locals; code = map (linked_placed names) b.code }
+  linked_body names r = body_in Plain l names r
 
   abbrev pub linked_part : Option Part → Body
-  linked_part None = no_body
-  linked_part (Some part) = linked_body part.named (body_at (part_bytes p part))
+  linked_part o = part_in Plain l p o
 
-  -- one that no object wrote, with no places
   abbrev pub unplaced : Instr → Placed
-  unplaced x = record { instr = x; at = 0; mid = 0; end = 0 }
+  unplaced x = bare x
 
   abbrev pub linked_calls : Option Part → Body
   linked_calls None = no_body

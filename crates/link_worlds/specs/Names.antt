@@ -3,6 +3,7 @@
 use Rattle.std.specs.Prelude.{◌≡◌, true, false, ℕ, ◌&&◌, List, ◌++◌, map, filter, filter_map, position, slice_get, if◌then◌else◌, Option, Some, None, option_and_then, bytes_eq}
 use Rattle.wl_base.specs.Choice.{given, distinct}
 use Rattle.linking_section.specs.declared.symbol.SymbolKind.TheVariants.{Function, GlobalVar}
+use Rattle.made_symbols.specs.declared.mode.Mode.{Mode}
 use Rattle.made_symbols.specs.declared.mode.Mode.TheVariants.{Plain}
 use Rattle.name_rules.specs.Entries.{is_kind, name_of}
 use Rattle.name_rules.specs.Meanings.{is_nothing}
@@ -61,9 +62,12 @@ renaming p l = record {
   constant = λ d. option_and_then (constant_of l) (slice_get l.numbers.globals d);
 }
 
--- The number that stands in a window of the output.
+-- The number that stands in a window of an output of this mode, and in one of a plain output.
+abbrev pub number_in : Mode → Layout → Named → ℕ
+number_in mode l named = bits32 (value (named_window mode l named))
+
 abbrev pub number_at : Layout → Named → ℕ
-number_at l named = bits32 (value (named_window Plain l named))
+number_at l named = number_in Plain l named
 
 -- ---- the number of a name
 

@@ -1,8 +1,8 @@
 mod Places
-mod Spelled
+pub mod Spelled
 mod Becoming
 mod Written
-mod Placeless
-mod Made
-mod Outputs
+pub mod Placeless
+pub mod Made
+pub mod Outputs
 pub use Rattle.link_worlds.proofs as link_worlds_lemmas

@@ -1,9 +1,10 @@
 -- The bodies that the linker makes.
-use Rattle.std.proofs.Common.{◌≡◌, ℕ, ◌<◌, false, List, [], ◌∷◌, ◌++◌, length, map, refl, ap, arith, append_assoc}
-use Rattle.std.specs.Prelude.{◌^◌, flat_map}
+use Rattle.std.proofs.Common.{◌≡◌, ℕ, ◌<◌, false, List, [], ◌∷◌, ◌++◌, length, map, Some, refl, sym, ap, ◌∙◌, subst, arith, append_assoc}
+use Rattle.std.specs.Prelude.{◌^◌, flat_map, position}
 use Rattle.leb_codec.specs.Shortest.{u32_padded}
 use Rattle.leb_codec.proofs.Computed.{u32_padded_spells}
 use Rattle.list_places.specs.Has.{Has}
+use Rattle.list_places.proofs.Lists.{has_map, position_below}
 use Rattle.wasm_instr.specs.declared.instr.Instr.{Instr}
 use Rattle.wasm_instr.specs.declared.instr.Instr.TheVariants as instrs
 use Rattle.wasm_instr.specs.declared.body.Placed.{Placed}
@@ -13,6 +14,10 @@ use Rattle.wasm_instr.specs.Placeless.{instrs_of}
 use Rattle.wasm_instr.specs.Bodies.{SpellsLocals, SpellsBody, IsCode, placed}
 use Rattle.wasm_module.specs.Modules.{placeless}
 use Rattle.ctor_call.specs.Body.{call, ctor_body}
+use Rattle.link_worlds.specs.link_rules.Program.{Program, Part, Ref, refs}
+use Rattle.link_worlds.specs.link_rules.Keys.{function_number, ref_function, same_function}
+use Rattle.link_worlds.specs.link_rules.Values.{Layout}
+use Rattle.link_worlds.specs.Bodies.{linked_calls, unplaced}
 use Rattle.std.proofs.Common.{inl, inr}
 
 abbrev calls : List ℕ → List Instr
@@ -20,7 +25,7 @@ calls fs = map (λ f. instrs.Call f) fs ++ instrs.Plain 0x0B ∷ []
 
 -- ---- code
 
-ends : (end : ℕ) → (code : List Placed) × (instrs_of code ≡ instrs.Plain 0x0B ∷ []) × IsCode end (false ∷ []) code (0x0B ∷ [])
+pub ends : (end : ℕ) → (code : List Placed) × (instrs_of code ≡ instrs.Plain 0x0B ∷ []) × IsCode end (false ∷ []) code (0x0B ∷ [])
 unfolding class_of
 ends end = (placed end (instrs.Plain 0x0B) (0x0B ∷ []) [] [] ∷ [], refl, (0x0B ∷ [], [], [], [], refl, refl, refl, refl, refl, refl, (refl, refl)))
 
@@ -38,7 +43,7 @@ calls_code end (f ∷ fs) h =
 
 -- ---- bodies
 
-no_locals : SpellsLocals [] (0 ∷ [])
+pub no_locals : SpellsLocals [] (0 ∷ [])
 no_locals = (omega arith, (0 ∷ [], [], record { spelled = record { within = omega arith; ends = omega arith; tail = λ e. absurd (omega (arith, e)) }; value_is = refl }, refl, refl))
 
 pub ctor_is : (fs : List ℕ) → ((f : ℕ) → Has fs f → f < 2 ^ 32) → (b : Body) × SpellsBody b (ctor_body fs) × (placeless b ≡ ([], calls fs))
@@ -55,3 +60,17 @@ stub_is =
       (0 ∷ [], 0x00 ∷ 0x0B ∷ [], refl, no_locals, (0x00 ∷ [], [], 0x0B ∷ [], false ∷ [], refl, refl, refl, refl, refl, refl, r.2)),
       ap (λ is. ([], instrs.Plain 0x00 ∷ is)) r.1,
     )
+
+-- the body that calls what references name
+calls_same : (p : Program) (l : Layout) (rs : List Ref) → instrs_of (map (λ ref. unplaced p l (instrs.Call (function_number l.numbers (ref_function ref)))) rs ++ unplaced p l (instrs.Plain 0x0B) ∷ [])
+    ≡ calls (map (λ ref. function_number l.numbers (ref_function ref)) rs)
+calls_same p l [] = refl
+calls_same p l (r ∷ rs) = ap (λ is. instrs.Call (function_number l.numbers (ref_function r)) ∷ is) (calls_same p l rs)
+
+pub calls_are : (p : Program) (l : Layout) (part : Part) → length l.numbers.functions < 2 ^ 32
+    → (b : Body) × SpellsBody b (ctor_body (map (λ ref. function_number l.numbers (ref_function ref)) (refs part))) × (placeless b ≡ placeless (linked_calls p l (Some part)))
+calls_are p l part few =
+    let number = λ (ref : Ref). function_number l.numbers (ref_function ref) in
+    let small = λ (ref : Ref). position_below (same_function (ref_function ref)) l.numbers.functions (position (same_function (ref_function ref)) l.numbers.functions) refl (2 ^ 32) few in
+    let r = ctor_is (map number (refs part)) (λ f h. let m = has_map number (refs part) f h in subst (λ n. n < 2 ^ 32) m.2 (small m.0)) in
+    (r.0, r.1, r.2 ∙ ap (λ is. ([], is)) (sym (calls_same p l (refs part))))

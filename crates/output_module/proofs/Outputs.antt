@@ -1,15 +1,13 @@
 -- The output's bytes are read as its module.
 use Rattle.std.proofs.Common.{◌≡◌, ◌<◌, List, [], ◌∷◌, ◌++◌, map, Option, Some, None, true, false, refl, sym, ap, ◌∙◌, subst, inl, inr, arith}
-use Rattle.std.specs.Prelude.{◌^◌, ◌==◌, ◌&&◌, ◌↔◌, find, cond, position, Ok}
+use Rattle.std.specs.Prelude.{◌^◌, ◌==◌, ◌&&◌, ◌↔◌, find, cond, Ok}
 use Rattle.std.specs.List.{AllZip}
 use Rattle.std.proofs.lemmas.Bool.{and_parts, eqb-true}
 use Rattle.list_places.specs.Has.{Has}
-use Rattle.list_places.proofs.Lists.{has_right, has_map, position_below}
-use Rattle.wasm_instr.specs.declared.instr.Instr.TheVariants as instrs
+use Rattle.list_places.proofs.Lists.{has_right}
 use Rattle.wasm_instr.specs.declared.body.Body.{Body}
 use Rattle.wasm_instr.specs.Bodies.{SpellsBody}
 use Rattle.wasm_instr.specs.BodyLaws.{body_again}
-use Rattle.wasm_instr.specs.Placeless.{instrs_of}
 use Rattle.wasm_module.specs.declared.structure.Module.{Module}
 use Rattle.wasm_module.specs.Modules.{IsModule, placeless}
 use Rattle.wasm_module.specs.ModuleReading.{module_of}
@@ -22,22 +20,22 @@ use Rattle.reloc_apply.specs.Windows.{filled, patch_of}
 use Rattle.image_emit.specs.Bytes.{Tree, source_bytes, bytes_of}
 use Rattle.image_emit.specs.Filled.{each_filled}
 use Rattle.image_emit.specs.Spelled.{module_with, IsTree, IsSpellable}
-use Rattle.link_worlds.specs.link_rules.Program.{Program, Part, Ref, refs}
+use Rattle.link_worlds.specs.link_rules.Program.{Program, Part}
 use Rattle.link_worlds.specs.link_rules.Marks.{live, refs_of}
-use Rattle.link_worlds.specs.link_rules.Keys.{FunctionKey, outside, linker_function, stub, own, functions, defined_functions, function_imports_of, is_function_at, function_number, ref_function, same_function}
+use Rattle.link_worlds.specs.link_rules.Keys.{FunctionKey, outside, linker_function, stub, own, functions, defined_functions, function_imports_of, is_function_at}
 use Rattle.dylink_out.specs.Shared.{apply_body}
 use Rattle.link_worlds.specs.link_rules.Loader.{words}
 use Rattle.link_worlds.specs.link_rules.Values.{Layout, part_bytes, windows, named_window, solid_segments}
 use Rattle.link_worlds.specs.link_rules.Output.{layout, image, source_windows, body_of, body_windows, windows_in, source_of, calls_of, defined}
 use Rattle.link_worlds.specs.link_rules.LinkOf.{output_bytes}
-use Rattle.link_worlds.specs.Bodies.{linked_source, linked_part, linked_body, linked_calls, unplaced}
+use Rattle.link_worlds.specs.Bodies.{linked_source, linked_part, linked_body, linked_calls}
 use Rattle.link_worlds.specs.Worlds.{layout_of, linked_tree, linked_bodies, module_by}
 use Rattle.link_worlds.proofs.Functions.{stood, Stood, find_part, live_apart}
 use Rattle.link_worlds.proofs.Spaces.{outer, outer_defined, kept_defined}
 use Rattle.output_module.specs.Filled.{names_in, linked_with, FilledBody}
 use Rattle.output_module.specs.Outputs.{IsCoded, IsWritten, IsRead, OutputIsRead}
 use Rattle.output_module.proofs.Placeless.{same_trace}
-use Rattle.output_module.proofs.Made.{ctor_is, stub_is}
+use Rattle.output_module.proofs.Made.{calls_are, stub_is}
 
 -- what the bytes of a tree spell
 pub record AreSpelled : Type 0 where
@@ -72,20 +70,9 @@ module _ (filled_body : FilledBody) (p : Program) (exports : List InputSymbol) (
     sym (ap (linked_body p lay part.named) (body_again (part_bytes p part) c.body c.spelled) ∙ ap (λ ns. linked_with p lay ns c.body) c.named),
   )
 
-  small : (ref : Ref) → function_number lay.numbers (ref_function ref) < 2 ^ 32
-  small ref = position_below (same_function (ref_function ref)) lay.numbers.functions (position (same_function (ref_function ref)) lay.numbers.functions) refl (2 ^ 32) w.few
-
-  calls_same : (rs : List Ref) → instrs_of (map (λ ref. unplaced p lay (instrs.Call (function_number lay.numbers (ref_function ref)))) rs ++ unplaced p lay (instrs.Plain 0x0B) ∷ [])
-      ≡ map (λ f. instrs.Call f) (map (λ ref. function_number lay.numbers (ref_function ref)) rs) ++ instrs.Plain 0x0B ∷ []
-  calls_same [] = refl
-  calls_same (r ∷ rs) = ap (λ is. instrs.Call (function_number lay.numbers (ref_function r)) ∷ is) (calls_same rs)
-
   made_body : (o : Option Part) (part : Part) → o ≡ Some part → (b : Body) × SpellsBody b (ctor_body (calls_of Plain p parts exports lay o)) × (placeless b ≡ placeless (linked_calls p lay o))
   made_body None part e = absurd (grind arith)
-  made_body (Some q) part e =
-      let fs = map (λ ref. function_number lay.numbers (ref_function ref)) (refs q) in
-      let r = ctor_is fs (λ f h. let m = has_map (λ ref. function_number lay.numbers (ref_function ref)) (refs q) f h in subst (λ n. n < 2 ^ 32) m.2 (small m.0)) in
-      (r.0, r.1, r.2 ∙ ap (λ is. ([], is)) (sym (calls_same (refs q))))
+  made_body (Some q) part e = calls_are p lay q w.few
 
   own_body : (o : Option Part) (part : Part) → o ≡ Some part → IsCoded p part
       → (b : Body) × SpellsBody b (filled (map patch_of (windows_in Plain p parts exports lay o)) (source_bytes p.files (source_of Plain p parts exports lay o))) × (placeless b ≡ placeless (linked_part p lay o))

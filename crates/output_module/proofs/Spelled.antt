@@ -10,20 +10,20 @@ use Rattle.leb_codec.specs.Spelling.{Spells, magnitude, signed_value, last_byte}
 use Rattle.leb_codec.proofs.Computed.{u32_padded_spells, u32_padded_length, s32_padded_spelled}
 use Rattle.body_windows.specs.declared.immediate.ImmediateKind.TheVariants.{FunctionIndex, TypeIndex, TableIndex, GlobalIndex, MemoryOffset, Constant}
 use Rattle.body_windows.specs.Immediates.{may_stand}
-use Rattle.made_symbols.specs.declared.mode.Mode.TheVariants.{Plain}
+use Rattle.made_symbols.specs.declared.mode.Mode.{Mode}
 use Rattle.reloc_apply.specs.declared.window.Form.{Form}
 use Rattle.reloc_apply.specs.declared.window.Form.TheVariants.{Unsigned5, Signed5}
 use Rattle.reloc_apply.specs.Windows.{bits32, value, signed32}
 use Rattle.link_worlds.specs.link_rules.Program.{Named}
 use Rattle.link_worlds.specs.link_rules.Values.{Layout, named_window, form_of}
-use Rattle.link_worlds.specs.Names.{number_at}
+use Rattle.link_worlds.specs.Names.{number_in}
 
 pub bits_small : (z : ℤ) → bits32 z < 2 ^ 32
 bits_small (pos n) = mod-lt n (omega arith)
 bits_small (negsuc n) = omega arith
 
-pub number_small : (l : Layout) (n : Named) → number_at l n < 2 ^ 32
-number_small l n = bits_small (value (named_window Plain l n))
+pub number_small : (mode : Mode) (l : Layout) (n : Named) → number_in mode l n < 2 ^ 32
+number_small mode l n = bits_small (value (named_window mode l n))
 
 -- a number without a sign
 pub as_u32 : (n : ℕ) → n < 2 ^ 32 → Spells magnitude U32 (u32_padded n) n
@@ -39,16 +39,16 @@ as_s33 n h =
       value_is = ap pos s.value_is ∙ sym (ap (λ b. cond b (pos (magnitude (u32_padded n))) (pos (magnitude (u32_padded n)) -ℤ pos (128 ^ length (u32_padded n)))) (lt-ltb (last_byte (u32_padded n)) 64 (omega (arith, low))));
     }
 
-signed_range : (n : ℕ) → n < 2 ^ 32 → (neg_ℤ (pos (2 ^ 31)) ≤ℤ signed32 n) × (signed32 n <ℤ pos (2 ^ 31))
-signed_range n h = onto (nat_lt n (2 ^ 31)) refl
+pub signed_range : (n : ℕ) → (neg_ℤ (pos (2 ^ 31)) ≤ℤ signed32 n) × (signed32 n <ℤ pos (2 ^ 31))
+signed_range n = onto (nat_lt n (2 ^ 31)) refl
   where
     onto : (b : Bool) → nat_lt n (2 ^ 31) ≡ b → (neg_ℤ (pos (2 ^ 31)) ≤ℤ cond b (pos n) (negsuc (2 ^ 32 - 1 - n))) × (cond b (pos n) (negsuc (2 ^ 32 - 1 - n)) <ℤ pos (2 ^ 31))
     onto true e = let k : n < 2 ^ 31 = ltb-true n (2 ^ 31) e in (omega (arith, ints, k), omega (arith, ints, k))
-    onto false e = let k : 2 ^ 31 ≤ n = ltb-false n (2 ^ 31) e in (omega (arith, ints, k, h), omega (arith, ints, k, h))
+    onto false e = let k : 2 ^ 31 ≤ n = ltb-false n (2 ^ 31) e in (omega (arith, ints, k), omega (arith, ints, k))
 
 -- a constant
 pub as_s32 : (n : ℕ) → n < 2 ^ 32 → Spells signed_value S32 (s32_padded (signed32 n)) (signed32 n)
-as_s32 n h = let r = signed_range n h in s32_padded_spelled (signed32 n) r.0 r.1
+as_s32 n h = let r = signed_range n in s32_padded_spelled (signed32 n) r.0 r.1
 
 -- ---- forms, by what they stand on
 

@@ -10,19 +10,20 @@ use Rattle.wasm_instr.specs.Bodies.{Nest, step_of, placed, IsCode, SpellsBody}
 use Rattle.body_windows.specs.declared.immediate.Immediate.{Immediate}
 use Rattle.body_windows.specs.Immediates.{immediates, immediates_in, end_of, AreInOrder}
 use Rattle.reloc_apply.specs.Windows.{filled, patch_of, patched}
+use Rattle.made_symbols.specs.declared.mode.Mode.{Mode}
 use Rattle.made_symbols.specs.declared.mode.Mode.TheVariants.{Plain}
-use Rattle.link_worlds.specs.link_rules.Program.{Program, Named}
+use Rattle.link_worlds.specs.link_rules.Program.{Named}
 use Rattle.link_worlds.specs.link_rules.Values.{Layout, named_window}
-use Rattle.link_worlds.specs.Bodies.{place_of, linked_placed, linked_at}
-use Rattle.output_module.specs.Filled.{AllStandOn, names_in, patches, FilledBody, Reads, TakenBody}
+use Rattle.link_worlds.specs.Bodies.{place_of, placed_in, instr_in}
+use Rattle.output_module.specs.Filled.{AllStandOn, names_in, patches_in, FilledBody, FilledBodies, Reads, TakenBody}
 use Rattle.link_worlds.specs.Sound.{Takes}
 use Rattle.output_module.proofs.Places.{Before, stands_at}
 use Rattle.output_module.proofs.Becoming.{Became, became, takes}
 
 -- what is written into one list of windows, and then another
-fill_both : (l : Layout) (xs ys : List Named) (bytes : List ℕ) → filled (patches l (xs ++ ys)) bytes ≡ filled (patches l ys) (filled (patches l xs) bytes)
-fill_both l [] ys bytes = refl
-fill_both l (x ∷ xs) ys bytes = fill_both l xs ys (patched (patch_of (named_window Plain l x)) bytes)
+fill_both : (mode : Mode) (l : Layout) (xs ys : List Named) (bytes : List ℕ) → filled (patches_in mode l (xs ++ ys)) bytes ≡ filled (patches_in mode l ys) (filled (patches_in mode l xs) bytes)
+fill_both mode l [] ys bytes = refl
+fill_both mode l (x ∷ xs) ys bytes = fill_both mode l xs ys (patched (patch_of (named_window mode l x)) bytes)
 
 names_both : (os qs : List (Option Named)) → names_in (os ++ qs) ≡ names_in os ++ names_in qs
 names_both [] qs = refl
@@ -69,11 +70,11 @@ behind from fin (i ∷ is) js (Some m ∷ os) o h =
     }
 
 -- What the bytes of code become.
-pub record Filled (p : Program) (l : Layout) (pre : List ℕ) (end : ℕ) (nest : Nest) (code : List Placed) (bytes : List ℕ) (before ns : List Named) : Type 0 where
+pub record Filled (mode : Mode) (l : Layout) (pre : List ℕ) (end : ℕ) (nest : Nest) (code : List Placed) (bytes : List ℕ) (before ns : List Named) : Type 0 where
   pub new : List ℕ
   pub long : length new ≡ length bytes
-  pub filled_is : filled (patches l ns) (pre ++ bytes) ≡ pre ++ new
-  pub spells : IsCode end nest (map (linked_placed p l (before ++ ns)) code) new
+  pub filled_is : filled (patches_in mode l ns) (pre ++ bytes) ≡ pre ++ new
+  pub spells : IsCode end nest (map (placed_in mode l (before ++ ns)) code) new
 
 -- ---- one instruction and those behind it, over plain variables
 
@@ -91,14 +92,14 @@ both_before from next before ns b l g n h = ⊎_elim (λ k. let q : place_of n <
 tail_sum : (last rest new_last new_rest : List ℕ) → length new_last ≡ length last → length new_rest ≡ length rest → length (new_last ++ new_rest) ≡ length (last ++ rest)
 tail_sum last rest new_last new_rest a b = length-append new_last new_rest ∙ omega (arith, a, b) ∙ sym (length-append last rest)
 
-module _ (p : Program) (l : Layout) (pre : List ℕ) (end : ℕ) (block : Bool) (others : Nest) (x : Placed) (code : List Placed) (head last rest : List ℕ) (next : Nest) (before n1 n2 : List Named)
+module _ (mode : Mode) (l : Layout) (pre : List ℕ) (end : ℕ) (block : Bool) (others : Nest) (x : Placed) (code : List Placed) (head last rest : List ℕ) (next : Nest) (before n1 n2 : List Named)
     (new_head new_last new_rest : List ℕ) where
-  filled_step : filled (patches l n1) (pre ++ (head ++ (last ++ rest))) ≡ pre ++ (new_head ++ (new_last ++ rest))
-      → filled (patches l n2) ((pre ++ (new_head ++ new_last)) ++ rest) ≡ (pre ++ (new_head ++ new_last)) ++ new_rest
-      → filled (patches l (n1 ++ n2)) (pre ++ (head ++ (last ++ rest))) ≡ pre ++ (new_head ++ (new_last ++ new_rest))
+  filled_step : filled (patches_in mode l n1) (pre ++ (head ++ (last ++ rest))) ≡ pre ++ (new_head ++ (new_last ++ rest))
+      → filled (patches_in mode l n2) ((pre ++ (new_head ++ new_last)) ++ rest) ≡ (pre ++ (new_head ++ new_last)) ++ new_rest
+      → filled (patches_in mode l (n1 ++ n2)) (pre ++ (head ++ (last ++ rest))) ≡ pre ++ (new_head ++ (new_last ++ new_rest))
   filled_step a b =
-      fill_both l n1 n2 (pre ++ (head ++ (last ++ rest)))
-      ∙ ap (filled (patches l n2)) (a ∙ joined rest)
+      fill_both mode l n1 n2 (pre ++ (head ++ (last ++ rest)))
+      ∙ ap (filled (patches_in mode l n2)) (a ∙ joined rest)
       ∙ b
       ∙ sym (joined new_rest)
     where
@@ -106,10 +107,10 @@ module _ (p : Program) (l : Layout) (pre : List ℕ) (end : ℕ) (block : Bool) 
       joined z = ap (λ y. pre ++ y) (sym (append_assoc new_head new_last z)) ∙ sym (append_assoc pre (new_head ++ new_last) z)
 
   one_filled : (instr : Instr) → IsInProfile instr → SpellsHead instr new_head → SpellsLast instr new_last → step_of (block ∷ others) instr ≡ Some next
-      → linked_placed p l (before ++ (n1 ++ n2)) x ≡ placed end instr (new_head ++ (new_last ++ new_rest)) (new_last ++ new_rest) new_rest
-      → IsCode end next (map (linked_placed p l ((before ++ n1) ++ n2)) code) new_rest
-      → linked_at p l (before ++ (n1 ++ n2)) x x.instr ≡ instr
-      → IsCode end (block ∷ others) (map (linked_placed p l (before ++ (n1 ++ n2))) (x ∷ code)) (new_head ++ (new_last ++ new_rest))
+      → placed_in mode l (before ++ (n1 ++ n2)) x ≡ placed end instr (new_head ++ (new_last ++ new_rest)) (new_last ++ new_rest) new_rest
+      → IsCode end next (map (placed_in mode l ((before ++ n1) ++ n2)) code) new_rest
+      → instr_in mode l (before ++ (n1 ++ n2)) x x.instr ≡ instr
+      → IsCode end (block ∷ others) (map (placed_in mode l (before ++ (n1 ++ n2))) (x ∷ code)) (new_head ++ (new_last ++ new_rest))
   one_filled instr f h t st pl r e = (
     new_head,
     new_last,
@@ -121,24 +122,24 @@ module _ (p : Program) (l : Layout) (pre : List ℕ) (end : ℕ) (block : Bool) 
     subst (λ i. SpellsLast i new_last) (sym e) t,
     pl ∙ ap (λ i. placed end i (new_head ++ (new_last ++ new_rest)) (new_last ++ new_rest) new_rest) (sym e),
     ap (step_of (block ∷ others)) e ∙ st,
-    subst (λ ns. IsCode end next (map (linked_placed p l ns) code) new_rest) (append_assoc before n1 n2) r,
+    subst (λ ns. IsCode end next (map (placed_in mode l ns) code) new_rest) (append_assoc before n1 n2) r,
   )
 
-module _ (p : Program) (l : Layout) (pre : List ℕ) (end : ℕ) (block : Bool) (others : Nest) (x : Placed) (code : List Placed) (bytes head last rest : List ℕ) (next : Nest) (before n1 n2 : List Named) where
+module _ (mode : Mode) (l : Layout) (pre : List ℕ) (end : ℕ) (block : Bool) (others : Nest) (x : Placed) (code : List Placed) (bytes head last rest : List ℕ) (next : Nest) (before n1 n2 : List Named) where
   step_filled : bytes ≡ head ++ (last ++ rest) → x ≡ placed end x.instr bytes (last ++ rest) rest → step_of (block ∷ others) x.instr ≡ Some next
-      → (one : Became l pre head last rest x.instr (linked_at p l (before ++ (n1 ++ n2)) x x.instr) n1)
-      → Filled p l (pre ++ (one.new_head ++ one.new_last)) end next code rest (before ++ n1) n2
-      → Filled p l pre end (block ∷ others) (x ∷ code) bytes before (n1 ++ n2)
+      → (one : Became mode l pre head last rest x.instr (instr_in mode l (before ++ (n1 ++ n2)) x x.instr) n1)
+      → Filled mode l (pre ++ (one.new_head ++ one.new_last)) end next code rest (before ++ n1) n2
+      → Filled mode l pre end (block ∷ others) (x ∷ code) bytes before (n1 ++ n2)
   step_filled c xe st one r =
       let new_tail : length (one.new_last ++ r.new) ≡ length (last ++ rest) = tail_sum last rest one.new_last r.new one.last_long r.long in
       let new_long : length (one.new_head ++ (one.new_last ++ r.new)) ≡ length bytes = tail_sum head (last ++ rest) one.new_head (one.new_last ++ r.new) one.head_long new_tail ∙ sym (ap length c) in
-      let at_place : linked_placed p l (before ++ (n1 ++ n2)) x ≡ placed end (linked_at p l (before ++ (n1 ++ n2)) x x.instr) (one.new_head ++ (one.new_last ++ r.new)) (one.new_last ++ r.new) r.new =
-      placed_same end x (linked_at p l (before ++ (n1 ++ n2)) x x.instr) bytes (last ++ rest) rest (one.new_head ++ (one.new_last ++ r.new)) (one.new_last ++ r.new) r.new xe (sym new_long) (sym new_tail) (sym r.long) in
+      let at_place : placed_in mode l (before ++ (n1 ++ n2)) x ≡ placed end (instr_in mode l (before ++ (n1 ++ n2)) x x.instr) (one.new_head ++ (one.new_last ++ r.new)) (one.new_last ++ r.new) r.new =
+      placed_same end x (instr_in mode l (before ++ (n1 ++ n2)) x x.instr) bytes (last ++ rest) rest (one.new_head ++ (one.new_last ++ r.new)) (one.new_last ++ r.new) r.new xe (sym new_long) (sym new_tail) (sym r.long) in
       record {
         new = one.new_head ++ (one.new_last ++ r.new);
         long = new_long;
-        filled_is = ap (λ z. filled (patches l (n1 ++ n2)) (pre ++ z)) c ∙ filled_step p l pre end block others x code head last rest next before n1 n2 one.new_head one.new_last r.new one.filled_is r.filled_is;
-        spells = one_filled p l pre end block others x code head last rest next before n1 n2 one.new_head one.new_last r.new (linked_at p l (before ++ (n1 ++ n2)) x x.instr) one.profile one.heads one.lasts
+        filled_is = ap (λ z. filled (patches_in mode l (n1 ++ n2)) (pre ++ z)) c ∙ filled_step mode l pre end block others x code head last rest next before n1 n2 one.new_head one.new_last r.new one.filled_is r.filled_is;
+        spells = one_filled mode l pre end block others x code head last rest next before n1 n2 one.new_head one.new_last r.new (instr_in mode l (before ++ (n1 ++ n2)) x x.instr) one.profile one.heads one.lasts
             (one.steps (block ∷ others) ∙ st) at_place r.spells refl;
       }
 
@@ -158,26 +159,26 @@ next_sum end pre bytes head last rest new_head new_last c e a b =
     let long : length (pre ++ (new_head ++ new_last)) ≡ length pre + (length new_head + length new_last) = length-append pre (new_head ++ new_last) ∙ ap (λ n. length pre + n) (length-append new_head new_last) in
     omega (arith, long, e, whole, a, b, tail_long)
 
-module _ (p : Program) (l : Layout) where
-  code_ends : (end : ℕ) (bytes pre : List ℕ) (before : List Named) → bytes ≡ [] → (code : List Placed) (os : List (Option Named)) → code ≡ [] → AllStandOn (immediates code) os → Filled p l pre end [] code bytes before (names_in os)
+module _ (mode : Mode) (l : Layout) where
+  code_ends : (end : ℕ) (bytes pre : List ℕ) (before : List Named) → bytes ≡ [] → (code : List Placed) (os : List (Option Named)) → code ≡ [] → AllStandOn (immediates code) os → Filled mode l pre end [] code bytes before (names_in os)
   code_ends end bytes pre before z [] [] q s = record { new = bytes; long = refl; filled_is = refl; spells = (refl, z) }
   code_ends end bytes pre before z [] (x ∷ os) q s = absurd s
   code_ends end bytes pre before z (x ∷ xs) os q s = absurd (grind arith)
 
   code_filled : (end fin : ℕ) (nest : Nest) (code : List Placed) (bytes pre : List ℕ) (before : List Named) (from : ℕ) (os : List (Option Named))
       → IsCode end nest code bytes → length pre + length bytes ≡ end → AreInOrder from fin (immediates code) → Before from before → AllStandOn (immediates code) os
-      → Filled p l pre end nest code bytes before (names_in os)
+      → Filled mode l pre end nest code bytes before (names_in os)
   code_filled end fin [] code bytes pre before from os c e o b s = code_ends end bytes pre before c.1 code os c.0 s
   code_filled end fin (block ∷ others) [] bytes pre before from os c e o b s = absurd c
   code_filled end fin (block ∷ others) (x ∷ code) bytes pre before from os c e o b s =
       let at = places_are x end pre bytes c.0 c.1 c.2 c.4 e c.8 in
       let k = cut (immediates_in x.instr x.at x.mid x.end) (immediates code) os s in
       let w = behind from fin (immediates_in x.instr x.at x.mid x.end) (immediates code) k.front o k.on_front in
-      let one = became p l pre c.0 c.1 c.2 x at.0 at.1 at.2 before from fin b (immediates code) k.back k.on_back x.instr c.5 c.6 c.7 k.front k.on_front o in
+      let one = became mode l pre c.0 c.1 c.2 x at.0 at.1 at.2 before from fin b (immediates code) k.back k.on_back x.instr c.5 c.6 c.7 k.front k.on_front o in
       let r = code_filled end fin c.3 code c.2 (pre ++ (one.new_head ++ one.new_last)) (before ++ names_in k.front) w.next k.back c.10
       (next_sum end pre bytes c.0 c.1 c.2 one.new_head one.new_last c.4 e one.head_long one.last_long) w.order (both_before from w.next before (names_in k.front) b w.low w.before) k.on_back in
-      subst (λ ns. Filled p l pre end (block ∷ others) (x ∷ code) bytes before ns) (sym (ap names_in k.whole ∙ names_both k.front k.back))
-      (step_filled p l pre end block others x code bytes c.0 c.1 c.2 c.3 before (names_in k.front) (names_in k.back) c.4 c.8 c.9 one r)
+      subst (λ ns. Filled mode l pre end (block ∷ others) (x ∷ code) bytes before ns) (sym (ap names_in k.whole ∙ names_both k.front k.back))
+      (step_filled mode l pre end block others x code bytes c.0 c.1 c.2 c.3 before (names_in k.front) (names_in k.back) c.4 c.8 c.9 one r)
 
   -- each instruction of code takes what stands on its immediates
   code_takes : (end fin : ℕ) (nest : Nest) (code : List Placed) (bytes pre : List ℕ) (before : List Named) (from : ℕ) (os : List (Option Named))
@@ -195,7 +196,7 @@ module _ (p : Program) (l : Layout) where
       let moved : before ++ names_in os ≡ (before ++ names_in k.front) ++ names_in k.back = whole ∙ sym (append_assoc before (names_in k.front) (names_in k.back)) in
       ⊎_elim
       (λ q. subst (λ z. Takes (before ++ names_in os) z) q (subst (λ ns. Takes ns x) (sym whole)
-      (takes p l pre c.0 c.1 c.2 x at.0 at.1 at.2 before from fin b (immediates code) k.back k.on_back x.instr k.front k.on_front o (subst (λ ns. Reads ns x) whole (r x (inl refl))))))
+      (takes mode l pre c.0 c.1 c.2 x at.0 at.1 at.2 before from fin b (immediates code) k.back k.on_back x.instr k.front k.on_front o (subst (λ ns. Reads ns x) whole (r x (inl refl))))))
       (λ g. subst (λ ns. Takes ns y) (sym moved)
       (code_takes end fin c.3 code c.2 (pre ++ (c.0 ++ c.1)) (before ++ names_in k.front) w.next k.back c.10 (next_sum end pre bytes c.0 c.1 c.2 c.0 c.1 c.4 e refl refl) w.order
       (both_before from w.next before (names_in k.front) b w.low w.before) k.on_back (λ z m. subst (λ ns. Reads ns z) moved (r z (inr m))) y g))
@@ -204,14 +205,17 @@ module _ (p : Program) (l : Layout) where
 pub taken_body : ((body : Body) (bytes : List ℕ) → SpellsBody body bytes → AreInOrder 0 (end_of 0 body.code) (immediates body.code)) → TakenBody
 taken_body order p l body os bytes s a r x h =
     let whole : length s.0 + length s.1 ≡ length bytes = sym (ap length s.2 ∙ length-append s.0 s.1) in
-    code_takes p l (length bytes) (end_of 0 body.code) (false ∷ []) body.code s.1 s.0 [] 0 os s.4 whole (order body bytes s) (λ n h. absurd h) a r x h
+    code_takes Plain l (length bytes) (end_of 0 body.code) (false ∷ []) body.code s.1 s.0 [] 0 os s.4 whole (order body bytes s) (λ n h. absurd h) a r x h
 
-pub filled_body : ((body : Body) (bytes : List ℕ) → SpellsBody body bytes → AreInOrder 0 (end_of 0 body.code) (immediates body.code)) → FilledBody
-filled_body order p l body os bytes s a =
+pub filled_bodies : ((body : Body) (bytes : List ℕ) → SpellsBody body bytes → AreInOrder 0 (end_of 0 body.code) (immediates body.code)) → FilledBodies
+filled_bodies order mode l body os bytes s a =
     let locals = s.0 in
     let code = s.1 in
     let whole : length locals + length code ≡ length bytes = sym (ap length s.2 ∙ length-append locals code) in
-    let r = code_filled p l (length bytes) (end_of 0 body.code) (false ∷ []) body.code code locals [] 0 os s.4 whole (order body bytes s) (λ n h. absurd h) a in
-    let same : filled (patches l (names_in os)) bytes ≡ locals ++ r.new = ap (filled (patches l (names_in os))) s.2 ∙ r.filled_is in
-    let long : length bytes ≡ length (filled (patches l (names_in os)) bytes) = sym (ap length same ∙ length-append locals r.new ∙ ap (λ n. length locals + n) r.long ∙ whole) in
-    (locals, r.new, same, s.3, subst (λ n. IsCode n (false ∷ []) (map (linked_placed p l (names_in os)) body.code) r.new) long r.spells)
+    let r = code_filled mode l (length bytes) (end_of 0 body.code) (false ∷ []) body.code code locals [] 0 os s.4 whole (order body bytes s) (λ n h. absurd h) a in
+    let same : filled (patches_in mode l (names_in os)) bytes ≡ locals ++ r.new = ap (filled (patches_in mode l (names_in os))) s.2 ∙ r.filled_is in
+    let long : length bytes ≡ length (filled (patches_in mode l (names_in os)) bytes) = sym (ap length same ∙ length-append locals r.new ∙ ap (λ n. length locals + n) r.long ∙ whole) in
+    (locals, r.new, same, s.3, subst (λ n. IsCode n (false ∷ []) (map (placed_in mode l (names_in os)) body.code) r.new) long r.spells)
+
+pub filled_body : ((body : Body) (bytes : List ℕ) → SpellsBody body bytes → AreInOrder 0 (end_of 0 body.code) (immediates body.code)) → FilledBody
+filled_body order p l body os bytes s a = filled_bodies order Plain l body os bytes s a

@@ -6,12 +6,13 @@ use Rattle.wasm_instr.specs.Bodies.{SpellsBody}
 use Rattle.body_windows.specs.declared.immediate.Immediate.{Immediate}
 use Rattle.body_windows.specs.declared.immediate.ImmediateKind.TheVariants.{TypeIndex}
 use Rattle.body_windows.specs.Immediates.{immediates, may_stand, needs_window}
+use Rattle.made_symbols.specs.declared.mode.Mode.{Mode}
 use Rattle.made_symbols.specs.declared.mode.Mode.TheVariants.{Plain}
 use Rattle.reloc_apply.specs.declared.window.Patch.{Patch}
 use Rattle.reloc_apply.specs.Windows.{patch_of, filled}
 use Rattle.link_worlds.specs.link_rules.Program.{Program, Ref, Named, a_symbol, a_type}
 use Rattle.link_worlds.specs.link_rules.Values.{Layout, named_window}
-use Rattle.link_worlds.specs.Bodies.{named_at, linked_placed}
+use Rattle.link_worlds.specs.Bodies.{named_at, placed_in}
 use Rattle.link_worlds.specs.Sound.{Takes}
 use Rattle.list_places.specs.Has.{Has}
 use Rattle.linking_section.specs.declared.symbol.SymbolKind.TheVariants.{GlobalVar}
@@ -39,13 +40,24 @@ abbrev pub names_in : List (Option Named) → List Named
 names_in os = filter_map (λ o. o) os
 
 -- What is written into the windows.
+abbrev pub patches_in : Mode → Layout → List Named → List Patch
+patches_in mode l names = map (λ n. patch_of (named_window mode l n)) names
+
 abbrev pub patches : Layout → List Named → List Patch
-patches l names = map (λ n. patch_of (named_window Plain l n)) names
+patches l names = patches_in Plain l names
+
+abbrev pub numbered_with : Mode → Layout → List Named → Body → Body
+numbered_with mode l names b = record { locals = b.locals; code = map (placed_in mode l names) b.code }
 
 abbrev pub linked_with : Program → Layout → List Named → Body → Body
-linked_with p l names b = record { locals = b.locals; code = map (linked_placed p l names) b.code }
+linked_with p l names b = numbered_with Plain l names b
 
--- Where the references stand on the immediates of a body, the bytes with their windows written spell the body with numbers.
+-- Where the references stand on the immediates of a body, the bytes with their windows written spell the body with numbers: in an output of each
+-- mode, and so in a plain one.
+abbrev pub FilledBodies : Type 0
+FilledBodies = (mode : Mode) (l : Layout) (body : Body) (os : List (Option Named)) (bytes : List ℕ) → SpellsBody body bytes → AllStandOn (immediates body.code) os
+    → SpellsBody (numbered_with mode l (names_in os) body) (filled (patches_in mode l (names_in os)) bytes)
+
 abbrev pub FilledBody : Type 0
 FilledBody = (p : Program) (l : Layout) (body : Body) (os : List (Option Named)) (bytes : List ℕ) → SpellsBody body bytes → AllStandOn (immediates body.code) os
     → SpellsBody (linked_with p l (names_in os) body) (filled (patches l (names_in os)) bytes)

@@ -3,13 +3,20 @@
 //! is spelled right, and what it spells.
 #![tactic(auto)]
 
-ghost use Rattle.output_module.specs.Filled.{FilledBody, TakenBody};
+ghost use Rattle.output_module.specs.Filled.{FilledBody, FilledBodies, TakenBody};
 ghost use Rattle.output_module.specs.Outputs.{OutputIsRead};
 
 /// Where references stand on the immediates of a body, its bytes with the windows written spell the
 /// body with numbers in the place of its references.
 pub fn filled_bodies_are_read()
     ensures { FilledBody }
+{
+    body_windows::bodies_are_in_order();
+}
+
+/// So they do in an output of each mode, plain or shared, by the numbers of that output.
+pub fn numbered_bodies_are_read()
+    ensures { FilledBodies }
 {
     body_windows::bodies_are_in_order();
 }

@@ -1,0 +1,6 @@
+mod Applied
+mod Held
+mod Outputs
+pub mod Keys
+mod Stored
+mod Ranged
