@@ -1,12 +1,12 @@
-mod Zips
-mod Parts
+pub mod Zips
+pub mod Parts
 mod ByKind
 mod RunParts
 mod Runs
 mod Once
 mod Middles
 mod Chunks
-mod Symbols
+pub mod Symbols
 mod MovingLaws
 mod Referred
 mod Again
@@ -29,18 +29,18 @@ mod Imported
 mod Exported
 mod Spans
 mod Windows
-mod Sectioned
-mod KeptParts
+pub mod Sectioned
+pub mod KeptParts
 mod PartsBack
 mod StandingSymbols
-mod SymbolsBack
+pub mod SymbolsBack
 mod SymbolsRead
 mod RunBack
 mod NamedObjects
-mod RulesKept
-mod Stood
+pub mod RulesKept
+pub mod Stood
 mod RelocRules
-mod WindowRules
+pub mod WindowRules
 mod GroupRules
 mod NoneBroken
 mod GroupsBack

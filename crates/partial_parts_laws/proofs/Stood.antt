@@ -59,7 +59,7 @@ ref_told place kind addend (Some e) (Some m) ref is =
 ref_told place kind addend (Some e) None ref is = absurd cc
 ref_told place kind addend None m ref is = absurd cc
 
-symbol_told : (o : Option Ref) (ref : Ref) → option_map a_symbol o ≡ Some (a_symbol ref) → o ≡ Some ref
+pub symbol_told : (o : Option Ref) (ref : Ref) → option_map a_symbol o ≡ Some (a_symbol ref) → o ≡ Some ref
 symbol_told None ref is = absurd cc
 symbol_told (Some r) ref is = ap (λ o. named_as o) is
   where

@@ -1,0 +1,4 @@
+pub mod Few
+pub mod Files
+pub mod Law
+pub mod Told

@@ -1,0 +1,4 @@
+pub mod Alike
+pub mod Loads
+pub mod Names
+pub mod Numbered

@@ -1,0 +1,12 @@
+mod Files
+mod ReadWell
+mod Globals
+mod SpelledGlobals
+mod Opcodes
+mod Windows
+mod Emptied
+mod Functions
+mod Cells
+mod Placed
+mod AddressesRead
+mod Objects
