@@ -110,7 +110,7 @@ fn debugs_of<'a>(
 }
 
 /// The bytes of a part of a file, fewer where the file ends before.
-fn bytes_in(files: &[Seq<u8>], s: FileSpan) -> &[u8]
+pub fn bytes_in(files: &[Seq<u8>], s: FileSpan) -> &[u8]
     ensures { result.now ≡ file_part files.now s }
 {
     match files.get(s.file as usize) {

@@ -23,5 +23,8 @@ mod targets;
 mod windows;
 
 pub use error::DebugError;
+pub use faults::bytes_in;
 pub use joining::{join_debug, join_debug_by};
 pub use places::DebugPlaces;
+pub use refs::CustomRef;
+pub use sections::customs;

@@ -4,6 +4,8 @@ use Rattle.std.specs.declared.cmp.Ordering.{Ordering}
 use Rattle.std.specs.declared.cmp.Ordering.TheVariants.{Less, Equal, Greater}
 use Rattle.std.specs.Ordering.{match_ordering, ordering_reverse, is_eq}
 use Rattle.std.specs.Cmp.Lexicographic.{nat_list_cmp_total}
+use Rattle.std.proofs.lemmas.Map.Text.{is_eq-slice_cmp}
+use Rattle.std.proofs.lemmas.Slice.Eq.{bytes_eq-Decides}
 use Rattle.std.specs.FinMap.{slice_cmp-IsAntisymmetric, nat_cmp-IsAntisymmetric}
 use Rattle.std.specs.List.{list_any, AllByRecursion}
 use Rattle.std.specs.List.Sorted.{IsStrictlySortedBy}
@@ -25,6 +27,10 @@ or_swap : (a b c : Bool) → (a || (b || c)) ≡ (b || (a || c))
 or_swap true true c = refl
 or_swap true false c = refl
 or_swap false b c = refl
+
+or_true : (a : Bool) → (a || true) ≡ true
+or_true true = refl
+or_true false = refl
 
 pub or_move : (a b c : Bool) → ((a || b) || c) ≡ (b || (a || c))
 or_move true true c = refl
@@ -93,6 +99,28 @@ objects_used n (features ∷ objects) names =
 pub union_used : (objects : List (List Feature)) (name : List ℕ) → is_among (union_of objects) name ≡ list_any (uses name) objects
 unfolding union_of
 union_used objects name = objects_used name objects []
+
+-- ---- what is there already
+
+own_name : (n : List ℕ) → is_name n n ≡ true
+own_name n = is_eq-slice_cmp n n ∙ (bytes_eq-Decides n n).1 refl
+
+-- features whose names are among the names add nothing
+none_new : (features : List Feature) (names : List (List ℕ)) → ((n : List ℕ) → uses n features ≡ true → is_among names n ≡ true) → with_features names features ≡ names
+none_new [] names there = refl
+none_new (f ∷ features) names there =
+    ap (λ (more : List (List ℕ)). with_features more features) (by (is_used f.mark) refl)
+    ∙ none_new features names (λ n used. there n (ap (λ (b : Bool). (is_used f.mark && is_name n f.name) || b) used ∙ or_true (is_used f.mark && is_name n f.name)))
+  where
+    by : (b : Bool) → is_used f.mark ≡ b → cond b (with_name names f.name) names ≡ names
+    by true is =
+        ap (λ (b : Bool). cond b names (insert_key name_cmp names f.name))
+        (there f.name (ap (λ (b : Bool). (b && is_name f.name f.name) || uses f.name features) is ∙ ap (λ (b : Bool). b || uses f.name features) (own_name f.name)))
+    by false is = refl
+
+-- what was added adds nothing
+pub used_twice : (names : List (List ℕ)) (features : List Feature) → with_features (with_features names features) features ≡ with_features names features
+used_twice names features = none_new features (with_features names features) (λ n used. features_used n features names ∙ (ap (λ (b : Bool). is_among names n || b) used ∙ or_true (is_among names n)))
 
 -- ---- their order
 

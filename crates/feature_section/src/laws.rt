@@ -8,7 +8,7 @@ ghost use Rattle.feature_section.specs.Payload.{SpellsFeatures};
 ghost use Rattle.feature_section.specs.Reading.{features_at};
 ghost use Rattle.feature_section.specs.Section.{used, features_payload};
 ghost use Rattle.feature_section.specs.Conflict.{first_conflict, goes_against};
-ghost use Rattle.feature_section.specs.Union.{name_cmp, is_among, uses, union_of};
+ghost use Rattle.feature_section.specs.Union.{name_cmp, is_among, uses, with_features, union_of};
 
 /// No payload says two things.
 pub fn features_are_unambiguous()
@@ -30,6 +30,11 @@ pub fn names_are_utf8()
 pub fn the_union_is_what_is_used()
     ensures used { (objects : List (List Feature)) (name : List ℕ) → is_among (union_of objects) name ≡ list_any (uses name) objects }
     ensures sorted { (objects : List (List Feature)) → IsStrictlySortedBy name_cmp (union_of objects) }
+{}
+
+/// What an object uses is used once, however often it says so.
+pub fn used_twice_is_used_once()
+    ensures { (names : List (List ℕ)) (features : List Feature) → with_features (with_features names features) features ≡ with_features names features }
 {}
 
 /// There is a conflict exactly where an object uses what one of the objects disallows, or doesn't use what one of them requires.

@@ -16,5 +16,5 @@ pub use conflict::{Conflict, Saying, first_conflict};
 pub use fault::FeaturesError;
 pub use feature::{Feature, FeatureMark};
 pub use reading::read_features;
-pub use union::union_of;
+pub use union::{FeatureNames, union_of};
 pub use writing::{write_features, write_payload};

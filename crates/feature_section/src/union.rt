@@ -1,11 +1,12 @@
 //! The features that objects use together.
-ghost use Rattle.std.specs.Prelude.{◌≡◌, OnOk, IfOk};
+ghost use Rattle.std.specs.Prelude.{◌≡◌, [], OnOk, IfOk};
 ghost use Rattle.feature_section.specs.Union.{is_used, with_name, with_features, with_objects, union_of};
 
 use crate::feature::{Feature, FeatureMark};
 use crate::name_key::{NameKey, NameRef};
 use std::alloc::Global;
 use std::collections::BTreeSet;
+use std::marker::Model;
 use wl_base::{Name, OutOfMemory, Seq};
 
 impl FeatureMark {
@@ -17,6 +18,52 @@ impl FeatureMark {
             FeatureMark::Used | FeatureMark::Required => true,
             FeatureMark::Disallowed => false,
         }
+    }
+}
+
+/// The names of features, each once, in the order of their bytes.
+#[derive(Drop)]
+pub struct FeatureNames {
+    names: BTreeSet<NameKey>,
+}
+
+impl Model for FeatureNames {
+    ghost use Rattle.std.specs.Prelude.{List, ℕ};
+
+    ghost Value = { List (List ℕ) };
+
+    ghost view = { λ n. n.names.keys };
+}
+
+impl FeatureNames {
+    /// No name.
+    pub fn new(alloc: Global) -> FeatureNames
+        ensures { result ≡ [] }
+    {
+        FeatureNames {
+            names: BTreeSet::new(alloc),
+        }
+    }
+
+    /// Puts a name among them, unless it is there.
+    pub fn add(&mut self, alloc: Global, name: &[u8]) -> Result<(), OutOfMemory>
+        ensures { OnOk result (self.new ≡ with_name self.old name.now) }
+    {
+        add_name(alloc, &mut self.names, name)
+    }
+
+    /// Puts the features that an object uses among them.
+    pub fn add_used(&mut self, alloc: Global, features: &[Feature]) -> Result<(), OutOfMemory>
+        ensures { OnOk result (self.new ≡ with_features self.old features.now) }
+    {
+        add_features(alloc, &mut self.names, features)
+    }
+
+    /// The names, in their order.
+    pub fn list(&self, alloc: Global) -> Result<Seq<Name>, OutOfMemory>
+        ensures { IfOk result (λ list. list ≡ self.now) }
+    {
+        names_of(alloc, &self.names)
     }
 }
 

@@ -1,0 +1,3 @@
+mod Customs
+mod Maps
+mod Sizes

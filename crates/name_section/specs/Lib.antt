@@ -1,0 +1,5 @@
+pub mod Names
+pub mod Some
+pub mod Lengths
+pub mod Customs
+pub mod Rows

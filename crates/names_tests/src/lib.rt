@@ -1,0 +1,5 @@
+//! Tests. The section `name` is written.
+#![tactic(auto)]
+
+#[cfg(test)]
+mod section;
