@@ -316,11 +316,6 @@ record Planned (held : World) (items : List Said) (own : List (List ℕ)) : Type
   shared : plan.shared ≡ is_shared items
   debug : plan.keep_debug ≡ keeps_debug items
 
-not_twice : (strip shared : Bool) → ((not strip && not shared) && not shared) ≡ (not strip && not shared)
-not_twice true shared = refl
-not_twice false true = refl
-not_twice false false = refl
-
 all_spelled : (ps : List Piece) (ms : List Mark) → Every IsOption ps → Every IsPlain ms → Every IsSpelled (ps ++ marked ms)
 all_spelled [] [] a b = tt
 all_spelled [] (m ∷ ms) a b = (mark_spelled m b.0, all_spelled [] ms tt b.1)
@@ -345,10 +340,7 @@ planned laws held items own lacks l =
           ∙ i.lists;
       partial = options_say kinds.Partial ps (marked i.marks) 0 (marks_quiet kinds.Partial refl i.marks) ∙ o.partial_is;
       shared = options_say kinds.Shared ps (marked i.marks) 0 (marks_quiet kinds.Shared refl i.marks) ∙ o.shared_is;
-      debug =
-          (λ j. (options_say kinds.KeepDebug ps (marked i.marks) 0 (marks_quiet kinds.KeepDebug refl i.marks) ∙ o.debug) j
-          && not ((options_say kinds.Shared ps (marked i.marks) 0 (marks_quiet kinds.Shared refl i.marks) ∙ o.shared_is) j))
-          ∙ not_twice _ (is_shared items);
+      debug = options_say kinds.KeepDebug ps (marked i.marks) 0 (marks_quiet kinds.KeepDebug refl i.marks) ∙ o.debug;
     }
 
 of_answer : PlansAreCuts → (held : World) (items : List Said) (own told : List (List ℕ)) (f : Bool) → answered held items ≡ Links own told f → Planned held items own
