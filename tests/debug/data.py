@@ -8,17 +8,30 @@ import re
 import sys
 
 from lines import entries, quoted
-from sections import number_at, read, sections
+from sections import name_at, number_at, read, sections
 
-ADDRESS = re.compile(r"DW_OP_addr (0x[0-9a-f]+)")
+ADDRESS = re.compile(r"DW_OP_addr(x?) (0x[0-9a-f]+)")
+
+
+def table_of(module):
+    """What stands in .debug_addr, where DWARF 5 keeps addresses."""
+    data = read(module)
+    for kind, begin, end in sections(data):
+        if kind == 0 and (named := name_at(data, begin))[0] == ".debug_addr":
+            return data[named[1] : end]
+    return b""
 
 
 def addresses(module):
     """The addresses of variables, by name."""
-    found = {}
+    found, table, base = {}, table_of(module), 0
     for tag, fields in entries(module):
+        if tag == "DW_TAG_compile_unit":
+            base = int(fields.get("DW_AT_addr_base", "0x0"), 16)
         if tag == "DW_TAG_variable" and (place := ADDRESS.search(fields.get("DW_AT_location", ""))):
-            found[quoted(fields.get("DW_AT_name", ""))] = int(place[1], 16)
+            at = int(place[2], 16)
+            address = int.from_bytes(table[base + 4 * at : base + 4 * at + 4], "little") if place[1] else at
+            found[quoted(fields.get("DW_AT_name", ""))] = address
     return found
 
 
