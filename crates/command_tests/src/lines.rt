@@ -3,7 +3,7 @@
 use link_lines::{CaseSummary, say_case, say_fault, say_read_fault, say_usage};
 use std::alloc::Global;
 use std::test::Fail;
-use wl_base::{Fault, InvalidAt, OutOfMemory, Seq, Usage};
+use wl_base::{Fault, FeatureRule, InvalidAt, OutOfMemory, Seq, Usage};
 use wl_outside::{Failed, MemSink, Sink};
 
 // A line of each kind, up to the first write that fails.
@@ -41,6 +41,16 @@ fn lines_come_letter_for_letter(rt: HostRuntime) -> Result<(), Fail> {
     Ok(())
 }
 
+// A feature that an object goes against.
+fn feature(alloc: Global, input: u32, by: u32, rule: FeatureRule) -> Result<Fault, OutOfMemory> {
+    Ok(Fault::Feature {
+        name: Seq::from_slice(alloc, b"simd128".as_slice())?,
+        input,
+        by,
+        rule,
+    })
+}
+
 // The lines of what only the words that are to come can answer.
 fn say_later<E: Sink>(say: &mut E) -> Result<(), Failed> {
     let at = InvalidAt::Body(4294967295);
@@ -65,6 +75,20 @@ fn lines_of_later_words_come_letter_for_letter(rt: HostRuntime) -> Result<(), Fa
     assert_eq!(rt;
         sink.bytes(),
         b"wasmld: invalid output: body 4294967295\nwasmld: invalid output: module\nwasmld: input 2: bad debug section 11\nwasmld: debug sections need 2147483648 bytes\nwasmld: file 3: not an object for a partial link\nwasmld: partial link needs 2147483648 bytes\nwasmld: constructors would not be called: link a start file that calls __wasm_call_ctors\nwasmld: usage: PartialClash\n".as_slice()
+    );
+    Ok(())
+}
+
+#[test]
+fn lines_of_features_come_letter_for_letter(rt: HostRuntime) -> Result<(), Fail> {
+    let alloc = rt.alloc();
+    let mut sink = MemSink::new(alloc, Seq::new(alloc));
+    say_fault(&feature(alloc, 2, 1, FeatureRule::Disallowed)?, &mut sink)?;
+    say_fault(&feature(alloc, 3, 1, FeatureRule::Required)?, &mut sink)?;
+    say_fault(&feature(alloc, 3, 0, FeatureRule::NotAllowed)?, &mut sink)?;
+    assert_eq!(rt;
+        sink.bytes(),
+        b"wasmld: input 2: feature simd128 is disallowed by input 1\nwasmld: input 3: feature simd128 is required by input 1\nwasmld: input 3: feature simd128 is not allowed\n".as_slice()
     );
     Ok(())
 }

@@ -2,11 +2,13 @@
 use Rattle.std.specs.Prelude.{ℕ, ◌==◌, List, [], ◌∷◌, ◌++◌, if◌then◌else◌, Option, codes, decimal}
 use Rattle.std.specs.Fmt.{signed_decimal}
 use Rattle.wl_base.specs.declared.fault.Fault.{Fault}
-use Rattle.wl_base.specs.declared.fault.Fault.TheVariants.{TooMuchInput, Library, TooManyInputs, TooLong, Malformed, Unsupported, IndexLies, TooManyNames, Clash, Duplicate, NotPic, Unresolved, Overflow, Invalid, BadDebug, DebugTooLong, NotPartial, PartialTooLong, Uncalled}
+use Rattle.wl_base.specs.declared.fault.Fault.TheVariants.{TooMuchInput, Library, TooManyInputs, TooLong, Malformed, Unsupported, IndexLies, TooManyNames, Clash, Duplicate, NotPic, Unresolved, Overflow, Invalid, BadDebug, DebugTooLong, NotPartial, PartialTooLong, Uncalled, Feature}
 use Rattle.wl_base.specs.declared.fault.Part.{Part}
 use Rattle.wl_base.specs.declared.fault.Part.TheVariants.{Frame, Section, Cross}
 use Rattle.wl_base.specs.declared.fault.LibFault.{LibFault}
 use Rattle.wl_base.specs.declared.fault.LibFault.TheVariants.{NotLibrary, Thin, BadHeader, NoIndex, BadIndex}
+use Rattle.wl_base.specs.declared.fault.FeatureRule.{FeatureRule}
+use Rattle.wl_base.specs.declared.fault.FeatureRule.TheVariants.{Disallowed, Required, NotAllowed}
 use Rattle.wl_base.specs.declared.fault.InvalidAt.{InvalidAt}
 use Rattle.wl_base.specs.declared.fault.InvalidAt.TheVariants.{Module, Body}
 use Rattle.link_lines.specs.Pieces.{printed, joined}
@@ -48,6 +50,17 @@ relocation_line program called name symbol =
     joined (program ∷ codes ": error: "
     ∷ (called ++ codes ": relocation " ∷ name ∷ codes " cannot be used against symbol " ∷ decimal symbol ∷ codes "; recompile with -fPIC\n" ∷ []))
 
+-- a name, and an input behind it
+unfoldable pub named_line : List ℕ → List ℕ → List ℕ → List ℕ → List (List ℕ) → List ℕ → List ℕ
+named_line program front name middle input end =
+    joined (program ∷ codes ": error: " ∷ front ∷ printed name ∷ middle ∷ (input ++ end ∷ []))
+
+-- a name, and two inputs behind it
+unfoldable pub against_line : List ℕ → List ℕ → List ℕ → List ℕ → List (List ℕ) → List ℕ → List (List ℕ) → List ℕ
+against_line program front name middle input between other =
+    joined (program ∷ codes ": error: " ∷ front ∷ printed name ∷ middle
+    ∷ (input ++ between ∷ (other ++ codes ". Use --no-check-features to suppress.\n" ∷ [])))
+
 -- ---- the lines
 
 -- a file that is no library
@@ -88,6 +101,13 @@ abbrev pub invalid_line : List ℕ → InvalidAt → List ℕ
 invalid_line program Module = plain_line program (codes "output is not valid: module") [] (codes "\n")
 invalid_line program (Body function) = plain_line program (codes "output is not valid: function ") (decimal function) (codes "\n")
 
+-- a feature that an input uses, and one that it lacks
+abbrev pub feature_line : List ℕ → List ℕ → List (List ℕ) → List (List ℕ) → FeatureRule → List ℕ
+feature_line program name input by Disallowed =
+    against_line program (codes "Target feature '") name (codes "' used in ") input (codes " is disallowed by ") by
+feature_line program name input by Required = against_line program (codes "Missing target feature '") name (codes "' in ") input (codes ", required by ") by
+feature_line program name input by NotAllowed = named_line program (codes "Target feature '") name (codes "' used by ") input (codes " is not allowed.\n")
+
 -- The line of each fault, by the program's name, the entry, and the names of inputs and of files.
 abbrev pub refusal_line : List ℕ → Option (List ℕ) → List (List ℕ) → List (List ℕ) → Fault → List ℕ
 refusal_line program entry inputs files (TooMuchInput len) = plain_line program (codes "too much input: ") (decimal len) (codes " bytes\n")
@@ -118,3 +138,5 @@ refusal_line program entry inputs files (NotPartial file) =
 refusal_line program entry inputs files (PartialTooLong needed) = plain_line program (codes "output too large, ") (decimal needed) (codes " bytes needed\n")
 refusal_line program entry inputs files Uncalled =
     plain_line program (codes "constructors would not be called: link a start file that calls __wasm_call_ctors") [] (codes "\n")
+refusal_line program entry inputs files (Feature name input by rule) =
+    feature_line program name (called_input inputs input) (called_input inputs by) rule

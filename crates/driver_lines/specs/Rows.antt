@@ -2,7 +2,8 @@
 use Rattle.std.specs.Prelude.{◌≡◌, refl, ℕ, List, [], ◌∷◌, ◌++◌, Some, None, codes, pos}
 use Rattle.std.specs.Fmt.{digits}
 use Rattle.wl_base.specs.declared.fault.Fault.{Fault}
-use Rattle.wl_base.specs.declared.fault.Fault.TheVariants.{Library, TooLong, Malformed, Unsupported, IndexLies, TooManyNames, Clash, Duplicate, NotPic, Unresolved, Overflow, Invalid, NotPartial, Uncalled}
+use Rattle.wl_base.specs.declared.fault.Fault.TheVariants.{Library, TooLong, Malformed, Unsupported, IndexLies, TooManyNames, Clash, Duplicate, NotPic, Unresolved, Overflow, Invalid, NotPartial, Uncalled, Feature}
+use Rattle.wl_base.specs.declared.fault.FeatureRule.TheVariants.{Disallowed, Required, NotAllowed}
 use Rattle.wl_base.specs.declared.fault.Part.TheVariants.{Frame, Section, Cross}
 use Rattle.wl_base.specs.declared.fault.LibFault.TheVariants.{BadHeader, NoIndex, BadIndex}
 use Rattle.wl_base.specs.declared.fault.What.TheVariants.{MaxMemory, TableSize}
@@ -10,7 +11,7 @@ use Rattle.wl_base.specs.declared.fault.InvalidAt.TheVariants.{Body}
 use Rattle.wl_base.specs.declared.item.Item.TheVariants.{LimitsFlag}
 use Rattle.wasm_types.specs.declared.value.ValType.TheVariants.{I32, I64, F32, F64}
 use Rattle.driver_lines.specs.Mismatch.{mismatch_line}
-use Rattle.driver_lines.specs.Lines.{error_line, warning_line, refusal_line, plain_line, about_line, pair_line, item_line, relocation_line}
+use Rattle.driver_lines.specs.Lines.{error_line, warning_line, refusal_line, plain_line, about_line, pair_line, item_line, relocation_line, named_line, against_line}
 use Rattle.driver_lines.specs.Members.{long_names, member_name, name_field, input_names}
 
 -- A link of `main.o`, a library of one member, and `g2.o`.
@@ -135,6 +136,22 @@ too_many_names = refl
 pub constructors_lost : line Uncalled ≡ codes "wasm-ld: error: constructors would not be called: link a start file that calls __wasm_call_ctors\n"
 unfolding plain_line
 constructors_lost = refl
+
+-- ---- features
+
+pub a_disallowed_feature : line (Feature (codes "atomics") 1 2 Disallowed)
+    ≡ codes "wasm-ld: error: Target feature 'atomics' used in main.o is disallowed by ./libx.a(m.o). Use --no-check-features to suppress.\n"
+unfolding against_line
+a_disallowed_feature = refl
+
+pub a_required_feature : line (Feature (codes "simd128") 2 1 Required)
+    ≡ codes "wasm-ld: error: Missing target feature 'simd128' in ./libx.a(m.o), required by main.o. Use --no-check-features to suppress.\n"
+unfolding against_line
+a_required_feature = refl
+
+pub a_feature_too_many : line (Feature (codes "simd128") 1 0 NotAllowed) ≡ codes "wasm-ld: error: Target feature 'simd128' used by main.o is not allowed.\n"
+unfolding named_line
+a_feature_too_many = refl
 
 -- ---- where no name is known
 

@@ -3,7 +3,7 @@ ghost use Rattle.wl_outside.specs.Sink.{Wrote};
 ghost use Rattle.link_lines.specs.Pieces.{piece_bytes};
 ghost use Rattle.link_lines.specs.Labels.{label_texts};
 ghost use Rattle.driver_lines.specs.Called.{called_texts};
-ghost use Rattle.driver_lines.specs.Lines.{plain_line, about_line, pair_line, item_line, relocation_line};
+ghost use Rattle.driver_lines.specs.Lines.{plain_line, about_line, pair_line, item_line, relocation_line, named_line, against_line};
 
 use crate::called::Called;
 use link_lines::Piece::{self, Index, Name, Number, Text};
@@ -88,6 +88,66 @@ pub fn say_pair<'a, E: Sink>(
             Text(other.front),
             other.name,
             Text("\n"),
+        ],
+        say,
+    )
+}
+
+/// Prints a name, and an input behind it.
+#[tactic(auto, unfolding(crate::specs::Lines::named_line))]
+pub fn say_named<'a, E: Sink>(
+    program: &'a str,
+    front: &'a str,
+    name: &'a SymbolName,
+    middle: &'a str,
+    input: Called<'a>,
+    end: &'a str,
+    say: &mut E,
+) -> Result<(), Failed>
+    ensures { Wrote result (named_line program.now front.now name.now middle.now (called_texts input.entry) end.now) (E.told say.old) (E.told say.new) }
+{
+    print(
+        &[
+            Text(program),
+            Text(": error: "),
+            Text(front),
+            Name(name),
+            Text(middle),
+            Text(input.front),
+            input.name,
+            Text(end),
+        ],
+        say,
+    )
+}
+
+/// Prints a name, and two inputs behind it that don't agree.
+#[tactic(auto, unfolding(crate::specs::Lines::against_line))]
+pub fn say_against<'a, E: Sink>(
+    program: &'a str,
+    front: &'a str,
+    name: &'a SymbolName,
+    middle: &'a str,
+    input: Called<'a>,
+    between: &'a str,
+    other: Called<'a>,
+    say: &mut E,
+) -> Result<(), Failed>
+    ensures { Wrote result (against_line program.now front.now name.now middle.now (called_texts input.entry) between.now (called_texts other.entry)) (E.told say.old) (E.told say.new) }
+{
+    print(
+        &[
+            Text(program),
+            Text(": error: "),
+            Text(front),
+            Name(name),
+            Text(middle),
+            Text(input.front),
+            input.name,
+            Text(between),
+            Text(other.front),
+            other.name,
+            Text(". Use --no-check-features to suppress.\n"),
         ],
         say,
     )

@@ -5,15 +5,17 @@ ghost use Rattle.std.specs.Option.{option_map};
 ghost use Rattle.wl_outside.specs.Sink.{Wrote};
 ghost use Rattle.driver_lines.specs.Called.{called_texts};
 ghost use Rattle.driver_lines.specs.Words.{overflow_front as overflow_front_of, overflow_end as overflow_end_of};
-ghost use Rattle.driver_lines.specs.Lines.{plain_line, library_line, rule_line, init_rule, part_line, asked_line, unresolved_line, invalid_line, refusal_line};
+ghost use Rattle.driver_lines.specs.Lines.{plain_line, library_line, rule_line, init_rule, part_line, asked_line, unresolved_line, invalid_line, feature_line, refusal_line};
 
 use crate::Naming;
 use crate::called::{Called, called_file, called_input};
-use crate::forms::{say_about, say_item, say_pair, say_plain, say_relocation};
+use crate::forms::{
+    say_about, say_against, say_item, say_named, say_pair, say_plain, say_relocation,
+};
 use crate::words::{is_entry, overflow_end, overflow_front, relocation_name};
 use link_lines::Piece::{Byte, Index, Name, Number, Text};
 use link_lines::label_of_item;
-use wl_base::{Fault, InputId, InvalidAt, LibFault, Name as SymbolName, Part, What};
+use wl_base::{Fault, FeatureRule, InputId, InvalidAt, LibFault, Name as SymbolName, Part, What};
 use wl_outside::{Failed, Sink};
 
 /// The rule of objects that is broken by the program, and not by its compiler: init functions take and
@@ -140,6 +142,19 @@ pub fn say_refusal<'a, E: Sink>(
             "constructors would not be called: link a start file that calls __wasm_call_ctors",
             Text(""),
             "\n",
+            say,
+        ),
+        Fault::Feature {
+            name,
+            input,
+            by,
+            rule,
+        } => say_feature(
+            program,
+            name,
+            called_input(inputs, *input),
+            called_input(inputs, *by),
+            *rule,
             say,
         ),
     }
@@ -320,6 +335,50 @@ fn say_unresolved<'a, E: Sink>(
         "\n",
         say,
     )
+}
+
+// A feature that an input uses, or that it lacks.
+fn say_feature<'a, E: Sink>(
+    program: &'a str,
+    name: &'a SymbolName,
+    input: Called<'a>,
+    by: Called<'a>,
+    rule: FeatureRule,
+    say: &mut E,
+) -> Result<(), Failed>
+    ensures { Wrote result (feature_line program.now name.now (called_texts input.entry) (called_texts by.entry) rule) (E.told say.old) (E.told say.new) }
+{
+    match rule {
+        FeatureRule::Disallowed => say_against(
+            program,
+            "Target feature '",
+            name,
+            "' used in ",
+            input,
+            " is disallowed by ",
+            by,
+            say,
+        ),
+        FeatureRule::Required => say_against(
+            program,
+            "Missing target feature '",
+            name,
+            "' in ",
+            input,
+            ", required by ",
+            by,
+            say,
+        ),
+        FeatureRule::NotAllowed => say_named(
+            program,
+            "Target feature '",
+            name,
+            "' used by ",
+            input,
+            " is not allowed.\n",
+            say,
+        ),
+    }
 }
 
 fn say_overflow<'a, E: Sink>(

@@ -4,7 +4,7 @@ use driver_lines::{Naming, say_error, say_refusal, say_warning};
 use std::alloc::Global;
 use std::test::Fail;
 use test_kit::texts;
-use wl_base::{Fault, InvalidAt, Item, LibFault, OutOfMemory, Part, Seq, What};
+use wl_base::{Fault, FeatureRule, InvalidAt, Item, LibFault, OutOfMemory, Part, Seq, What};
 use wl_outside::MemSink;
 
 /// Whether the fault of a link of two objects and a library's member is told by this text, up to the
@@ -40,6 +40,7 @@ enum Named {
     IndexLies(u32),
     Clash(u32, u32),
     Duplicate(u32, u32),
+    Feature(u32, u32, FeatureRule),
 }
 
 fn fault_of(alloc: Global, named: Named, name: &str) -> Result<Fault, OutOfMemory> {
@@ -49,6 +50,12 @@ fn fault_of(alloc: Global, named: Named, name: &str) -> Result<Fault, OutOfMemor
         Named::IndexLies(input) => Fault::IndexLies { input, name },
         Named::Clash(first, other) => Fault::Clash { name, first, other },
         Named::Duplicate(first, other) => Fault::Duplicate { name, first, other },
+        Named::Feature(input, by, rule) => Fault::Feature {
+            name,
+            input,
+            by,
+            rule,
+        },
     })
 }
 
@@ -121,6 +128,21 @@ fn symbols_are_told_with_their_inputs(rt: HostRuntime) -> Result<(), Fail> {
             Named::Unresolved(4),
             "g",
             "wasm-ld: error: input 4: undefined symbol: g\n",
+        ),
+        (
+            Named::Feature(1, 2, FeatureRule::Disallowed),
+            "atomics",
+            "wasm-ld: error: Target feature 'atomics' used in main.o is disallowed by ./libx.a(m.o). Use --no-check-features to suppress.\n",
+        ),
+        (
+            Named::Feature(3, 1, FeatureRule::Required),
+            "atomics",
+            "wasm-ld: error: Missing target feature 'atomics' in g2.o, required by main.o. Use --no-check-features to suppress.\n",
+        ),
+        (
+            Named::Feature(1, 0, FeatureRule::NotAllowed),
+            "simd128",
+            "wasm-ld: error: Target feature 'simd128' used by main.o is not allowed.\n",
         ),
     ];
     assert!(rt; are_name_lines(rt.alloc(), &lines));

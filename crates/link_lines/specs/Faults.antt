@@ -2,9 +2,11 @@
 use Rattle.std.specs.Prelude.{ℕ, List, [], ◌∷◌, ◌++◌, codes, decimal}
 use Rattle.std.specs.Fmt.{signed_decimal}
 use Rattle.wl_base.specs.declared.fault.Fault.{Fault}
-use Rattle.wl_base.specs.declared.fault.Fault.TheVariants.{TooMuchInput, Library, TooManyInputs, TooLong, Malformed, Unsupported, IndexLies, TooManyNames, Clash, Duplicate, NotPic, Unresolved, Overflow, Invalid, BadDebug, DebugTooLong, NotPartial, PartialTooLong, Uncalled}
+use Rattle.wl_base.specs.declared.fault.Fault.TheVariants.{TooMuchInput, Library, TooManyInputs, TooLong, Malformed, Unsupported, IndexLies, TooManyNames, Clash, Duplicate, NotPic, Unresolved, Overflow, Invalid, BadDebug, DebugTooLong, NotPartial, PartialTooLong, Uncalled, Feature}
 use Rattle.wl_base.specs.declared.fault.Part.{Part}
 use Rattle.wl_base.specs.declared.fault.Part.TheVariants.{Frame, Section, Cross}
+use Rattle.wl_base.specs.declared.fault.FeatureRule.{FeatureRule}
+use Rattle.wl_base.specs.declared.fault.FeatureRule.TheVariants.{Disallowed, Required, NotAllowed}
 use Rattle.wl_base.specs.declared.fault.InvalidAt.{InvalidAt}
 use Rattle.wl_base.specs.declared.fault.InvalidAt.TheVariants.{Module, Body}
 use Rattle.link_lines.specs.Pieces.{printed, joined}
@@ -37,7 +39,17 @@ not_pic_line input symbol kind =
 unfoldable pub overflow_line : List ℕ → List ℕ → List ℕ
 overflow_line what needed = joined (codes "wasmld: overflow: " ∷ what ∷ codes " needs " ∷ needed ∷ codes "\n" ∷ [])
 
+-- a feature of an input, and another input
+unfoldable pub against_line : ℕ → List ℕ → List ℕ → ℕ → List ℕ
+against_line input name middle by =
+    joined (codes "wasmld: input " ∷ decimal input ∷ codes ": feature " ∷ printed name ∷ middle ∷ decimal by ∷ codes "\n" ∷ [])
+
 -- ---- the lines
+
+abbrev pub feature_line : ℕ → List ℕ → ℕ → FeatureRule → List ℕ
+feature_line input name by Disallowed = against_line input name (codes " is disallowed by input ") by
+feature_line input name by Required = against_line input name (codes " is required by input ") by
+feature_line input name by NotAllowed = input_line input (codes ": feature ") (printed name) (codes " is not allowed\n")
 
 abbrev pub part_line : ℕ → Part → List ℕ
 part_line input Frame = number_line (codes "wasmld: input ") (decimal input) (codes ": malformed: frame\n")
@@ -68,3 +80,4 @@ fault_line (DebugTooLong needed) = number_line (codes "wasmld: debug sections ne
 fault_line (NotPartial file) = number_line (codes "wasmld: file ") (decimal file) (codes ": not an object for a partial link\n")
 fault_line (PartialTooLong needed) = number_line (codes "wasmld: partial link needs ") (decimal needed) (codes " bytes\n")
 fault_line Uncalled = codes "wasmld: constructors would not be called: link a start file that calls __wasm_call_ctors\n"
+fault_line (Feature name input by rule) = feature_line input name by rule

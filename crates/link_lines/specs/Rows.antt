@@ -1,7 +1,8 @@
 -- Lines, letter for letter.
 use Rattle.std.specs.Prelude.{◌≡◌, refl, ℕ, List, [], ◌∷◌, codes, pos, negsuc}
 use Rattle.std.specs.Fmt.{digits}
-use Rattle.wl_base.specs.declared.fault.Fault.TheVariants.{TooMuchInput, Library, TooManyInputs, TooLong, Malformed, Unsupported, IndexLies, TooManyNames, Clash, Duplicate, NotPic, Unresolved, Overflow, Invalid, BadDebug, DebugTooLong, NotPartial, PartialTooLong, Uncalled}
+use Rattle.wl_base.specs.declared.fault.Fault.TheVariants.{TooMuchInput, Library, TooManyInputs, TooLong, Malformed, Unsupported, IndexLies, TooManyNames, Clash, Duplicate, NotPic, Unresolved, Overflow, Invalid, BadDebug, DebugTooLong, NotPartial, PartialTooLong, Uncalled, Feature}
+use Rattle.wl_base.specs.declared.fault.FeatureRule.TheVariants.{Disallowed, Required, NotAllowed}
 use Rattle.wl_base.specs.declared.fault.Part.TheVariants.{Frame, Section, Cross}
 use Rattle.wl_base.specs.declared.fault.LibFault.TheVariants.{Thin, BadIndex}
 use Rattle.wl_base.specs.declared.fault.What.TheVariants.{OutputLength}
@@ -9,7 +10,7 @@ use Rattle.wl_base.specs.declared.fault.InvalidAt.TheVariants.{Module, Body}
 use Rattle.wl_base.specs.declared.item.Item.TheVariants.{TagSection, ValueType, Opcode}
 use Rattle.wl_base.specs.declared.usage.Usage.TheVariants.{MissingValue, NoOutput, PartialClash}
 use Rattle.link_lines.specs.Pieces.{printed}
-use Rattle.link_lines.specs.Faults.{fault_line, number_line, input_line, pair_line, label_line, not_pic_line, overflow_line}
+use Rattle.link_lines.specs.Faults.{fault_line, number_line, input_line, pair_line, label_line, not_pic_line, overflow_line, against_line}
 use Rattle.link_lines.specs.Usages.{usage_line}
 use Rattle.link_lines.specs.Ends.{read_fault_line, case_line}
 
@@ -114,6 +115,18 @@ partial_too_long = refl
 
 pub constructors_lost : fault_line Uncalled ≡ codes "wasmld: constructors would not be called: link a start file that calls __wasm_call_ctors\n"
 constructors_lost = refl
+
+pub a_disallowed_feature : fault_line (Feature (codes "atomics") 2 1 Disallowed) ≡ codes "wasmld: input 2: feature atomics is disallowed by input 1\n"
+unfolding against_line digits
+a_disallowed_feature = refl
+
+pub a_required_feature : fault_line (Feature (codes "simd128") 3 1 Required) ≡ codes "wasmld: input 3: feature simd128 is required by input 1\n"
+unfolding against_line digits
+a_required_feature = refl
+
+pub a_feature_too_many : fault_line (Feature (codes "simd128") 3 0 NotAllowed) ≡ codes "wasmld: input 3: feature simd128 is not allowed\n"
+unfolding input_line digits
+a_feature_too_many = refl
 
 pub a_missing_value : usage_line (MissingValue 3) ≡ codes "wasmld: usage: MissingValue at word 3\n"
 unfolding digits

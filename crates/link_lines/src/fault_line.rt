@@ -2,14 +2,14 @@
 ghost use Rattle.std.specs.Prelude.{codes};
 ghost use Rattle.std.specs.Fmt.{signed_decimal};
 ghost use Rattle.wl_outside.specs.Sink.{Wrote};
-ghost use Rattle.link_lines.specs.Faults.{fault_line as line_of_fault, number_line, input_line, part_line, pair_line, label_line, not_pic_line, overflow_line, invalid_line};
+ghost use Rattle.link_lines.specs.Faults.{fault_line as line_of_fault, number_line, input_line, part_line, pair_line, label_line, not_pic_line, overflow_line, invalid_line, against_line, feature_line};
 ghost use Rattle.link_lines.specs.Pieces.{piece_bytes};
 ghost use Rattle.link_lines.specs.Labels.{label_texts, item_label, library_label, what_name};
 
 use crate::Piece::{self, Byte, Index, Name, Number, Text};
 use crate::label::{Label, label_of_item, label_of_library, name_of_what};
 use crate::print;
-use wl_base::{Fault, InvalidAt, Item, LibFault, Name as SymbolName, Part, What};
+use wl_base::{Fault, FeatureRule, InvalidAt, Item, LibFault, Name as SymbolName, Part, What};
 use wl_outside::{Failed, Sink};
 
 /// Prints the line of a link that is refused. It takes no memory.
@@ -109,6 +109,12 @@ pub fn say_fault<E: Sink>(fault: &Fault, say: &mut E) -> Result<(), Failed>
             )],
             say,
         ),
+        Fault::Feature {
+            name,
+            input,
+            by,
+            rule,
+        } => say_feature(*input, name, *by, *rule, say),
     }
 }
 
@@ -280,6 +286,53 @@ fn say_not_pic<E: Sink>(input: u32, symbol: u32, kind: u8, say: &mut E) -> Resul
         ],
         say,
     )
+}
+
+// A feature of an input, and another input.
+#[tactic(auto, unfolding(crate::specs::Faults::against_line))]
+fn say_against<E: Sink>(
+    input: u32,
+    name: &SymbolName,
+    middle: &'static str,
+    by: u32,
+    say: &mut E,
+) -> Result<(), Failed>
+    ensures { Wrote result (against_line input name.now middle.now by) (E.told say.old) (E.told say.new) }
+{
+    print(
+        &[
+            Text("wasmld: input "),
+            Index(input),
+            Text(": feature "),
+            Name(name),
+            Text(middle),
+            Index(by),
+            Text("\n"),
+        ],
+        say,
+    )
+}
+
+fn say_feature<E: Sink>(
+    input: u32,
+    name: &SymbolName,
+    by: u32,
+    rule: FeatureRule,
+    say: &mut E,
+) -> Result<(), Failed>
+    ensures { Wrote result (feature_line input name.now by rule) (E.told say.old) (E.told say.new) }
+{
+    match rule {
+        FeatureRule::Disallowed => say_against(input, name, " is disallowed by input ", by, say),
+        FeatureRule::Required => say_against(input, name, " is required by input ", by, say),
+        FeatureRule::NotAllowed => say_input(
+            input,
+            ": feature ",
+            Name(name),
+            " is not allowed\n",
+            say,
+        ),
+    }
 }
 
 fn say_overflow<E: Sink>(what: What, needed: i64, say: &mut E) -> Result<(), Failed>

@@ -65,6 +65,17 @@ pub enum InvalidAt {
     Body(u32),
 }
 
+/// What forbids that an object uses a feature, or lacks it.
+#[derive(Clone, Copy, Debug, PartialEq, Eq)]
+pub enum FeatureRule {
+    /// It uses the feature, and an object disallows it.
+    Disallowed,
+    /// It doesn't use the feature, and an object requires it.
+    Required,
+    /// It uses the feature, which isn't among those that the words allow.
+    NotAllowed,
+}
+
 /// Why a link is refused: the first of these that applies, in this order.
 #[derive(Debug, PartialEq, Eq, Drop)]
 pub enum Fault {
@@ -141,7 +152,8 @@ pub enum Fault {
         input: InputId,
         section: u32,
     },
-    /// The output has more than 2^31 - 1 bytes with its debug sections, which need `needed`.
+    /// The output has more than 2^31 - 1 bytes with the sections behind it (debug sections, features, names), which need
+    /// `needed`.
     DebugTooLong {
         needed: u64,
     },
@@ -156,4 +168,12 @@ pub enum Fault {
     /// Nothing calls `__wasm_call_ctors`, and something would be lost. Judged where the link is like lld's, which
     /// then wraps exported functions.
     Uncalled,
+    /// An object goes against what the object `by` says of a feature; input 0 is the command line. Judged where
+    /// the link is like lld's.
+    Feature {
+        name: Name,
+        input: InputId,
+        by: InputId,
+        rule: FeatureRule,
+    },
 }

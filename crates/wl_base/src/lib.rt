@@ -14,7 +14,7 @@ mod span;
 mod text;
 mod usage;
 
-pub use fault::{Fault, InputId, InvalidAt, LibFault, Part, What};
+pub use fault::{Fault, FeatureRule, InputId, InvalidAt, LibFault, Part, What};
 pub use item::Item;
 pub use key::{Key, KeyRef};
 pub use layout_error::LayoutError;

@@ -1,4 +1,4 @@
-use Rattle.driver_lines.proofs.Said.{at, about, pair}
+use Rattle.driver_lines.proofs.Said.{at, about, pair, featured}
 use Rattle.driver_lines.proofs.refusal.say_refusal.Goals as goal
 
 pub returns-in-TooMuchInput : goal.returns-in-TooMuchInput
@@ -27,3 +27,8 @@ returns-in-NotPartial g c =
 
 pub returns-in-PartialTooLong : goal.returns-in-PartialTooLong
 returns-in-PartialTooLong g c = at _ _ _ _ _ _ _ _ _ c.in-PartialTooLong.is c.say_plain-in-PartialTooLong.ensures
+
+pub returns-in-Feature : goal.returns-in-Feature
+returns-in-Feature g c =
+    at _ _ _ _ _ _ _ _ _ c.in-Feature.is
+    (featured _ _ _ _ _ _ _ _ _ _ c.called_input-in-Feature.ensures c.called_input-in-Feature-2.ensures c.say_feature.ensures)

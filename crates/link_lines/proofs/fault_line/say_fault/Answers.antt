@@ -30,3 +30,6 @@ returns-in-PartialTooLong g c = at _ _ _ _ _ c.in-PartialTooLong.is c.say_number
 
 pub returns-in-Uncalled : goal.returns-in-Uncalled
 returns-in-Uncalled g c = at _ _ _ _ _ c.in-Uncalled.is c.print-in-Uncalled.ensures
+
+pub returns-in-Feature : goal.returns-in-Feature
+returns-in-Feature g c = at _ _ _ _ _ c.in-Feature.is c.say_feature.ensures
