@@ -1,3 +1,4 @@
+mod FirstGlobals
 pub mod Fewer
 pub mod MadeData
 pub mod Pairs

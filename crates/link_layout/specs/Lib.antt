@@ -2,6 +2,7 @@ pub mod Segments
 pub mod Placed
 pub mod Seen
 pub mod Cells
+pub mod FirstGlobals
 pub mod Rows
 pub mod Put
 pub mod Layout

@@ -1,12 +1,13 @@
 -- What a shared output can't have, by the objects and by the definition.
 use Rattle.std.proofs.Common.{◌≡◌, ℕ, zero, suc, ◌+◌, ◌<◌, ◌≤◌, ◌==◌, ◌&&◌, ◌||◌, not, Bool, true, false, cond, List, [], ◌∷◌, ◌++◌, length, get_or, drop, map, filter, filter_map, flat_map, find, slice_get, Option, Some, None, option_map, option_and_then, refl, sym, ap, ◌∙◌, subst, arith, inl, inr, pos, ℤ}
-use Rattle.std.specs.Prelude.{replicate, is_some}
+use Rattle.std.specs.Prelude.{replicate, is_some, if◌then◌else◌}
 use Rattle.std.specs.List.{AllByRecursion, AllZip, cons_option}
 use Rattle.std.specs.Option.{IsSome}
 use Rattle.std.proofs.lemmas.Bool.Decides.{nat_tests}
 use Rattle.std.proofs.lemmas.List.{drop_more, drop_all}
 use Rattle.link_program.specs.wl_base.Choice.{first_some}
 use Rattle.link_program.specs.linking_section.declared.init.InitFunc.{InitFunc}
+use Rattle.link_program.specs.linking_section.declared.symbol.Symbol.{Symbol}
 use Rattle.link_program.specs.linking_section.Flags.{is_local_definition}
 use Rattle.link_program.specs.body_windows.declared.operand.Operand.{Operand}
 use Rattle.link_program.specs.body_windows.declared.operand.Operand.TheVariants as operands
@@ -39,7 +40,7 @@ use Rattle.link_program.proofs.Loose.{loosened_or_not, refs_loose}
 use Rattle.name_unresolved.specs.Unresolved.{AreMeant}
 use Rattle.link_marks.specs.declared.live.Live.{Live}
 use Rattle.link_marks.specs.Alive.{IsLive}
-use Rattle.link_marks.specs.Fixed.{Fixed, first_by, is_told_here, has_value, fixed_by, fixed_symbol, fixed_operand, fixed_in, fixed_of, fixed_at, first_fixed, told_fault}
+use Rattle.link_marks.specs.Fixed.{Fixed, first_by, is_told_here, is_foreign_told, has_value, fixed_by, fixed_symbol, fixed_operand, fixed_in, fixed_of, fixed_at, first_fixed, told_fault}
 use Rattle.link_marks.proofs.AllMeant.{parts_in as parts_among}
 use Rattle.link_marks.proofs.Known.{IsObject, are_objects}
 use Rattle.link_marks.proofs.Leasts.{sorted_all}
@@ -57,6 +58,19 @@ some_at (x ∷ xs) (suc i) below = some_at xs i (omega arith)
 -- where a row is as long as the symbols, each has an answer
 pub answered : {X Y : Type 0} (row : List X) (symbols : List Y) (i : ℕ) → length row ≡ length symbols → i < length symbols → IsSome (slice_get row i)
 answered row symbols i same below = some_at row i (omega (arith, same, below))
+
+-- of a type that holds no slot or address nothing is asked
+pub unasked : (o : Object) (row : List Told) (kind symbol : ℕ) → (is_absolute kind || is_relative kind) ≡ false → None ≡ fixed_symbol o row kind symbol
+unasked o row kind symbol neither = by_symbol (slice_get o.symbols symbol)
+  where
+    by_types : (a r f : Bool) (x : Fixed) → (a || r) ≡ false → None ≡ (if a || (r && f) then Some x else None)
+    by_types true r f x e = absurd cc
+    by_types false true f x e = absurd cc
+    by_types false false f x e = refl
+
+    by_symbol : (s : Option Symbol) → None ≡ fixed_by o.input symbol kind (slice_get row symbol) s
+    by_symbol None = refl
+    by_symbol (Some s) = by_types (is_absolute kind) (is_relative kind) (is_foreign_told s (slice_get row symbol)) (o.input, symbol, kind) neither
 
 -- what is found is one of the objects
 pub found_meant : (rows : List (List Told)) (objects : List Object) (input : ℕ) (o : Object) → AreMeant rows objects → find (λ (x : Object). x.input == input) objects ≡ Some o → length (row_of rows o.input) ≡ length o.symbols

@@ -1,6 +1,6 @@
 //! Which relocation of live code a shared output can't have. The tables don't tell the place of a symbol in its object, so it is looked for
 //! in the objects.
-ghost use Rattle.std.specs.Prelude.{◌≡◌, ◌==◌, Some, length, option_map, slice_get};
+ghost use Rattle.std.specs.Prelude.{◌≡◌, ◌==◌, ◌||◌, Some, length, option_map, slice_get};
 ghost use Rattle.std.specs.List.{find};
 ghost use Rattle.link_program.specs.body_windows.Operands.{operand_of};
 ghost use Rattle.link_program.specs.object_columns.Seen.{symbol_seen};
@@ -68,12 +68,22 @@ fn is_foreign(symbol: SymbolRef<'_>, meaning: Meaning) -> bool
     !is_here(meaning) && is_entry && has_value
 }
 
+/// Whether it holds either. Most types don't, and nothing has to be looked up for them.
+fn holds_place(kind: u8) -> bool
+    ensures { result ≡ (marks.is_absolute kind || marks.is_relative kind) }
+{
+    is_absolute(kind) || is_relative(kind)
+}
+
 /// The relocation of a type with a symbol of the object, if a shared output can't have it.
-#[tactic(auto, using(crate::proofs::Fixing::answered))]
+#[tactic(auto, using(crate::proofs::Fixing::answered, crate::proofs::Fixing::unasked))]
 fn fixed_symbol(object: &Object, resolution: &Resolution, kind: u8, symbol: u32) -> Option<Fixed>
     requires { length (row_of resolution.now.rows object.now.input) ≡ length object.now.symbols }
     ensures { result ≡ fixed_symbol object.now (row_of resolution.now.rows object.now.input) kind symbol }
 {
+    if !holds_place(kind) {
+        return None;
+    }
     let input = object.input;
     let Some(named) = object.symbols.get(symbol as usize) else {
         return None;

@@ -12,4 +12,4 @@ pub returns : goal.returns
 returns c =
     let k = looked c.args.self in
     let same : c.symbol_at-symbol.result ≡ slice_index_or c.args.self.program.tables.now.symbols c.args.at no_symbol = search rules in
-    c.global_number.ensures ∙ ap (number_by same_global_key c.args.self.numbering.now.globals) c.global_or_cell-key.ensures ∙ ap (λ (s : Symbol). cell_number k c.args.at s) same
+    c.key_number.ensures ∙ ap (number_by same_global_key c.args.self.numbering.now.globals) c.global_or_cell-key.ensures ∙ ap (λ (s : Symbol). cell_number k c.args.at s) same
