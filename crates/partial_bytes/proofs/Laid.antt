@@ -1,8 +1,8 @@
 -- Which pieces there are: their bytes, and that they fit.
 use Rattle.std.proofs.Common.{◌≡◌, ℕ, ◌+◌, ◌<◌, ◌^◌, true, List, [], ◌∷◌, ◌++◌, length, map, drop, get_or, refl, sym, ap, ◌∙◌, subst, arith, append_assoc, length-append}
-use Rattle.std.specs.Prelude.{◌&&◌, codes}
+use Rattle.std.specs.Prelude.{◌&&◌, ◌==◌, codes}
 use Rattle.std.specs.List.{flat_map, list_all}
-use Rattle.std.proofs.lemmas.Bool.{and_parts}
+use Rattle.std.proofs.lemmas.Bool.{and_parts, eq-eqb}
 use Rattle.std.proofs.lemmas.List.{at_drop_more}
 use Rattle.std.proofs.lemmas.Grind.{flat_map-append}
 use Rattle.leb_codec.specs.Shortest.{u32}
@@ -16,7 +16,7 @@ use Rattle.partial_bytes.specs.declared.part.PartKind.TheVariants.{Body, Segment
 use Rattle.partial_bytes.specs.declared.pieces.Piece.{Piece}
 use Rattle.partial_bytes.specs.declared.pieces.Piece.TheVariants.{Head, Part, Relocs}
 use Rattle.partial_bytes.specs.Pieces.{reloc_head, piece_bytes, pieces_bytes, part_pieces, reloc_pieces, fits, Fit}
-use Rattle.partial_bytes.specs.Written.{head_len, payload_len, part_spelled, parts_section, relocs_at, relocs_in, part_fits, front_of, linking_section, code_at, data_at, written}
+use Rattle.partial_bytes.specs.Written.{head_len, payload_len, part_spelled, parts_section, relocs_at, relocs_in, part_fits, entries, front_of, linking_section, code_at, data_at, written}
 use Rattle.partial_bytes.proofs.Bridge.{flat_told}
 use Rattle.partial_bytes.proofs.Fitting.{entries_fit}
 
@@ -149,26 +149,31 @@ all_bytes t q l code_name data_name code later_code a b c d e f front linking na
 
 -- ---- relocations of one part more
 
-pub entries_more : (kind : PartKind) (ps : List Lent) (i : ℕ) (d : Lent) → i < length ps → (qs rs whole : List Piece) (at from end : ℕ)
-    → from ≡ at + head_len kind (get_or ps i d) → end ≡ from + length (get_or ps i d).bytes.now
-    → rs ≡ qs ++ Relocs from (get_or ps i d).relocs ∷ [] → qs ++ reloc_pieces kind at (drop i ps) ≡ whole → rs ++ reloc_pieces kind end (drop (i + 1) ps) ≡ whole
-entries_more kind ps i d lt qs rs whole at from end is next put so_far =
+pub entries_more : (kind : PartKind) (ps : List Lent) (i : ℕ) (d : Lent) → i < length ps → (qs rs whole : List Piece) (at from end len : ℕ)
+    → from ≡ at + head_len kind (get_or ps i d) → end ≡ from + length (get_or ps i d).bytes.now → len ≡ length (entries from (get_or ps i d).relocs.now)
+    → rs ≡ qs ++ Relocs from len (get_or ps i d).relocs ∷ [] → qs ++ reloc_pieces kind at (drop i ps) ≡ whole → rs ++ reloc_pieces kind end (drop (i + 1) ps) ≡ whole
+entries_more kind ps i d lt qs rs whole at from end len is next long put so_far =
     let p = get_or ps i d in
+    let long_of : ℕ → ℕ = λ n. length (entries n p.relocs.now) in
     (λ j. put j ++ reloc_pieces kind (next j) (drop (i + 1) ps))
-    ∙ (λ j. (qs ++ Relocs (is j) p.relocs ∷ []) ++ reloc_pieces kind (is j + length p.bytes.now) (drop (i + 1) ps))
-    ∙ behind qs (Relocs (at + head_len kind p) p.relocs) (reloc_pieces kind (at + head_len kind p + length p.bytes.now) (drop (i + 1) ps))
+    ∙ ap (λ n. (qs ++ Relocs from n p.relocs ∷ []) ++ reloc_pieces kind (from + length p.bytes.now) (drop (i + 1) ps)) long
+    ∙ (λ j. (qs ++ Relocs (is j) (long_of (is j)) p.relocs ∷ []) ++ reloc_pieces kind (is j + length p.bytes.now) (drop (i + 1) ps))
+    ∙ behind qs (Relocs (at + head_len kind p) (long_of (at + head_len kind p)) p.relocs) (reloc_pieces kind (at + head_len kind p + length p.bytes.now) (drop (i + 1) ps))
     ∙ sym (at_drop_more (λ (xs : List Lent). qs ++ reloc_pieces kind at xs) ps i d lt)
     ∙ so_far
   where
     behind : (xs : List Piece) (y : Piece) (zs : List Piece) → (xs ++ y ∷ []) ++ zs ≡ xs ++ y ∷ zs
     behind xs y zs = simp append_assoc
 
-pub entries_fit_more : (ps : List Lent) (i : ℕ) (d : Lent) → i < length ps → (qs rs : List Piece) (from end : ℕ)
-    → end ≡ from + length (get_or ps i d).bytes.now → end < 2 ^ 32 → rs ≡ qs ++ Relocs from (get_or ps i d).relocs ∷ []
+pub entries_fit_more : (ps : List Lent) (i : ℕ) (d : Lent) → i < length ps → (qs rs : List Piece) (from end len : ℕ)
+    → end ≡ from + length (get_or ps i d).bytes.now → end < 2 ^ 32 → len ≡ length (entries from (get_or ps i d).relocs.now)
+    → rs ≡ qs ++ Relocs from len (get_or ps i d).relocs ∷ []
     → list_all part_fits (drop i ps) ≡ true → Fit qs → Fit rs × (list_all part_fits (drop (i + 1) ps) ≡ true)
-entries_fit_more ps i d lt qs rs from end next low put h k =
+entries_fit_more ps i d lt qs rs from end len next low long put h k =
     let p = get_or ps i d in
     let here : list_all part_fits (p ∷ drop (i + 1) ps) ≡ true = subst (λ (zs : List Lent). list_all part_fits zs ≡ true) (at_drop_more (λ (xs : List Lent). xs) ps i d lt) h in
     let both = and_parts (part_fits p) (list_all part_fits (drop (i + 1) ps)) here in
-    let entry = entries_fit p.relocs.now from (length p.bytes.now) both.0 (omega (arith, next, low)) in
-    (subst Fit (sym put) (one_fit qs (Relocs from p.relocs) k entry), both.1)
+    let low_ones = entries_fit p.relocs.now from (length p.bytes.now) both.0 (omega (arith, next, low)) in
+    let entry : fits (Relocs from len p.relocs) ≡ true =
+    ap (λ b. b && (len == length (entries from p.relocs.now))) low_ones ∙ eq-eqb len (length (entries from p.relocs.now)) long in
+    (subst Fit (sym put) (one_fit qs (Relocs from len p.relocs) k entry), both.1)

@@ -5,3 +5,5 @@ pub mod Bridge
 pub mod Windowed
 pub mod Adding
 pub mod Laid
+pub mod Lens
+pub mod Fronts

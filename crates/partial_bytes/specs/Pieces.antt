@@ -1,5 +1,5 @@
 -- The object as pieces that are written one behind another, and how they are cut into runs.
-use Rattle.std.specs.Prelude.{◌≡◌, ℕ, ◌+◌, ◌*◌, ◌/◌, ◌^◌, nat_le, nat_lt, Bool, true, List, [], ◌∷◌, ◌++◌, length, map, take, flat_map, slice_range, sum_by, if◌then◌else◌}
+use Rattle.std.specs.Prelude.{◌≡◌, ℕ, ◌+◌, ◌*◌, ◌/◌, ◌^◌, nat_le, nat_lt, ◌==◌, ◌&&◌, Bool, true, List, [], ◌∷◌, ◌++◌, length, map, take, flat_map, slice_range, sum_by, if◌then◌else◌}
 use Rattle.std.specs.List.{list_all}
 use Rattle.leb_codec.specs.Shortest.{u32}
 use Rattle.reloc_section.specs.declared.entry.Reloc.{Reloc}
@@ -25,7 +25,7 @@ piece_bytes (Head id size count) = head_bytes id size count
 piece_bytes (Part kind p) = part_spelled kind p
 piece_bytes (Linking t) = linking_section t.now
 piece_bytes (RelocHead name size target count) = reloc_head name.now size target count
-piece_bytes (Relocs from relocs) = entries from relocs.now
+piece_bytes (Relocs from len relocs) = entries from relocs.now
 
 abbrev pub pieces_bytes : List Piece → List ℕ
 pieces_bytes qs = flat_map piece_bytes qs
@@ -37,20 +37,20 @@ piece_len (Head id size count) = length (head_bytes id size count)
 piece_len (Part kind p) = part_len kind p
 piece_len (Linking t) = length (linking_section t.now)
 piece_len (RelocHead name size target count) = length (reloc_head name.now size target count)
-piece_len (Relocs from relocs) = length (entries from relocs.now)
+piece_len (Relocs from len relocs) = length (entries from relocs.now)
 
 -- Whether a relocation's place is a number of 32 bits.
 abbrev pub entry_fits : ℕ → Reloc → Bool
 entry_fits from x = nat_lt (from + x.offset) (2 ^ 32)
 
--- Whether a part's windows lie in it, and relocations have places of 32 bits.
+-- Whether a part's windows lie in it, and relocations have places of 32 bits and entries of the length that is told.
 abbrev pub fits : Piece → Bool
 fits (Front t) = true
 fits (Head id size count) = true
 fits (Part kind p) = part_fits p
 fits (Linking t) = true
 fits (RelocHead name size target count) = true
-fits (Relocs from relocs) = list_all (entry_fits from) relocs.now
+fits (Relocs from len relocs) = list_all (entry_fits from) relocs.now && (len == length (entries from relocs.now))
 
 abbrev pub Fit : List Piece → Type 0
 Fit qs = list_all fits qs ≡ true
@@ -71,7 +71,8 @@ part_pieces kind ps = map (Part kind) ps
 -- The relocations of parts that stand in their section from a place on.
 abbrev pub reloc_pieces : PartKind → ℕ → List Lent → List Piece
 reloc_pieces kind at [] = []
-reloc_pieces kind at (p ∷ ps) = Relocs (at + head_len kind p) p.relocs ∷ reloc_pieces kind (at + head_len kind p + length p.bytes.now) ps
+reloc_pieces kind at (p ∷ ps) =
+    Relocs (at + head_len kind p) (length (entries (at + head_len kind p) p.relocs.now)) p.relocs ∷ reloc_pieces kind (at + head_len kind p + length p.bytes.now) ps
 
 -- ---- runs
 

@@ -4,14 +4,15 @@ ghost use Rattle.std.specs.List.{list_all};
 ghost use Rattle.partial_rules.specs.Relocatable.{reloc_section};
 ghost use Rattle.partial_bytes.specs.declared.part.PartKind.TheVariants as kinds;
 ghost use Rattle.partial_bytes.specs.Pieces.{pieces_bytes, part_pieces, reloc_pieces, Fit};
-ghost use Rattle.partial_bytes.specs.Measured.{IsSized};
+ghost use Rattle.partial_bytes.specs.Measured.{IsSized, entry_lens, lens_in};
 ghost use Rattle.partial_bytes.specs.Written.{payload_len, parts_section, relocs_in, part_fits, written};
 
+use crate::lengths::len_at;
 use crate::measuring::{Measured, SectionSize, reloc_payload};
 use crate::part::{PartKind, head_size};
 use crate::pieces::Piece;
 use crate::sections::{code_at, present};
-use crate::sums::{short, sum};
+use crate::sums::{exact, short, sum};
 use crate::tree::{Part, Tree};
 use image_emit::put::u32_size;
 use std::alloc::Global;
@@ -57,17 +58,22 @@ fn push_entries<'a>(
     kind: PartKind,
     at: u64,
     parts: &'a [Part<'a>],
+    lens: &[u64],
     out: &mut Seq<Piece<'a>>,
 ) -> Result<(), OutOfMemory>
+    requires { lens.now ≡ entry_lens kind at parts.now }
     ensures pieces { OnOk result (out.new ≡ out.old ++ reloc_pieces kind at parts.now) }
     ensures fit { OnOk result (list_all part_fits parts.now ≡ true → Fit out.old → Fit out.new) }
 {
     let mut at = at;
-    for part in parts {
+    for number in 0..parts.len() {
+        let part = &parts[number];
         let from = sum(at, head_size(kind, part))?;
         let end = short(sum(from, part.bytes.len() as u64)?)?;
+        let len = exact(len_at(lens, number))?;
         out.push(Piece::Relocs {
             from: from as u32,
+            len,
             relocs: part.relocs,
         })?;
         at = u64::from(end);
@@ -82,9 +88,11 @@ fn push_relocs<'a>(
     kind: PartKind,
     parts: &'a [Part<'a>],
     size: SectionSize,
+    lens: &[u64],
     out: &mut Seq<Piece<'a>>,
 ) -> Result<(), OutOfMemory>
-    requires { IsSized kind parts.now size }
+    requires sized { IsSized kind parts.now size }
+    requires lens { lens.now ≡ lens_in kind parts.now }
     ensures bytes { OnOk result (pieces_bytes out.new ≡ pieces_bytes out.old ++ reloc_section name.now target (relocs_in kind parts.now)) }
     ensures fit { OnOk result (list_all part_fits parts.now ≡ true → Fit out.old → Fit out.new) }
 {
@@ -100,7 +108,7 @@ fn push_relocs<'a>(
         target,
         count,
     })?;
-    push_entries(kind, u32_size(parts.len() as u64), parts, out)?;
+    push_entries(kind, u32_size(parts.len() as u64), parts, lens, out)?;
     Ok(())
 }
 
@@ -112,6 +120,8 @@ pub fn pieces_of<'a>(
 ) -> Result<Seq<Piece<'a>>, OutOfMemory>
     requires bodies { IsSized kinds.Body tree.now.bodies.now m.now.bodies }
     requires segments { IsSized kinds.Segment tree.now.segments.now m.now.segments }
+    requires body_lens { m.now.body_lens ≡ lens_in kinds.Body tree.now.bodies.now }
+    requires segment_lens { m.now.segment_lens ≡ lens_in kinds.Segment tree.now.segments.now }
     ensures bytes { IfOk result (λ pieces. pieces_bytes pieces ≡ written tree.now) }
     ensures fit { IfOk result (λ pieces. list_all part_fits tree.now.bodies.now ≡ true → list_all part_fits tree.now.segments.now ≡ true → Fit pieces) }
 {
@@ -134,6 +144,7 @@ pub fn pieces_of<'a>(
         PartKind::Body,
         tree.bodies,
         m.bodies,
+        m.body_lens.as_slice(),
         &mut out,
     )?;
     push_relocs(
@@ -142,6 +153,7 @@ pub fn pieces_of<'a>(
         PartKind::Segment,
         tree.segments,
         m.segments,
+        m.segment_lens.as_slice(),
         &mut out,
     )?;
     Ok(out)

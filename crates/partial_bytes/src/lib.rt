@@ -1,7 +1,7 @@
 //! The bytes of the object that a partial link makes, written from plain data.
 //!
 //! Nothing of files is copied but into the object. First the object is measured (`measuring`), so that
-//! the caller can refuse one that is too long. Then it is laid out as pieces that stand one behind
+//! the caller can refuse one that is too long; workers measure relocations (`lengths`), and each is measured once. Then it is laid out as pieces that stand one behind
 //! another (`pieces`, `laying`): a body or a segment is one (`part`), and so are the relocations of
 //! each (`entries`), all before the code section and the section `linking` (`sections`, with what
 //! stands in their vectors in `item`, `items` and `symbols`). The pieces are written by several
@@ -14,6 +14,7 @@ mod item;
 mod items;
 mod laws;
 mod laying;
+mod lengths;
 mod measuring;
 mod part;
 mod pieces;

@@ -5,17 +5,20 @@ ghost use Rattle.leb_codec.specs.Shortest.{u32 as shortest_u32};
 ghost use Rattle.image_emit.specs.Bytes.{sized};
 ghost use Rattle.partial_rules.specs.Relocatable.{reloc_section};
 ghost use Rattle.partial_bytes.specs.declared.part.PartKind.TheVariants as kinds;
-ghost use Rattle.partial_bytes.specs.Measured.{IsSized, IsMeasured};
+ghost use Rattle.partial_bytes.specs.Measured.{IsSized, IsMeasured, lens_in};
 ghost use Rattle.partial_bytes.specs.Told.{TreeFits};
 ghost use Rattle.partial_bytes.specs.Written.{payload_len, parts_section, relocs_in, part_fits, code_at, data_at};
 
-use crate::entries::entries_size;
+use crate::lengths::{len_at, lens_of};
 use crate::part::{PartKind, head_size};
 use crate::sections::{code_at, front_size, linking_size, present};
 use crate::sums::{exact, sum};
 use crate::tree::{Part, Tree};
 use image_emit::put::{sized_size, u32_size};
-use wl_base::OutOfMemory;
+use std::alloc::Global;
+use std::thread::Threads;
+use wl_base::{OutOfMemory, Seq};
+use wl_fan::Workers;
 
 /// The sizes of a section of parts, and of its relocations.
 #[derive(Clone, Copy)]
@@ -29,7 +32,7 @@ pub struct SectionSize {
 }
 
 /// The length of the object, and what else is known by then.
-#[derive(Clone, Copy)]
+#[derive(Drop)]
 pub struct Measured {
     /// How many bytes the object has.
     pub len: u64,
@@ -37,18 +40,28 @@ pub struct Measured {
     pub bodies: SectionSize,
     /// The data section.
     pub segments: SectionSize,
+    /// How many bytes the entries of each body's relocations have.
+    pub body_lens: Seq<u64>,
+    /// And those of each data segment's.
+    pub segment_lens: Seq<u64>,
 }
 
-/// The sizes of a section of these parts.
-fn section_size(kind: PartKind, parts: &[Part<'_>]) -> Result<SectionSize, OutOfMemory>
+/// The sizes of a section of these parts, by the lengths of their entries.
+fn section_size(
+    kind: PartKind,
+    parts: &[Part<'_>],
+    lens: &[u64],
+) -> Result<SectionSize, OutOfMemory>
+    requires { lens.now ≡ lens_in kind parts.now }
     ensures { IfOk result (IsSized kind parts.now) }
 {
     let mut at = u32_size(parts.len() as u64);
     let mut count = 0;
     let mut entries = 0;
-    for part in parts {
+    for number in 0..parts.len() {
+        let part = &parts[number];
         let from = sum(at, head_size(kind, part))?;
-        let size = entries_size(from, part.relocs)?;
+        let size = exact(len_at(lens, number))?;
         entries = sum(entries, size)?;
         count = sum(count, part.relocs.len() as u64)?;
         at = sum(from, part.bytes.len() as u64)?;
@@ -121,14 +134,21 @@ fn relocs_len(
 
 /// The exact length of the object, and the sizes of its sections.
 ///
-/// It asks that the windows of relocations lie in their parts. It takes no memory: `OutOfMemory` is
-/// the answer where 64 bits don't hold the length.
-pub fn measure(tree: &Tree<'_>) -> Result<Measured, OutOfMemory>
+/// It asks that the windows of relocations lie in their parts. `OutOfMemory` is the answer too where
+/// 64 bits don't hold the length.
+pub fn measure<R: Threads + Sync>(
+    rt: &R,
+    alloc: Global,
+    tree: &Tree<'_>,
+    workers: Workers,
+) -> Result<Measured, OutOfMemory>
     requires { TreeFits tree.now }
     ensures { IfOk result (IsMeasured tree.now) }
 {
-    let bodies = section_size(PartKind::Body, tree.bodies)?;
-    let segments = section_size(PartKind::Segment, tree.segments)?;
+    let body_lens = lens_of(rt, alloc, PartKind::Body, tree.bodies, workers)?;
+    let segment_lens = lens_of(rt, alloc, PartKind::Segment, tree.segments, workers)?;
+    let bodies = section_size(PartKind::Body, tree.bodies, body_lens.as_slice())?;
+    let segments = section_size(PartKind::Segment, tree.segments, segment_lens.as_slice())?;
     let front = exact(front_size(tree))?;
     let code = section_len(PartKind::Body, tree.bodies, bodies.payload)?;
     let data = section_len(PartKind::Segment, tree.segments, segments.payload)?;
@@ -139,5 +159,7 @@ pub fn measure(tree: &Tree<'_>) -> Result<Measured, OutOfMemory>
         len,
         bodies,
         segments,
+        body_lens,
+        segment_lens,
     })
 }

@@ -4,7 +4,7 @@ ghost use Rattle.std.specs.Prelude.{◌≡◌, true, ◌≤◌, ◌<◌, ◌+◌
 ghost use Rattle.image_emit.specs.Put.{IsPut, HasRoom};
 ghost use Rattle.partial_bytes.specs.Pieces.{head_bytes, reloc_head, piece_bytes, pieces_bytes, piece_len, pieces_len, starts_from, fits, Fit};
 
-use crate::entries::{entries_size, put_entries};
+use crate::entries::put_entries;
 use crate::part::{PartKind, head_size, put_part};
 use crate::sections::{front_size, linking_size, put_front, put_linking};
 use crate::sums::{exact, sum};
@@ -49,6 +49,8 @@ pub enum Piece<'a> {
     Relocs {
         /// Where the part stands in its section.
         from: u32,
+        /// How many bytes their entries have.
+        len: u64,
         relocs: &'a [Reloc],
     },
 }
@@ -65,6 +67,7 @@ fn reloc_head_size(name: &[u8], size: u32, target: u32, count: u32) -> Result<u6
 
 /// How many bytes a piece has.
 fn piece_len(q: &Piece<'_>) -> Result<u64, OutOfMemory>
+    requires { fits q.now ≡ true }
     ensures { IfOk result (λ n. n ≡ piece_len q.now) }
 {
     match q {
@@ -80,12 +83,13 @@ fn piece_len(q: &Piece<'_>) -> Result<u64, OutOfMemory>
             target,
             count,
         } => reloc_head_size(name, *size, *target, *count),
-        Piece::Relocs { from, relocs } => entries_size(u64::from(*from), relocs),
+        Piece::Relocs { len, .. } => Ok(*len),
     }
 }
 
 /// Where each piece begins, and how many bytes all have.
 pub fn starts_of(alloc: Global, pieces: &[Piece<'_>]) -> Result<(Seq<u64>, u64), OutOfMemory>
+    requires { Fit pieces.now }
     ensures { IfOk result (λ x. (x.0 ≡ starts_from 0 pieces.now) × (x.1 ≡ pieces_len pieces.now)) }
 {
     let mut starts = Seq::with_room(alloc, pieces.len())?;
@@ -145,7 +149,7 @@ fn put_piece(q: &Piece<'_>, at: usize, out: &mut [u8]) -> usize
             target,
             count,
         } => put_reloc_head(name, *size, *target, *count, at, out),
-        Piece::Relocs { from, relocs } => put_entries(*from, relocs, at, out),
+        Piece::Relocs { from, relocs, .. } => put_entries(*from, relocs, at, out),
     }
 }
 

@@ -20,10 +20,10 @@ fn is_written_by<R: Threads + Sync>(
     if !lie_in(tree) {
         return false;
     }
-    let Ok(m) = measure(tree) else {
+    let Some(workers) = Workers::new(workers) else {
         return false;
     };
-    let Some(workers) = Workers::new(workers) else {
+    let Ok(m) = measure(rt, alloc, tree, workers) else {
         return false;
     };
     match written(rt, alloc, tree, &m, workers) {

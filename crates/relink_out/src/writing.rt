@@ -32,7 +32,7 @@ pub fn write<R: Threads + Sync>(
     requires { TreeFits tree.now }
     ensures { IfOk result (IsJudged (relocatable_bytes (tree_told tree.now))) }
 {
-    let measured = measure(tree)?;
+    let measured = measure(rt, alloc, tree, workers)?;
     if measured.len > MOST {
         return Ok(Judged::TooLong(measured.len));
     }
