@@ -1,6 +1,6 @@
 //! The features that objects use together.
 ghost use Rattle.std.specs.Prelude.{◌≡◌, [], OnOk, IfOk};
-ghost use Rattle.feature_section.specs.Union.{is_used, with_name, with_features, with_objects, union_of};
+ghost use Rattle.feature_section.specs.Union.{is_used, is_among, with_name, with_features, with_objects, union_of};
 
 use crate::feature::{Feature, FeatureMark};
 use crate::name_key::{NameKey, NameRef};
@@ -43,6 +43,13 @@ impl FeatureNames {
         FeatureNames {
             names: BTreeSet::new(alloc),
         }
+    }
+
+    /// Whether a name is among them.
+    pub fn contains(&self, name: &[u8]) -> bool
+        ensures { result ≡ is_among self.now name.now }
+    {
+        self.names.contains(NameRef { bytes: name })
     }
 
     /// Puts a name among them, unless it is there.

@@ -1,4 +1,4 @@
--- The check and the debug sections behind the link: what is linked, by what the link gives, what the check finds, and what stands behind.
+-- The check and the sections behind the link: what is linked, by what the link gives, what the check finds, and what stands behind.
 use Rattle.std.proofs.Common.{◌≡◌, ℕ, List, length, refl, sym, ap, subst, ◌∙◌, Option, Some, None, Result, Ok, Err}
 use Rattle.std.specs.Prelude.{unwrap_or, IfOk}
 use Rattle.link_output.specs.link_program.wl_base.Choice.{unless, ◌>>=◌}
@@ -15,8 +15,8 @@ use Rattle.link_output.specs.link_program.Answers.{Stops}
 use Rattle.debug_links.specs.valid_links.Links.{AllValid, LinksAreValid, LinksDontJudge}
 use Rattle.debug_links.specs.valid_links.output_check.Check.{invalid_fault, IsValidOutput}
 use Rattle.debug_links.proofs.output_check_lemmas.Passed.{passes}
-use Rattle.debug_links.specs.debug_tails.Tails.{with_debug}
-use Rattle.debug_links.specs.Keeps.{ValidStays}
+use Rattle.link_tails.specs.Tails.{with_tail}
+use Rattle.link_tails.specs.Keeps.{ValidStays}
 use Rattle.link_core.specs.Answers.{Answers}
 use Rattle.link_core.specs.Linked.{checked, linked, unchecked}
 use Rattle.link_core.specs.Checked.{KeepsValid}
@@ -25,13 +25,13 @@ use Rattle.link_core.proofs.Tails.{sections_dont_judge}
 
 module _ (plan : Plan) (files : List (List ℕ)) where
   abbrev then_checked : Result (List ℕ) Fault → Result (List ℕ) Fault
-  then_checked r = r >>= λ bytes. checked plan bytes >>= λ bytes. with_debug plan files bytes
+  then_checked r = r >>= λ bytes. checked plan bytes >>= λ bytes. with_tail plan files bytes
 
   abbrev then_kept : Result (List ℕ) Fault → Result (List ℕ) Fault
-  then_kept r = r >>= λ bytes. with_debug plan files bytes
+  then_kept r = r >>= λ bytes. with_tail plan files bytes
 
   abbrev passed : List ℕ → Option Fault → Result (List ℕ) Fault
-  passed bytes o = (unless o bytes >>= λ bytes. Ok bytes) >>= λ bytes. with_debug plan files bytes
+  passed bytes o = (unless o bytes >>= λ bytes. Ok bytes) >>= λ bytes. with_tail plan files bytes
 
   -- ---- what is linked
 
@@ -54,7 +54,7 @@ module _ (plan : Plan) (files : List (List ℕ)) where
       by OutOfMemory stops = tt
 
   -- the check passes it, and behind it stands what is said
-  pub passes_check : (bytes : List ℕ) (r : Result (List ℕ) LinkError) → link_of plan files ≡ Ok bytes → invalid_fault plan bytes ≡ None → Answers r (with_debug plan files bytes)
+  pub passes_check : (bytes : List ℕ) (r : Result (List ℕ) LinkError) → link_of plan files ≡ Ok bytes → invalid_fault plan bytes ≡ None → Answers r (with_tail plan files bytes)
       → Answers r (linked plan files)
   unfolding linked
   passes_check bytes r link none said = subst (Answers r) (sym (ap then_checked link ∙ ap (passed bytes) none)) said
@@ -63,9 +63,9 @@ module _ (plan : Plan) (files : List (List ℕ)) where
 
   -- the module, and what stands behind it
   abbrev pub Parts : Result (List ℕ) Fault → List ℕ → Type 0
-  Parts r whole = (bytes : List ℕ) × (r ≡ Ok bytes) × (with_debug plan files bytes ≡ Ok whole)
+  Parts r whole = (bytes : List ℕ) × (r ≡ Ok bytes) × (with_tail plan files bytes ≡ Ok whole)
 
-  passed_is : (bytes whole : List ℕ) (o : Option Fault) → passed bytes o ≡ Ok whole → with_debug plan files bytes ≡ Ok whole
+  passed_is : (bytes whole : List ℕ) (o : Option Fault) → passed bytes o ≡ Ok whole → with_tail plan files bytes ≡ Ok whole
   passed_is bytes whole None e = e
   passed_is bytes whole (Some f) e = absurd cc
 
@@ -93,13 +93,13 @@ module _ (plan : Plan) (files : List (List ℕ)) where
   same_by (Err f) none = refl
 
   -- sections refuse by no fault of the check
-  none_of_both : (r : Result (List ℕ) Fault) (at : InvalidAt) → (r ≡ Err (Invalid at) → ⊥) → ((bytes : List ℕ) → r ≡ Ok bytes → with_debug plan files bytes ≡ Err (Invalid at) → ⊥)
+  none_of_both : (r : Result (List ℕ) Fault) (at : InvalidAt) → (r ≡ Err (Invalid at) → ⊥) → ((bytes : List ℕ) → r ≡ Ok bytes → with_tail plan files bytes ≡ Err (Invalid at) → ⊥)
       → then_kept r ≡ Err (Invalid at) → ⊥
   none_of_both (Ok bytes) at link sections e = sections bytes refl e
   none_of_both (Err f) at link sections e = link e
 
   -- what is valid stays so
-  pub valid_whole : ValidStays → (bytes : List ℕ) (r : Result (List ℕ) LinkError) → IsValidOutput bytes → Answers r (with_debug plan files bytes) → IfOk r IsValidOutput
+  pub valid_whole : ValidStays → (bytes : List ℕ) (r : Result (List ℕ) LinkError) → IsValidOutput bytes → Answers r (with_tail plan files bytes) → IfOk r IsValidOutput
   valid_whole stays bytes (Ok whole) valid said = stays plan files bytes whole valid said
   valid_whole stays bytes (Err e) valid said = tt
 

@@ -5,7 +5,7 @@ use Rattle.link_output.specs.link_program.wl_base.declared.fault.Fault.{Fault}
 use Rattle.link_output.specs.link_program.link_rules.ModeOf.{mode_of}
 use Rattle.link_output.specs.link_program.declared.error.LinkError.{LinkError}
 use Rattle.debug_places.specs.Tails.{LoadedStage}
-use Rattle.debug_links.specs.debug_tails.Tails.{laid_tail}
+use Rattle.link_tails.specs.Tails.{laid_whole}
 use Rattle.link_core.specs.declared.tail.Tail.{Tail}
 use Rattle.link_core.specs.declared.tail.Tail.TheVariants.{Bytes, Refused}
 use Rattle.link_core.specs.declared.tail.Whole.{Whole}
@@ -21,9 +21,9 @@ behind bytes said = do
   tail ← said
   Ok (bytes ++ tail)
 
--- the debug sections of a stage, behind so many bytes
+-- what stands behind the output of a stage of so many bytes
 abbrev pub stage_tail : LoadedStage → ℕ → Result (List ℕ) Fault
-stage_tail s len = laid_tail (mode_of s.stage.program.plan) s.stage.program s.all s.stage.exports s.stage.parts len
+stage_tail s len = laid_whole (mode_of s.stage.program.plan) s.stage.program s.all s.stage.exports s.stage.parts len
 
 -- the module, or the error before it
 abbrev pub modules : Result Whole LinkError → Result (List ℕ) LinkError

@@ -7,8 +7,8 @@ use Rattle.called_variants.specs.Called.{calls_told_of}
 use Rattle.partial_rules.specs.PartialLink.{partial_of}
 use Rattle.link_core.specs.Linked.{linked}
 
--- A plan that asks for a partial link gets the object that joins its files; any other gets a module, checked and with its debug sections
--- behind it where it asks for these.
+-- A plan that asks for a partial link gets the object that joins its files; any other gets a module, checked and with sections behind it where it
+-- asks for these.
 unfoldable pub whole_link : Plan → List (List ℕ) → Result (List ℕ) Fault
 whole_link plan files = if plan.partial then partial_of plan files else linked plan files
 

@@ -1,7 +1,7 @@
 //! The link of a module, as a list of steps in the order of its definition (`link_of` in link_rules/specs/LinkOf.antt): load, find, exports,
 //! mark, fixed code, unresolved, place, number, image, measure, patches, write. Each gives what the next ones need, or a fault that ends the link. Behind
-//! them stand the check of the output and the debug sections of the objects, where the plan asks for these (`linked` in specs/Linked.antt). The
-//! sections are joined before the output is written, while what was found of the program is still there.
+//! them stand the check of the output and, where the plan asks for them, the sections behind it (`linked` in specs/Linked.antt). These are
+//! made before the output is written, while what was found of the program is still there.
 ghost use Rattle.std.specs.Prelude.{◌≡◌, ◌<◌, ◌^◌, true, [], length, unwrap_or, IfOk, IsTrue};
 ghost use Rattle.link_output.specs.link_program.link_plan.Plan.{IsPlan};
 ghost use Rattle.link_output.specs.link_program.link_rules.ModeOf.{mode_of, IsPlain};
@@ -14,7 +14,7 @@ ghost use Rattle.link_output.specs.link_program.Program.{IsProgram};
 ghost use Rattle.link_output.specs.link_program.name_entries.Fits.{Fits};
 ghost use Rattle.link_output.specs.link_program.Stand.{PartsStand};
 ghost use Rattle.debug_places.specs.Tails.{LoadedStage};
-ghost use Rattle.debug_links.specs.debug_tails.Tails.{debug_tail as told_tail, program_tail};
+ghost use Rattle.link_tails.specs.Tails.{whole_tail, program_whole};
 ghost use Rattle.link_core.specs.Answers.{Answers, IsShort};
 ghost use Rattle.link_core.specs.Checked.{KeepsValid};
 ghost use Rattle.link_core.specs.Chosen.{IsChosen, Chooses};
@@ -36,17 +36,16 @@ use crate::chosen::Chosen;
 use crate::prepared::Prepared;
 use crate::tail::{Whole, kept, room_for, with_tail};
 use crate::telling::find_telling;
-use debug_links::{
-    Inputs, ValidError, check_output, links_are_valid, links_dont_judge, links_run, load_inputs,
-    offsets_stay, runs_stay, valid_stays,
-};
-use debug_places::debug_tail;
 use link_image::{Layout, image, number, place_segments};
 use link_output::laws::{
     patches_make_the_output, values_are_judged_in_turn, windows_stand_in_sources,
 };
 use link_output::{Entries, Home, LinkError, Program, Winner, measured, write};
 use link_plan::Plan;
+use link_tails::{
+    Inputs, ValidError, check_output, links_are_valid, links_dont_judge, links_run, load_inputs,
+    offsets_stay, runs_stay, valid_stays,
+};
 use lost_ctors::{
     all_are_meant, exports, first_fixed, live_parts, repeated_export, uncalled, unresolved,
 };
@@ -56,6 +55,7 @@ use program_build::laws::parts_stand;
 use std::alloc::Global;
 use std::mem::forget;
 use std::thread::Threads;
+use tails_out::tail_behind;
 use wl_base::{Fault, Seq};
 use wl_fan::Workers;
 use wl_outside::Gate;
@@ -143,7 +143,7 @@ fn check<R: Threads + Sync>(
     }
 }
 
-// The link without the check, and its debug sections.
+// The link without the check, and what is to stand behind it.
 fn link_files<R: Threads + Sync, G: Gate>(
     rt: &R,
     alloc: Global,
@@ -155,7 +155,7 @@ fn link_files<R: Threads + Sync, G: Gate>(
     requires plan { IsPlan plan.now }
     requires files { length files.now ≡ unwrap_or plan.now.make_case (length plan.now.inputs) }
     ensures exact { Answers (modules result) (link_of plan.now files.now) }
-    ensures tail { IfOk result (λ w. TellsTail w.tail (told_tail plan.now files.now (length w.bytes))) }
+    ensures tail { IfOk result (λ w. TellsTail w.tail (whole_tail plan.now files.now (length w.bytes))) }
     ensures short { IfOk result (λ w. length w.bytes < 2 ^ 31) }
     ensures told { told.old ≡ [] → Tells result told.new (calls_told_of plan.now files.now) }
 {
@@ -199,7 +199,7 @@ fn prepare<R: Threads + Sync, G: Gate>(
     requires loaded { IsLoaded l.origin.files l.origin.all inputs.now.loaded inputs.now.homes }
     ensures exact { Answers (outputs files.now result) (link_program (mode_of (program_in l).plan) (program_in l)) }
     ensures ready { IfOk result (IsReady files.now) }
-    ensures tail { IfOk result (λ p. TellsTail p.tail (program_tail (mode_of (program_in l).plan) (program_in l) l.origin.all p.measured.len)) }
+    ensures tail { IfOk result (λ p. TellsTail p.tail (program_whole (mode_of (program_in l).plan) (program_in l) l.origin.all p.measured.len)) }
     ensures told { told.old ≡ [] → Tells result told.new (told_of (standing (program_in l))) }
 {
     let objects = inputs.objects();
@@ -286,7 +286,7 @@ fn lay_out<R: Threads + Sync>(
     prepared
 }
 
-// Makes the output's image, measures it, finds what its windows hold, and joins the debug sections.
+// Makes the output's image, measures it, finds what its windows hold, and makes what stands behind it.
 fn make_ready<R: Threads + Sync>(
     rt: &R,
     alloc: Global,
@@ -312,7 +312,7 @@ fn make_ready<R: Threads + Sync>(
     let image = image(alloc, layout, exports, live)?;
     let measured = measured(alloc, files, &image)?;
     let patches = layout.patches(rt, alloc, live, measured.places.as_slice(), workers)?;
-    let joined = debug_tail(rt, alloc, layout, live, &measured, homes, files, workers);
+    let joined = tail_behind(rt, alloc, layout, live, &measured, homes, files, workers);
     let tail = kept(joined)?;
     Ok(Prepared {
         image,

@@ -8,9 +8,9 @@ ghost use Rattle.partial_inputs.specs.Refused.{IsBare, joined};
 ghost use Rattle.link_core.specs.Answers.{Answers, IsShort};
 ghost use Rattle.link_core.specs.Loading.{Loading, program_in};
 
-use debug_links::{Inputs, load_inputs};
 use link_output::LinkError;
 use link_plan::Plan;
+use link_tails::{Inputs, load_inputs};
 use partial_inputs::laws::inputs_come_first;
 use partial_inputs::{bare_plan, refused_inputs};
 use program_build::laws::parts_stand;

@@ -1,5 +1,5 @@
-//! What stands behind a module: the debug sections of its objects, where the words ask for them. They are joined while the module is laid
-//! out, and put behind it once its bytes are judged; so a fault of theirs is kept until then.
+//! What stands behind a module, where the words ask for it. It is made while the module is laid out, and put behind it once its bytes are
+//! judged; so a fault of it is kept until then.
 ghost use Rattle.std.specs.Prelude.{ℕ, List, Result, IfOk};
 ghost use Rattle.link_output.specs.link_program.wl_base.declared.fault.Fault.{Fault as Refusal};
 ghost use Rattle.link_output.specs.link_program.Answers.{Answers as Joins};
@@ -31,7 +31,7 @@ pub(crate) fn room_for(tail: &Tail) -> usize {
     }
 }
 
-/// What was joined, to be told later.
+/// What was made, to be told later.
 pub(crate) fn kept(joined: Result<Seq<u8>, LinkError>) -> Result<Tail, OutOfMemory>
     ensures { (said : Result (List ℕ) Refusal) → Joins (λ bytes. bytes) joined said → IfOk result (λ tail. TellsTail tail said) }
 {

@@ -21,9 +21,9 @@ use std::thread::Threads;
 use wl_base::Seq;
 use wl_outside::Gate;
 
-/// Links the files as the plan asks: the bytes of the module, and behind it the joined debug sections of the objects where the plan keeps
-/// them; or for a partial link those of one relocatable object; or the first fault that applies. There is one file for each input of the plan,
-/// or as many as objects were generated.
+/// Links the files as the plan asks: the bytes of the module, and behind it the joined debug sections of the objects, the names of the functions
+/// and the features that the objects use, each where the plan asks for it; or for a partial link the bytes of one relocatable object; or the
+/// first fault that applies. There is one file for each input of the plan, or as many as objects were generated.
 ///
 /// Given objects are read, groups and names are raced for, live parts are marked and the output is filled by as many workers as the plan
 /// has threads, or by one where the gate is open and little is to be linked; each passes the gate before a job. The values of windows are

@@ -3,7 +3,7 @@ use Rattle.std.proofs.lemmas.Result.{err_from_is_err_and}
 use Rattle.link_output.specs.link_program.Answers.{Stops}
 use Rattle.debug_links.specs.valid_links.output_check.Check.{invalid_fault, IsValidOutput}
 use Rattle.called_variants.specs.Called.{calls_told_of}
-use Rattle.debug_links.specs.debug_tails.Tails.{debug_tail}
+use Rattle.link_tails.specs.Tails.{whole_tail}
 use Rattle.link_core.proofs.Checking.{not_linked, not_valid, passes_check, valid_whole}
 use Rattle.link_core.proofs.Listing.{beside_all, tells_all, tells_by}
 use Rattle.link_core.proofs.Tails.{whole_is_short}
@@ -35,19 +35,19 @@ pub returns-clause-exact : goal.returns-clause-exact
 returns-clause-exact g c =
     let bytes = c.in_ok-whole.whole.bytes in
     passes_check c.args.plan.now c.args.files.now bytes c.with_tail-answer.result c.in_ok-whole.ensures.exact (ap (invalid_fault c.args.plan.now) (sym c.as_slice.ensures) ∙ c.in_ok-check.ensures.exact)
-    (c.with_tail-answer.ensures (debug_tail c.args.plan.now c.args.files.now (length bytes)) c.in_ok-whole.ensures.tail)
+    (c.with_tail-answer.ensures (whole_tail c.args.plan.now c.args.files.now (length bytes)) c.in_ok-whole.ensures.tail)
 
 pub returns-clause-checked : goal.returns-clause-checked
 returns-clause-checked g c = λ asked.
     let bytes = c.in_ok-whole.whole.bytes in
     valid_whole c.args.plan.now c.args.files.now c.valid_stays.ensures bytes c.with_tail-answer.result (subst IsValidOutput c.as_slice.ensures (c.in_ok-check.ensures.valid asked))
-    (c.with_tail-answer.ensures (debug_tail c.args.plan.now c.args.files.now (length bytes)) c.in_ok-whole.ensures.tail)
+    (c.with_tail-answer.ensures (whole_tail c.args.plan.now c.args.files.now (length bytes)) c.in_ok-whole.ensures.tail)
 
 pub returns-clause-short : goal.returns-clause-short
 returns-clause-short g c =
     let bytes = c.in_ok-whole.whole.bytes in
     whole_is_short c.args.plan.now c.args.files.now bytes c.in_ok-whole.ensures.exact c.in_ok-whole.ensures.short c.with_tail-answer.result
-    (c.with_tail-answer.ensures (debug_tail c.args.plan.now c.args.files.now (length bytes)) c.in_ok-whole.ensures.tail)
+    (c.with_tail-answer.ensures (whole_tail c.args.plan.now c.args.files.now (length bytes)) c.in_ok-whole.ensures.tail)
 
 pub returns-clause-told : goal.returns-clause-told
 returns-clause-told g c = λ none. tells_all c.with_tail-answer.result c.link_files.new.told (calls_told_of c.args.plan.now c.args.files.now) (c.in_ok-whole.ensures.told none)

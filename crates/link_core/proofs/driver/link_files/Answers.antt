@@ -3,7 +3,7 @@ use Rattle.std.proofs.lemmas.Result.{err_from_is_err_and}
 use Rattle.link_output.specs.link_program.link_rules.ModeOf.{mode_of}
 use Rattle.link_output.specs.link_program.link_rules.LinkOf.{link_program}
 use Rattle.link_output.specs.link_program.Loaded.{the_candidates}
-use Rattle.debug_links.specs.debug_tails.Tails.{debug_tail}
+use Rattle.link_tails.specs.Tails.{whole_tail}
 use Rattle.link_core.specs.Loading.{Loading, program_in}
 use Rattle.link_core.specs.Prepared.{output_of}
 use Rattle.link_core.specs.Tails.{TellsTail}
@@ -43,7 +43,7 @@ returns-clause-tail g c =
     let files = c.args.files.now in
     subst (TellsTail c.in_ok-ready.ready.tail)
     (sym (loaded_tail plan files c.in_ok-ready.ready.measured.len (the_candidates plan files) c.in_ok-inputs.inputs.loaded c.in_ok-inputs.ensures.found.candidates c.in_ok-inputs.ensures.found.objects)
-    ∙ ap (debug_tail plan files) (sym c.in_ok-bytes.ensures.len))
+    ∙ ap (whole_tail plan files) (sym c.in_ok-bytes.ensures.len))
     c.in_ok-ready.ensures.tail
 
 -- ---- what is told

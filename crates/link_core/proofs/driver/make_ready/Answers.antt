@@ -65,8 +65,8 @@ returns-in_err-patches-clause-exact g c =
     c.in_ok-measured.ensures
     (c.values_are_judged_in_turn.ensures c.args.files.now c.in_ok-image.image c.in_ok-measured.measured (the_windows g.s.stage) (the_held g.s.stage) c.in_err-patches.field-0.0 files c.in_ok-measured.ensures.0 stand told))
 
-pub debug_tail-joined-requires : goal.debug_tail-joined-requires
-debug_tail-joined-requires g c κs within =
+pub tail_behind-joined-requires : goal.tail_behind-joined-requires
+tail_behind-joined-requires g c κs within =
     let layout : IsLayout g.s.stage.program g.s.stage.parts g.s.stage.exports c.args.layout = c.requires.1.1.0 in
     let chosen : IsChosen g.s.stage c.args.layout.program c.args.exports.now c.args.live.now = c.requires.1.1.1.0 in
     let same : c.args.files.now ≡ g.s.stage.program.files = c.requires.1.1.1.1.0 in
@@ -82,7 +82,7 @@ returns-in_err-tail-clause-exact g c =
     rw (p.1, p.2) tt
 
 pub returns-clause-tail : goal.returns-clause-tail
-returns-clause-tail g c = c.in_ok-tail.ensures (stage_tail g.s c.in_ok-measured.measured.len) c.debug_tail-joined.ensures
+returns-clause-tail g c = c.in_ok-tail.ensures (stage_tail g.s c.in_ok-measured.measured.len) c.tail_behind-joined.ensures
 
 pub returns-clause-exact : goal.returns-clause-exact
 returns-clause-exact g c =

@@ -6,5 +6,5 @@ ghost-image g a = g.s.stage
 abbrev pub ghost-patches : goal.ghost-patches
 ghost-patches g a = g.s.stage
 
-abbrev pub ghost-debug_tail : goal.ghost-debug_tail
-ghost-debug_tail g a = g.s
+abbrev pub ghost-tail_behind : goal.ghost-tail_behind
+ghost-tail_behind g a = g.s

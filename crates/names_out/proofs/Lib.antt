@@ -1,0 +1,6 @@
+mod Marks
+mod Found
+mod Offered
+mod Tables
+mod Listed
+mod Told

@@ -1,0 +1,4 @@
+mod Joining
+mod Plain
+mod Steps
+pub mod Customs

@@ -1,0 +1,10 @@
+use Rattle.std.proofs.Common.{◌≡◌, ◌++◌, length}
+use Rattle.debug_out.specs.Inputs.{inputs_of}
+use Rattle.object_features.specs.Check.{numbers_of}
+use Rattle.object_features.proofs.said.numbers.Given as goal
+
+abbrev pub invariant-loop-os : goal.invariant-loop-os
+invariant-loop-os l = l.numbers ++ numbers_of (inputs_of l.files l.os l.ss) ≡ numbers_of (inputs_of l.files l.objects l.spans)
+
+abbrev pub decreases-loop-os : goal.decreases-loop-os
+decreases-loop-os l = length l.os

@@ -1,0 +1,1 @@
+pub use Rattle.link_tails.specs as link_tails
