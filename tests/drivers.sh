@@ -9,20 +9,8 @@ real=$top/tests/real
 sources=$top/tests/drivers
 libc=/usr/lib/wasm32-wasi
 
-skip() {
-  echo "skipped: $1"
-}
-
-skip_all() {
-  skip "compiler drivers ($1)"
-  finish
-  exit
-}
-
-for tool in clang llvm-ar node; do
-  command -v "$tool" >/dev/null || skip_all "no $tool"
-done
-clang --print-targets | grep -q wasm32 || skip_all "clang has no wasm32"
+subject="compiler drivers"
+need clang llvm-ar node
 [ -e "$libc/crt1.o" ] || skip_all "no wasi-libc"
 [ -e "$(clang --target=wasm32-wasi --print-libgcc-file-name)" ] || skip_all "no compiler-rt for wasm32"
 
@@ -172,8 +160,9 @@ many_objects() {
   expect "to the same module" cmp by_file.wasm by_clang.wasm
   if [ -n "${WASMLD:-}" ]; then
     mapfile -t objects <many.rsp
+    expect "without the names of functions" "$linker" @many.rsp -s -o stripped.wasm
     expect "the linker's own words" "$WASMLD" "${objects[@]}" --stack-first -o by_words.wasm
-    expect "give the same module" cmp by_file.wasm by_words.wasm
+    expect "give the same module" cmp stripped.wasm by_words.wasm
   fi
   rm -r many
 }

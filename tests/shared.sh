@@ -52,7 +52,7 @@ places_are_ignored() {
 
 # Under the name that compilers call, definitions are exported without a word.
 same_by_name() {
-  ln -s "$wasmld" wasm-ld && ./wasm-ld -shared --experimental-pic -o named.wasm first.o && cmp named.wasm first.wasm
+  ln -s "$wasmld" wasm-ld && ./wasm-ld -shared --experimental-pic -s -o named.wasm first.o && cmp named.wasm first.wasm
 }
 
 # A plain object, of which the first reference that isn't position-independent is told.

@@ -20,3 +20,24 @@ finish() {
   echo "$passed passed, $failed failed"
   [ "$failed" -eq 0 ]
 }
+
+# Takes what isn't checked here.
+skip() {
+  echo "skipped: $1"
+}
+
+# Takes why nothing that the script is for, which $subject names, is checked here.
+skip_all() {
+  skip "$subject ($1)"
+  finish
+  exit
+}
+
+# Takes the tools that the script needs, of which clang has to compile for WebAssembly.
+need() {
+  local tool
+  for tool in "$@"; do
+    command -v "$tool" >/dev/null || skip_all "no $tool"
+  done
+  clang --print-targets | grep -q wasm32 || skip_all "clang has no wasm32"
+}

@@ -6,6 +6,7 @@ use Rattle.wl_base.specs.declared.usage.Usage.{Usage as UsageFault}
 use Rattle.wl_outside.specs.Shelf.{Shown, Same, SameBut, Grows, Holds, Torn, LoadFailed, SaveFailed}
 use Rattle.link_plan.specs.declared.plan.Plan.{Plan}
 use Rattle.link_words.specs.Words.{word}
+use Rattle.link_command.specs.declared.asked.Asked.{Asked}
 use Rattle.link_command.specs.declared.status.Status.{Status}
 use Rattle.link_command.specs.declared.status.Status.TheVariants.{Linked, Refused, Usage, ReadFault, WriteFault, NoMemory}
 use Rattle.link_command.specs.Command.{planned, Shows, LinkIs, IsTold, LoadsWork, SaveWorks, Saved, SavedRuns, Cut, contents, input_names, files_of}
@@ -123,10 +124,10 @@ module _ (before mid after : Shown) (grows : Grows before mid) (same : Same befo
   save_in None work = work
   save_in (Some output) work = λ failed. work (save_back output failed)
 
-  pub links_after : (loose : Bool) (status : Status) → LinksBy loose status mid after own → LinksBy loose status before after own
-  links_after loose status h = record {
+  pub links_after : (loose : Bool) (asked : Asked) (status : Status) → LinksBy loose asked status mid after own → LinksBy loose asked status before after own
+  links_after loose asked status h = record {
     usage = λ u is. let p = h.usage u is in (p.0, same_all before mid after grows same p.1);
-    cause = on_ok (λ plan. Shows status mid after own plan) (λ plan. Shows status before after own plan) (planned true loose own) (shows_back status) h.cause;
+    cause = on_ok (λ plan. Shows status mid after own plan) (λ plan. Shows status before after own plan) (planned true loose asked own) (shows_back status) h.cause;
     memory = λ is. same_all before mid after grows same (h.memory is);
     runs = λ plan is linked told. runs_back plan told (h.runs plan is linked (told_in plan.make_case told));
     is_usage = h.is_usage;
@@ -141,13 +142,13 @@ module _ (before mid after : Shown) (grows : Grows before mid) (same : Same befo
   would_back_by (Ok plan) told h = mismatches_back plan told h
   would_back_by (Err u) told h = tt
 
-  pub would_back : (told : List Mismatch) → WouldTell mid own told → WouldTell before own told
-  would_back told h = would_back_by (planned true true own) told h
+  pub would_back : (asked : Asked) (told : List Mismatch) → WouldTell asked mid own told → WouldTell asked before own told
+  would_back asked told h = would_back_by (planned true true asked own) told h
 
-  pub links_as_after : (fatal : Bool) (status : Status) → LinksAs fatal status mid after own → LinksAs fatal status before after own
-  links_as_after false status h = links_after true status h
-  links_as_after true status h =
-      elim h [ inl strict ↦ inl (links_after false status strict) | inr loose ↦ inr (would_back [] loose.0, links_after true status loose.1) ]
+  pub links_as_after : (fatal : Bool) (asked : Asked) (status : Status) → LinksAs fatal asked status mid after own → LinksAs fatal asked status before after own
+  links_as_after false asked status h = links_after true asked status h
+  links_as_after true asked status h =
+      elim h [ inl strict ↦ inl (links_after false asked status strict) | inr loose ↦ inr (would_back asked [] loose.0, links_after true asked status loose.1) ]
 
 -- ---- behind the link
 
@@ -202,10 +203,10 @@ module _ (before mid after : Shown) (first : Grows before mid) (grows : Grows mi
   save_so_far None work = work
   save_so_far (Some output) work = λ failed. work (save_on output failed)
 
-  pub links_before : (loose : Bool) (status : Status) → LinksBy loose status before mid own → LinksBy loose status before after own
-  links_before loose status h = record {
+  pub links_before : (loose : Bool) (asked : Asked) (status : Status) → LinksBy loose asked status before mid own → LinksBy loose asked status before after own
+  links_before loose asked status h = record {
     usage = λ u is. let p = h.usage u is in (p.0, same_on p.1);
-    cause = on_ok (λ plan. Shows status before mid own plan) (λ plan. Shows status before after own plan) (planned true loose own) (shows_on status) h.cause;
+    cause = on_ok (λ plan. Shows status before mid own plan) (λ plan. Shows status before after own plan) (planned true loose asked own) (shows_on status) h.cause;
     memory = λ is. same_on (h.memory is);
     runs = λ plan is linked told. runs_on plan (h.runs plan is linked told);
     is_usage = h.is_usage;
@@ -213,6 +214,6 @@ module _ (before mid after : Shown) (first : Grows before mid) (grows : Grows mi
     is_linked = λ plan bytes is told link work save. h.is_linked plan bytes is told link (loads_so_far plan work) (save_so_far plan.output save);
   }
 
-  pub links_as_before : (fatal : Bool) (status : Status) → LinksAs fatal status before mid own → LinksAs fatal status before after own
-  links_as_before false status h = links_before true status h
-  links_as_before true status h = elim h [ inl strict ↦ inl (links_before false status strict) | inr loose ↦ inr (loose.0, links_before true status loose.1) ]
+  pub links_as_before : (fatal : Bool) (asked : Asked) (status : Status) → LinksAs fatal asked status before mid own → LinksAs fatal asked status before after own
+  links_as_before false asked status h = links_before true asked status h
+  links_as_before true asked status h = elim h [ inl strict ↦ inl (links_before false asked status strict) | inr loose ↦ inr (loose.0, links_before true asked status loose.1) ]

@@ -1,6 +1,7 @@
 -- What each outcome says of drivers' words and of the shelf before and after, and its exit status.
 use Rattle.std.specs.Prelude.{◌≡◌, ℕ, Bool, List, IsTrue, min}
 use Rattle.wl_outside.specs.Shelf.{Shown, Same}
+use Rattle.link_command.specs.declared.asked.Asked.{Asked}
 use Rattle.link_command.specs.declared.status.Status.{Status}
 use Rattle.link_command.specs.Status.{code_of as status_code}
 use Rattle.driver_words.specs.declared.answer.Answer.{Answer}
@@ -22,13 +23,14 @@ code_of (Linked status) = min (status_code status) 1
 abbrev pub Means : Shown → List (List ℕ) → Answer → Type 0
 Means before words answer = IsTrue before.tells → translated before.held words ≡ answer
 
--- The words are the linker's, and the link by its own words shows what it shows.
+-- The words are the linker's, and the link by its own words, with what is asked beside them, shows what it shows.
 pub record IsLink (status : Status) (before after : Shown) (words : List (List ℕ)) : Type 0 where
   pub own : List (List ℕ)
   pub warnings : List (List ℕ)
   pub fatal : Bool
-  pub means : Means before words (Links own warnings fatal)
-  pub shows : LinksAs fatal status before after own
+  pub asked : Asked
+  pub means : Means before words (Links own warnings fatal asked.names asked.features)
+  pub shows : LinksAs fatal asked status before after own
 
 -- outcome by outcome
 abbrev pub Ends : Outcome → Shown → Shown → List (List ℕ) → Type 0
@@ -42,7 +44,7 @@ Ends (Linked status) before after words = IsLink status before after words
 -- refuses them, or the text that is asked for. It fails to come only where there is no answer to the words.
 abbrev pub IsDue : Outcome → Shown → Shown → Answer → Type 0
 IsDue (Stopped stop) before after answer = Blames stop before after
-IsDue (Linked status) before after (Links own warnings fatal) = LinksAs fatal status before after own
+IsDue (Linked status) before after (Links own warnings fatal names features) = LinksAs fatal (record { names = names; features = features }) status before after own
 IsDue (Refused line) before after (Refuses due) = line ≡ due
 IsDue (Said what) before after (Says due) = what ≡ due
 IsDue (Unsaid what) before after (Says due) = what ≡ due

@@ -8,6 +8,7 @@ use Rattle.link_plan.specs.declared.plan.Plan.{Plan}
 use Rattle.link_words.specs.Words.{plan_of}
 use Rattle.link_lines.specs.Pieces.{joined}
 use Rattle.link_command.specs.Said.{Said as Written}
+use Rattle.link_command.specs.declared.asked.Asked.{Asked}
 use Rattle.link_command.specs.declared.status.Status.{Status}
 use Rattle.link_command.specs.declared.status.Status.TheVariants.{Linked as Done, Refused as Faulty, Usage, ReadFault, WriteFault, NoMemory}
 use Rattle.driver_lines.specs.Lines.{error_line, warning_line, refusal_line}
@@ -104,10 +105,11 @@ pub record LinkTold (status : Status) (program : List ℕ) (before after : Shown
   pub own : List (List ℕ)
   pub warnings : List (List ℕ)
   pub fatal : Bool
+  pub asked : Asked
   pub told : List Mismatch
   pub line : List ℕ
-  pub means : Means before words (Links own warnings fatal)
-  pub mismatches : TellsOf fatal status before after own told
+  pub means : Means before words (Links own warnings fatal asked.names asked.features)
+  pub mismatches : TellsOf fatal asked status before after own told
   pub ends : IsEnd fatal status told program after own line
   pub written : Written (warning_lines program warnings ++ line) old new
 

@@ -17,7 +17,7 @@ use crate::outcome::Outcome;
 use crate::saying::{say_ending, say_stop, say_warnings};
 use driver_lines::say_error;
 use driver_words::{Answer, Finder, Stop, What, translate};
-use link_command::Status;
+use link_command::{Asked, Status};
 use std::alloc::Global;
 use std::thread::Threads;
 use wl_base::Text;
@@ -76,13 +76,18 @@ fn answer<R: Threads + Sync, F: Finder, O: Sink, E: Sink, G: Gate>(
                 own,
                 warnings,
                 fatal,
+                names,
+                features,
             },
         ) => {
+            let asked = Asked { names, features };
             let (own, warnings) = (own.as_slice(), warnings.as_slice());
             if own.len() > MOST_WORDS {
                 return stopped(program, Stop::OutOfMemory, say);
             }
-            let status = link_told(rt, alloc, program, own, warnings, fatal, shelf, say, gate);
+            let status = link_told(
+                rt, alloc, program, own, warnings, fatal, &asked, shelf, say, gate,
+            );
             Outcome::Linked(status)
         }
         Ok(Answer::Says(what)) => say_text(what, out),
@@ -114,7 +119,8 @@ fn stopped<E: Sink>(program: &str, stop: Stop, say: &mut E) -> Outcome
     Outcome::Stopped(stop)
 }
 
-// The link by the linker's own words, the warnings before it, and the lines behind it; with whether warnings are errors.
+// The link by the linker's own words, the warnings before it, and the lines behind it; with whether warnings are errors, and what is asked
+// beside the words.
 fn link_told<R: Threads + Sync, F: Finder, E: Sink, G: Gate>(
     rt: &R,
     alloc: Global,
@@ -122,19 +128,20 @@ fn link_told<R: Threads + Sync, F: Finder, E: Sink, G: Gate>(
     own: &[Text],
     warnings: &[Text],
     fatal: bool,
+    asked: &Asked,
     shelf: &mut F,
     say: &mut E,
     gate: &G,
 ) -> Status
     requires { length own.now < 2 ^ 32 }
-    ensures shows { LinksAs fatal result (F.shown shelf.old) (F.shown shelf.new) own.now }
-    ensures told { (told : List Mismatch) × (line : List ℕ) × TellsOf fatal result (F.shown shelf.old) (F.shown shelf.new) own.now told
+    ensures shows { LinksAs fatal asked.now result (F.shown shelf.old) (F.shown shelf.new) own.now }
+    ensures told { (told : List Mismatch) × (line : List ℕ) × TellsOf fatal asked.now result (F.shown shelf.old) (F.shown shelf.new) own.now told
         × IsEnd fatal result told program.now (F.shown shelf.new) own.now line
         × Written (warning_lines program.now warnings.now ++ line) (E.told say.old) (E.told say.new) }
     ensures counts { Grows (F.shown shelf.old) (F.shown shelf.new) }
 {
     let heard = say_warnings(program, warnings, say);
-    let Quiet { status, told } = link_quietly(rt, alloc, own, fatal, shelf, gate);
+    let Quiet { status, told } = link_quietly(rt, alloc, own, fatal, asked, shelf, gate);
     if heard.is_err() {
         return status;
     }

@@ -10,7 +10,7 @@ ghost use Rattle.link_command.specs.Telling.{Tells};
 ghost use Rattle.driver_command.specs.Causes.{is_clash as is_clash_of, AreCauses, TellsOf};
 ghost use Rattle.driver_command.specs.Linked.{LinksBy, LinksAs};
 
-use link_command::{Mismatch, Status, link_like_lld, tell_calls};
+use link_command::{Asked, Mismatch, Status, link_like_lld, tell_calls};
 use std::alloc::Global;
 use std::thread::Threads;
 use wl_base::{Fault, Seq, Text};
@@ -38,17 +38,18 @@ fn link_once<R: Threads + Sync, F: Shelf, G: Gate>(
     rt: &R,
     alloc: Global,
     own: &[Text],
+    asked: &Asked,
     loose: bool,
     shelf: &mut F,
     gate: &G,
 ) -> Quiet
     requires { length own.now < 2 ^ 32 }
-    ensures shows { LinksBy loose result.status (F.shown shelf.old) (F.shown shelf.new) own.now }
-    ensures told { Tells (planned true loose own.now) result.status (F.shown shelf.old) own.now result.told }
+    ensures shows { LinksBy loose asked.now result.status (F.shown shelf.old) (F.shown shelf.new) own.now }
+    ensures told { Tells (planned true loose asked.now own.now) result.status (F.shown shelf.old) own.now result.told }
     ensures counts { Grows (F.shown shelf.old) (F.shown shelf.new) }
 {
     let mut told = Seq::new(alloc);
-    let status = link_like_lld(rt, alloc, own, loose, shelf, gate, &mut told);
+    let status = link_like_lld(rt, alloc, own, loose, asked, shelf, gate, &mut told);
     Quiet { status, told }
 }
 
@@ -70,23 +71,24 @@ fn link_strictly<R: Threads + Sync, F: Shelf, G: Gate>(
     rt: &R,
     alloc: Global,
     own: &[Text],
+    asked: &Asked,
     shelf: &mut F,
     gate: &G,
 ) -> Quiet
     requires { length own.now < 2 ^ 32 }
-    ensures shows { LinksAs true result.status (F.shown shelf.old) (F.shown shelf.new) own.now }
-    ensures told { AreCauses result.status (F.shown shelf.new) own.now result.told }
+    ensures shows { LinksAs true asked.now result.status (F.shown shelf.old) (F.shown shelf.new) own.now }
+    ensures told { AreCauses asked.now result.status (F.shown shelf.new) own.now result.told }
     ensures counts { Grows (F.shown shelf.old) (F.shown shelf.new) }
 {
-    let strict = link_once(rt, alloc, own, false, shelf, gate);
+    let strict = link_once(rt, alloc, own, asked, false, shelf, gate);
     if !is_clash(&strict.status) {
         return silent(alloc, strict.status);
     }
-    let Some(told) = tell_calls(rt, alloc, own, shelf, gate) else {
+    let Some(told) = tell_calls(rt, alloc, own, asked, shelf, gate) else {
         return silent(alloc, strict.status);
     };
     if told.is_empty() {
-        let loose = link_once(rt, alloc, own, true, shelf, gate);
+        let loose = link_once(rt, alloc, own, asked, true, shelf, gate);
         return silent(alloc, loose.status);
     }
     Quiet {
@@ -95,23 +97,24 @@ fn link_strictly<R: Threads + Sync, F: Shelf, G: Gate>(
     }
 }
 
-/// Links by the linker's own words, as LLVM's linker does it, and says nothing. Where warnings are errors, calls by another type than the
+/// Links by the linker's own words and what is asked beside them, as LLVM's linker does it, and says nothing. Where warnings are errors, calls by another type than the
 /// definition has refuse the link.
 pub fn link_quietly<R: Threads + Sync, F: Shelf, G: Gate>(
     rt: &R,
     alloc: Global,
     own: &[Text],
     fatal: bool,
+    asked: &Asked,
     shelf: &mut F,
     gate: &G,
 ) -> Quiet
     requires { length own.now < 2 ^ 32 }
-    ensures shows { LinksAs fatal result.status (F.shown shelf.old) (F.shown shelf.new) own.now }
-    ensures told { TellsOf fatal result.status (F.shown shelf.old) (F.shown shelf.new) own.now result.told }
+    ensures shows { LinksAs fatal asked.now result.status (F.shown shelf.old) (F.shown shelf.new) own.now }
+    ensures told { TellsOf fatal asked.now result.status (F.shown shelf.old) (F.shown shelf.new) own.now result.told }
     ensures counts { Grows (F.shown shelf.old) (F.shown shelf.new) }
 {
     if fatal {
-        return link_strictly(rt, alloc, own, shelf, gate);
+        return link_strictly(rt, alloc, own, asked, shelf, gate);
     }
-    link_once(rt, alloc, own, true, shelf, gate)
+    link_once(rt, alloc, own, asked, true, shelf, gate)
 }

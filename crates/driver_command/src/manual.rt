@@ -34,8 +34,13 @@ Usage:
   --whole-archive, --no-whole-archive, --start-lib, --end-lib
                              how what follows is loaded
   -r, --relocatable          write one object in place of a module
-  -s, --strip-all, -S, --strip-debug
-                             leave out the debug sections, which else are kept
+  -s, --strip-all            leave out names, features and debug sections
+  -S, --strip-debug          leave out the debug sections alone
+  --keep-section=NAME        keep the section name or target_features with -s
+  --features=LIST, --extra-features=LIST, --check-features, --no-check-features
+                             the features that objects may use, those that the
+                             module has beside them, and whether objects that
+                             don't agree are refused, which is the default
   --threads=N                so many workers, by default 4
   --fatal-warnings           a warning is an error
   --version, --help          this text, or the version

@@ -87,14 +87,14 @@ fn links<R: Threads + Sync>(
 fn words_of_drivers_are_linked(rt: HostRuntime) -> Result<(), Fail> {
     let alloc = rt.alloc();
     let cases = [
-        ("a.o -o out --no-entry --export=f --no-stack-first", ""),
+        ("a.o -o out -s --no-entry --export=f --no-stack-first", ""),
         (
-            "-m wasm32 --no-stack-first --export=f -Ld --no-entry -oout a.o -O2 -lx",
+            "-m wasm32 --no-stack-first --export=f -Ld --no-entry -oout a.o -O2 -lx --strip-all",
             "",
         ),
-        ("-flavor wasm @words", ""),
+        ("-flavor wasm @words -strip-all", ""),
         (
-            "a.o --Map=m -o out -t --no-entry --export=f --no-stack-first",
+            "a.o --Map=m -o out -t -s --no-entry --export=f --no-stack-first",
             "wasm-ld: warning: ignored: --Map=m\nwasm-ld: warning: ignored: -t\n",
         ),
     ];

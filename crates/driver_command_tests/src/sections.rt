@@ -1,4 +1,4 @@
-//! Calls over objects with debug sections: they are kept unless a word strips them.
+//! Calls over objects with debug sections: these and the functions' names are kept unless a word strips them.
 
 use crate::calls::call;
 use std::alloc::Global;
@@ -16,8 +16,12 @@ const OBJECT: &[u8] =
 const BROKEN: &[u8] =
     b"\0asm\x01\0\0\0\x01\x05\x01`\0\x01\x7f\x03\x03\x02\0\0\x0a\x0f\x02\x08\0\x10\x81\x80\x80\x80\0\x0b\x04\0A\x07\x0b\0\x11\x08.debug_x\0\0\0\0\0\0\0\0\0\x16\x07linking\x02\x08\x0b\x02\0\0\0\x01f\0\0\x01\x01g\0\x10\x0areloc.CODE\x02\x01\0\x04\x01\0\x18\x0ereloc..debug_x\x03\x02\x08\0\0\x01\0\x04\x01";
 
-// The section as it is joined.
-const SECTION: &[u8] = b"\0\x11\x08.debug_x\x03\0\0\0\x0b\0\0\0";
+// The section as it is joined, and the functions' names behind it.
+const SECTIONS: &[u8] =
+    b"\0\x11\x08.debug_x\x03\0\0\0\x0b\0\0\0\0\x0e\x04name\x01\x07\x02\0\x01f\x01\x01g";
+
+// The names alone.
+const NAMES: &[u8] = b"\0\x0e\x04name\x01\x07\x02\0\x01f\x01\x01g";
 
 // Whether this is the module with these bytes behind it.
 fn is_module_and(found: Option<&[u8]>, behind: &[u8]) -> bool {
@@ -50,12 +54,12 @@ fn ends<R: Threads + Sync>(
 }
 
 #[test]
-fn debug_sections_are_kept_unless_a_word_strips_them(rt: HostRuntime) -> Result<(), Fail> {
+fn sections_are_kept_unless_a_word_strips_them(rt: HostRuntime) -> Result<(), Fail> {
     let alloc = rt.alloc();
     let cases = [
         (
             "a.o -o out --no-entry --export=f --no-stack-first",
-            Some(SECTION),
+            Some(SECTIONS),
             "",
         ),
         (
@@ -65,6 +69,16 @@ fn debug_sections_are_kept_unless_a_word_strips_them(rt: HostRuntime) -> Result<
         ),
         (
             "-S a.o -o out --no-entry --export=f --no-stack-first",
+            Some(NAMES),
+            "",
+        ),
+        (
+            "-s a.o -o out --keep-section=name --no-entry --export=f --no-stack-first",
+            Some(NAMES),
+            "",
+        ),
+        (
+            "-s a.o -o out --keep-section=target_features --no-entry --export=f --no-stack-first",
             Some(b"".as_slice()),
             "",
         ),
@@ -75,7 +89,7 @@ fn debug_sections_are_kept_unless_a_word_strips_them(rt: HostRuntime) -> Result<
         ),
         (
             "bad.o --strip-debug -o out --no-entry --export=f --no-stack-first",
-            Some(b"".as_slice()),
+            Some(NAMES),
             "",
         ),
     ];

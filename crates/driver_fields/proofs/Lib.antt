@@ -1,3 +1,4 @@
 mod Faults
 mod Joined
+mod Parts
 mod Told

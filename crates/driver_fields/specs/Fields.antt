@@ -5,7 +5,7 @@ use Rattle.std.specs.Option.{option_or}
 use Rattle.std.specs.Str.{bytes_eq}
 use Rattle.wl_base.specs.Choice.{given}
 use Rattle.driver_table.specs.declared.meaning.Meaning.{Meaning}
-use Rattle.driver_table.specs.declared.meaning.Meaning.TheVariants.{Input, Library, Entry, NoEntry, ImportMemory, ImportMemoryAs, ExportMemory, ExportMemoryAs, AllowUndefined, ImportUndefined, Unresolved, StackFirst, NoStackFirst, GlobalBase, StackSize, InitialMemory, MaxMemory, NoGrowableMemory, Threads, FatalWarnings, NoFatalWarnings, Relocatable, Shared, Strip}
+use Rattle.driver_table.specs.declared.meaning.Meaning.TheVariants.{Input, Library, Entry, NoEntry, ImportMemory, ImportMemoryAs, ExportMemory, ExportMemoryAs, AllowUndefined, ImportUndefined, Unresolved, StackFirst, NoStackFirst, GlobalBase, StackSize, InitialMemory, MaxMemory, NoGrowableMemory, Threads, FatalWarnings, NoFatalWarnings, Relocatable, Shared, StripAll, StripDebug}
 use Rattle.driver_table.specs.Meanings.{same}
 use Rattle.driver_table.specs.Items.{Said}
 use Rattle.driver_table.specs.Texts.{line}
@@ -93,7 +93,7 @@ is_shared items = has Shared items
 
 -- debug sections are kept, as LLVM's wasm-ld keeps them, unless a word strips them
 abbrev pub keeps_debug : List Said → Bool
-keeps_debug items = not (has Strip items)
+keeps_debug items = not (has StripAll items || has StripDebug items)
 
 -- warnings are errors
 abbrev pub fatal : List Said → Bool

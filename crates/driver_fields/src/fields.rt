@@ -197,7 +197,7 @@ pub fn is_shared(items: &[Item<'_>]) -> bool
 pub fn keeps_debug(items: &[Item<'_>]) -> bool
     ensures { result ≡ keeps_debug_of items.now }
 {
-    !has(items, Meaning::Strip)
+    !(has(items, Meaning::StripAll) || has(items, Meaning::StripDebug))
 }
 
 /// Whether warnings are errors.

@@ -242,7 +242,13 @@ of_item held folders inside whole meanings.Version value words e = nothing insid
 of_item held folders inside whole meanings.Help value words e = nothing inside whole words e
 of_item held folders inside whole meanings.Unresolved value words e = nothing inside whole words e
 of_item held folders inside whole meanings.Machine value words e = nothing inside whole words e
-of_item held folders inside whole meanings.Strip value words e = nothing inside whole words e
+of_item held folders inside whole meanings.StripAll value words e = nothing inside whole words e
+of_item held folders inside whole meanings.StripDebug value words e = nothing inside whole words e
+of_item held folders inside whole meanings.KeepSection value words e = nothing inside whole words e
+of_item held folders inside whole meanings.CheckFeatures value words e = nothing inside whole words e
+of_item held folders inside whole meanings.NoCheckFeatures value words e = nothing inside whole words e
+of_item held folders inside whole meanings.Features value words e = nothing inside whole words e
+of_item held folders inside whole meanings.ExtraFeatures value words e = nothing inside whole words e
 
 -- ---- what all items give
 

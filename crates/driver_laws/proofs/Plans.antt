@@ -7,6 +7,7 @@ use Rattle.wl_base.specs.Choice.{first_some, given}
 use Rattle.wl_base.specs.declared.usage.Usage.{Usage}
 use Rattle.wl_base.specs.declared.usage.Usage.TheVariants.{OpenGroup, CaseAndInput, NoInput, NoOutput, PartialClash}
 use Rattle.link_plan.specs.declared.plan.Plan.{Plan}
+use Rattle.link_plan.specs.declared.plan.FeatureWords.{FeatureWords}
 use Rattle.link_plan.specs.declared.plan.InputWord.{InputWord}
 use Rattle.link_words.specs.declared.kind.Kind.{Kind}
 use Rattle.link_words.specs.declared.kind.Kind.TheVariants as kinds
@@ -26,11 +27,12 @@ use Rattle.driver_fields.specs.Values.{values_fault}
 use Rattle.driver_fields.specs.Lacking.{lacking}
 use Rattle.driver_fields.specs.Fields.{fatal, is_partial, is_shared, keeps_debug}
 use Rattle.driver_fields.specs.Own.{own_words, warnings}
+use Rattle.driver_fields.specs.Sections.{keeps_names, feature_words}
 use Rattle.driver_words.specs.Expand.{expanded_to}
 use Rattle.driver_words.specs.Inputs.{folders_of, inputs_of}
 use Rattle.driver_words.specs.declared.answer.What.{What}
 use Rattle.driver_words.specs.declared.answer.Answer.TheVariants.{Links, Refuses}
-use Rattle.driver_words.specs.Translated.{World, then_answer, unless_refused, unless_said, links, asked, has_path, with_path, linked, answered, not_deeper, cut_and_answered, translated_words, is_flavor, under_flavor, first_and_rest, flavored_by, behind_flavor, translated_by}
+use Rattle.driver_words.specs.Translated.{World, then_answer, unless_refused, unless_said, links, links_with, asked, has_path, with_path, linked, answered, not_deeper, cut_and_answered, translated_words, is_flavor, under_flavor, first_and_rest, flavored_by, behind_flavor, translated_by}
 use Rattle.driver_laws.specs.Laws.{File, file, named_files, planned_files, OwnWordsHavePlans, PlansNameTheFiles, PlansKeepDebug, PlansArePartial, PlansAreShared}
 use Rattle.driver_laws.proofs.Pieces.{Every, Piece, IsSpelled, IsOption, is_plain, has_kind, words_of, words_both, placed, cuts, any_left}
 use Rattle.driver_laws.proofs.Options.{own_have, not_both}
@@ -265,16 +267,16 @@ options_look (p ∷ ps) more files all h front =
 
 -- ---- the translation, step by step
 
-record Answered (held : World) (items : List Said) (own told : List (List ℕ)) (f : Bool) : Type 0 where
+record Answered (held : World) (items : List Said) (own told : List (List ℕ)) (f n : Bool) (w : Option FeatureWords) : Type 0 where
   lacks : lacking items ≡ None
-  links : linked held items ≡ Links own told f
+  links : linked held items ≡ Links own told f n w
 
-answered_by : (held : World) (items : List Said) (own told : List (List ℕ)) (f : Bool) (a : Option What) (v l : Option (List ℕ)) → lacking items ≡ l → unless_said a (unless_refused v (unless_refused l (linked held items))) ≡ Links own told f
-    → Answered held items own told f
-answered_by held items own told f (Some what) v l is e = absurd cc
-answered_by held items own told f None (Some line) l is e = absurd cc
-answered_by held items own told f None None (Some line) is e = absurd cc
-answered_by held items own told f None None None is e = record { lacks = is; links = e }
+answered_by : (held : World) (items : List Said) (own told : List (List ℕ)) (f n : Bool) (w : Option FeatureWords) (a : Option What) (v l : Option (List ℕ)) → lacking items ≡ l → unless_said a (unless_refused v (unless_refused l (linked held items))) ≡ Links own told f n w
+    → Answered held items own told f n w
+answered_by held items own told f n w (Some what) v l is e = absurd cc
+answered_by held items own told f n w None (Some line) l is e = absurd cc
+answered_by held items own told f n w None None (Some line) is e = absurd cc
+answered_by held items own told f n w None None None is e = record { lacks = is; links = e }
 
 record Linked (held : World) (items : List Said) (own : List (List ℕ)) : Type 0 where
   words : List (List ℕ)
@@ -282,27 +284,27 @@ record Linked (held : World) (items : List Said) (own : List (List ℕ)) : Type 
   own_is : own_words items ++ words ≡ own
   some : has_path words ≡ true
 
-links_own : (t : Bool) (words told own heard : List (List ℕ)) (f : Bool) → links t words told ≡ Links own heard f → words ≡ own
-links_own true words (line ∷ told) own heard f e = absurd cc
-links_own true words [] own heard f e = cc
-links_own false words told own heard f e = cc
+links_own : (t k : Bool) (v : Option FeatureWords) (words told own heard : List (List ℕ)) (f n : Bool) (w : Option FeatureWords) → links t k v words told ≡ Links own heard f n w → words ≡ own
+links_own true k v words (line ∷ told) own heard f n w e = absurd cc
+links_own true k v words [] own heard f n w e = cc
+links_own false k v words told own heard f n w e = cc
 
 drop_front : (front words : List (List ℕ)) → drop (length front) (front ++ words) ≡ words
 drop_front [] words = refl
 drop_front (w ∷ front) words = drop_front front words
 
-linked_by : (held : World) (items : List Said) (own told : List (List ℕ)) (f : Bool) (r : Result (List (List ℕ)) (List ℕ)) → inputs_of held items ≡ r
-    → then_answer (with_path (length (own_words items)) (behind (own_words items) r)) (λ all. links (fatal items) all (warnings items)) ≡ Links own told f → Linked held items own
-linked_by held items own told f (Err refusal) is e = absurd cc
-linked_by held items own told f (Ok words) is e = by (has_path (drop (length (own_words items)) (own_words items ++ words))) refl e
+linked_by : (held : World) (items : List Said) (own told : List (List ℕ)) (f n : Bool) (w : Option FeatureWords) (r : Result (List (List ℕ)) (List ℕ)) → inputs_of held items ≡ r
+    → then_answer (with_path (length (own_words items)) (behind (own_words items) r)) (links_with items) ≡ Links own told f n w → Linked held items own
+linked_by held items own told f n w (Err refusal) is e = absurd cc
+linked_by held items own told f n w (Ok words) is e = by (has_path (drop (length (own_words items)) (own_words items ++ words))) refl e
   where
     by : (t : Bool) → has_path (drop (length (own_words items)) (own_words items ++ words)) ≡ t
-        → then_answer (cond t (Ok (own_words items ++ words)) (Err (codes "no input files"))) (λ all. links (fatal items) all (warnings items)) ≡ Links own told f → Linked held items own
+        → then_answer (cond t (Ok (own_words items ++ words)) (Err (codes "no input files"))) (links_with items) ≡ Links own told f n w → Linked held items own
     by false some e = absurd cc
     by true some e = record {
       words = words;
       inputs_are = is;
-      own_is = links_own (fatal items) (own_words items ++ words) (warnings items) own told f e;
+      own_is = links_own (fatal items) (keeps_names items) (feature_words items) (own_words items ++ words) (warnings items) own told f n w e;
       some = ap has_path (sym (drop_front (own_words items) words)) ∙ some;
     }
 
@@ -343,10 +345,10 @@ planned laws held items own lacks l =
       debug = options_say kinds.KeepDebug ps (marked i.marks) 0 (marks_quiet kinds.KeepDebug refl i.marks) ∙ o.debug;
     }
 
-of_answer : PlansAreCuts → (held : World) (items : List Said) (own told : List (List ℕ)) (f : Bool) → answered held items ≡ Links own told f → Planned held items own
-of_answer laws held items own told f e =
-    let a = answered_by held items own told f (asked items) (values_fault items) (lacking items) refl e in
-    planned laws held items own a.lacks (linked_by held items own told f (inputs_of held items) refl a.links)
+of_answer : PlansAreCuts → (held : World) (items : List Said) (own told : List (List ℕ)) (f n : Bool) (w : Option FeatureWords) → answered held items ≡ Links own told f n w → Planned held items own
+of_answer laws held items own told f n w e =
+    let a = answered_by held items own told f n w (asked items) (values_fault items) (lacking items) refl e in
+    planned laws held items own a.lacks (linked_by held items own told f n w (inputs_of held items) refl a.links)
 
 is_plan : (r : Result Plan Usage) (plan : Plan) → r ≡ Ok plan → IsOk r
 is_plan (Ok plan) other e = refl
@@ -356,53 +358,53 @@ same_plan : (own : List (List ℕ)) (a b : Plan) → plan_of own ≡ Ok a → pl
 same_plan own a b one other = cc
 
 pub name_files : PlansAreCuts → PlansNameTheFiles
-name_files laws held items own told f plan e is =
-    let p = of_answer laws held items own told f e in
+name_files laws held items own told f n w plan e is =
+    let p = of_answer laws held items own told f n w e in
     ap (planned_files own) (same_plan own plan p.plan is p.is) ∙ p.names
 
 pub keep_debug : PlansAreCuts → PlansKeepDebug
-keep_debug laws held items own told f plan e is =
-    let p = of_answer laws held items own told f e in
+keep_debug laws held items own told f n w plan e is =
+    let p = of_answer laws held items own told f n w e in
     ap (λ (q : Plan). q.keep_debug) (same_plan own plan p.plan is p.is) ∙ p.debug
 
 pub are_partial : PlansAreCuts → PlansArePartial
-are_partial laws held items own told f plan e is =
-    let p = of_answer laws held items own told f e in
+are_partial laws held items own told f n w plan e is =
+    let p = of_answer laws held items own told f n w e in
     ap (λ (q : Plan). q.partial) (same_plan own plan p.plan is p.is) ∙ p.partial
 
 pub are_shared : PlansAreCuts → PlansAreShared
-are_shared laws held items own told f plan e is =
-    let p = of_answer laws held items own told f e in
+are_shared laws held items own told f n w plan e is =
+    let p = of_answer laws held items own told f n w e in
     ap (λ (q : Plan). q.shared) (same_plan own plan p.plan is p.is) ∙ p.shared
 
 -- ---- from the words
 
-module _ (laws : PlansAreCuts) (held : World) (own told : List (List ℕ)) (f : Bool) where
-  of_cut : (r : Result (List Said) (List ℕ)) → then_answer r (answered held) ≡ Links own told f → IsOk (plan_of own)
+module _ (laws : PlansAreCuts) (held : World) (own told : List (List ℕ)) (f n : Bool) (w : Option FeatureWords) where
+  of_cut : (r : Result (List Said) (List ℕ)) → then_answer r (answered held) ≡ Links own told f n w → IsOk (plan_of own)
   of_cut (Err refusal) e = absurd cc
-  of_cut (Ok items) e = let p = of_answer laws held items own told f e in is_plan (plan_of own) p.plan p.is
+  of_cut (Ok items) e = let p = of_answer laws held items own told f n w e in is_plan (plan_of own) p.plan p.is
 
-  of_expanded : (r : Result (List (List ℕ)) (List ℕ)) → then_answer (not_deeper r) (cut_and_answered held) ≡ Links own told f → IsOk (plan_of own)
+  of_expanded : (r : Result (List (List ℕ)) (List ℕ)) → then_answer (not_deeper r) (cut_and_answered held) ≡ Links own told f n w → IsOk (plan_of own)
   of_expanded (Err name) e = absurd cc
   of_expanded (Ok words) e = of_cut (cut_of words) e
 
-  of_words : (words : List (List ℕ)) → translated_words held words ≡ Links own told f → IsOk (plan_of own)
+  of_words : (words : List (List ℕ)) → translated_words held words ≡ Links own told f n w → IsOk (plan_of own)
   of_words words e = of_expanded (expanded_to 20 held words) e
 
-  of_flavor : (name : List ℕ) (words : List (List ℕ)) → under_flavor held name words ≡ Links own told f → IsOk (plan_of own)
+  of_flavor : (name : List ℕ) (words : List (List ℕ)) → under_flavor held name words ≡ Links own told f n w → IsOk (plan_of own)
   of_flavor name words e = by (is_flavor name) e
     where
-      by : (t : Bool) → cond t (translated_words held words) (Refuses (line (codes "unknown flavor: ") name [] [])) ≡ Links own told f → IsOk (plan_of own)
+      by : (t : Bool) → cond t (translated_words held words) (Refuses (line (codes "unknown flavor: ") name [] [])) ≡ Links own told f n w → IsOk (plan_of own)
       by true e = of_words words e
       by false e = absurd cc
 
-  of_flavored : (p : Option (List ℕ × List (List ℕ))) → flavored_by held p ≡ Links own told f → IsOk (plan_of own)
+  of_flavored : (p : Option (List ℕ × List (List ℕ))) → flavored_by held p ≡ Links own told f n w → IsOk (plan_of own)
   of_flavored None e = absurd cc
   of_flavored (Some p) e = of_flavor p.0 p.1 e
 
-  of_translated : (words : List (List ℕ)) (flavor : Option (List (List ℕ))) → translated_by held words flavor ≡ Links own told f → IsOk (plan_of own)
+  of_translated : (words : List (List ℕ)) (flavor : Option (List (List ℕ))) → translated_by held words flavor ≡ Links own told f n w → IsOk (plan_of own)
   of_translated words None e = of_words words e
   of_translated words (Some flavor) e = of_flavored (first_and_rest flavor) e
 
 pub have_plans : PlansAreCuts → OwnWordsHavePlans
-have_plans laws held words own told f e = of_translated laws held own told f words (behind_flavor words) e
+have_plans laws held words own told f n w e = of_translated laws held own told f n w words (behind_flavor words) e

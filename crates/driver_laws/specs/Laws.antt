@@ -1,6 +1,7 @@
 -- What holds of the linker's own words that a translation gives.
-use Rattle.std.specs.Prelude.{◌≡◌, ℕ, List, [], ◌∷◌, ◌++◌, map, Bool, false, not, ◌||◌, if◌then◌else◌, Result, Ok, Err, IsOk}
+use Rattle.std.specs.Prelude.{◌≡◌, ℕ, List, [], ◌∷◌, ◌++◌, map, Bool, false, not, ◌||◌, if◌then◌else◌, Option, Result, Ok, Err, IsOk}
 use Rattle.link_plan.specs.declared.plan.Plan.{Plan}
+use Rattle.link_plan.specs.declared.plan.FeatureWords.{FeatureWords}
 use Rattle.link_words.specs.Words.{plan_of, word}
 use Rattle.driver_table.specs.declared.meaning.Meaning.{Meaning}
 use Rattle.driver_table.specs.declared.meaning.Meaning.TheVariants.{Input, Library}
@@ -50,24 +51,24 @@ planned_files own plan = map (λ i. file i.lazy i.whole (word own i.place)) plan
 
 -- The linker's own words have a plan.
 abbrev pub OwnWordsHavePlans : Type 0
-OwnWordsHavePlans = (held : World) (words own warnings : List (List ℕ)) (fatal : Bool) → translated held words ≡ Links own warnings fatal → IsOk (plan_of own)
+OwnWordsHavePlans = (held : World) (words own warnings : List (List ℕ)) (fatal names : Bool) (features : Option FeatureWords) → translated held words ≡ Links own warnings fatal names features → IsOk (plan_of own)
 
 -- It keeps debug sections unless a word strips them.
 abbrev pub PlansKeepDebug : Type 0
-PlansKeepDebug = (held : World) (items : List Said) (own warnings : List (List ℕ)) (fatal : Bool) (plan : Plan) → answered held items ≡ Links own warnings fatal → plan_of own ≡ Ok plan
+PlansKeepDebug = (held : World) (items : List Said) (own warnings : List (List ℕ)) (fatal names : Bool) (features : Option FeatureWords) (plan : Plan) → answered held items ≡ Links own warnings fatal names features → plan_of own ≡ Ok plan
     → plan.keep_debug ≡ keeps_debug items
 
 -- It asks for one object in place of a module exactly where a word does.
 abbrev pub PlansArePartial : Type 0
-PlansArePartial = (held : World) (items : List Said) (own warnings : List (List ℕ)) (fatal : Bool) (plan : Plan) → answered held items ≡ Links own warnings fatal → plan_of own ≡ Ok plan
+PlansArePartial = (held : World) (items : List Said) (own warnings : List (List ℕ)) (fatal names : Bool) (features : Option FeatureWords) (plan : Plan) → answered held items ≡ Links own warnings fatal names features → plan_of own ≡ Ok plan
     → plan.partial ≡ is_partial items
 
 -- It asks for a shared output exactly where a word does.
 abbrev pub PlansAreShared : Type 0
-PlansAreShared = (held : World) (items : List Said) (own warnings : List (List ℕ)) (fatal : Bool) (plan : Plan) → answered held items ≡ Links own warnings fatal → plan_of own ≡ Ok plan
+PlansAreShared = (held : World) (items : List Said) (own warnings : List (List ℕ)) (fatal names : Bool) (features : Option FeatureWords) (plan : Plan) → answered held items ≡ Links own warnings fatal names features → plan_of own ≡ Ok plan
     → plan.shared ≡ is_shared items
 
 -- Its inputs are the files that are named and found.
 abbrev pub PlansNameTheFiles : Type 0
-PlansNameTheFiles = (held : World) (items : List Said) (own warnings : List (List ℕ)) (fatal : Bool) (plan : Plan) → answered held items ≡ Links own warnings fatal → plan_of own ≡ Ok plan
+PlansNameTheFiles = (held : World) (items : List Said) (own warnings : List (List ℕ)) (fatal names : Bool) (features : Option FeatureWords) (plan : Plan) → answered held items ≡ Links own warnings fatal names features → plan_of own ≡ Ok plan
     → planned_files own plan ≡ named_files held items

@@ -1,7 +1,7 @@
 -- Meanings, told apart by their numbers.
 use Rattle.std.specs.Prelude.{ℕ, Bool, ◌==◌}
 use Rattle.driver_table.specs.declared.meaning.Meaning.{Meaning}
-use Rattle.driver_table.specs.declared.meaning.Meaning.TheVariants.{Input, Drop, Warn, Refuse, Output, Entry, NoEntry, Export, ExportIfDefined, Undefined, ExportDynamic, NoExportDynamic, ExportTable, AllowUndefined, ImportUndefined, GcSections, NoGcSections, StackFirst, NoStackFirst, GlobalBase, InitialMemory, MaxMemory, NoGrowableMemory, ImportMemory, ImportMemoryAs, ExportMemory, ExportMemoryAs, StackSize, Threads, Quoting, WholeArchive, NoWholeArchive, StartLib, EndLib, Library, Folder, Shared, Relocatable, FatalWarnings, NoFatalWarnings, TableBase, PageSize, InitialHeap, Version, Help, Unresolved, Machine, Z, Strip}
+use Rattle.driver_table.specs.declared.meaning.Meaning.TheVariants.{Input, Drop, Warn, Refuse, Output, Entry, NoEntry, Export, ExportIfDefined, Undefined, ExportDynamic, NoExportDynamic, ExportTable, AllowUndefined, ImportUndefined, GcSections, NoGcSections, StackFirst, NoStackFirst, GlobalBase, InitialMemory, MaxMemory, NoGrowableMemory, ImportMemory, ImportMemoryAs, ExportMemory, ExportMemoryAs, StackSize, Threads, Quoting, WholeArchive, NoWholeArchive, StartLib, EndLib, Library, Folder, Shared, Relocatable, FatalWarnings, NoFatalWarnings, TableBase, PageSize, InitialHeap, Version, Help, Unresolved, Machine, Z, StripAll, StripDebug, KeepSection, CheckFeatures, NoCheckFeatures, Features, ExtraFeatures}
 
 abbrev pub code : Meaning → ℕ
 code Input = 0
@@ -52,7 +52,13 @@ code Help = 44
 code Unresolved = 45
 code Machine = 46
 code Z = 47
-code Strip = 48
+code StripAll = 48
+code StripDebug = 49
+code KeepSection = 50
+code CheckFeatures = 51
+code NoCheckFeatures = 52
+code Features = 53
+code ExtraFeatures = 54
 
 -- whether two meanings are one
 abbrev pub same : Meaning → Meaning → Bool

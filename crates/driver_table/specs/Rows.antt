@@ -5,7 +5,7 @@ use Rattle.std.specs.Prelude.{ℕ, Bool, true, false, not, List, [], ◌∷◌, 
 use Rattle.std.specs.Str.{bytes_eq}
 use Rattle.std.specs.Option.{option_or}
 use Rattle.driver_table.specs.declared.meaning.Meaning.{Meaning}
-use Rattle.driver_table.specs.declared.meaning.Meaning.TheVariants.{Drop, Warn, Refuse, Output, Entry, NoEntry, Export, ExportIfDefined, Undefined, ExportDynamic, NoExportDynamic, ExportTable, AllowUndefined, ImportUndefined, GcSections, NoGcSections, StackFirst, NoStackFirst, GlobalBase, InitialMemory, MaxMemory, NoGrowableMemory, ImportMemory, ImportMemoryAs, ExportMemory, ExportMemoryAs, Threads, Quoting, WholeArchive, NoWholeArchive, StartLib, EndLib, Library, Folder, Shared, Relocatable, FatalWarnings, NoFatalWarnings, TableBase, PageSize, InitialHeap, Version, Help, Unresolved, Machine, Z, Strip}
+use Rattle.driver_table.specs.declared.meaning.Meaning.TheVariants.{Drop, Warn, Refuse, Output, Entry, NoEntry, Export, ExportIfDefined, Undefined, ExportDynamic, NoExportDynamic, ExportTable, AllowUndefined, ImportUndefined, GcSections, NoGcSections, StackFirst, NoStackFirst, GlobalBase, InitialMemory, MaxMemory, NoGrowableMemory, ImportMemory, ImportMemoryAs, ExportMemory, ExportMemoryAs, Threads, Quoting, WholeArchive, NoWholeArchive, StartLib, EndLib, Library, Folder, Shared, Relocatable, FatalWarnings, NoFatalWarnings, TableBase, PageSize, InitialHeap, Version, Help, Unresolved, Machine, Z, StripAll, StripDebug, KeepSection, CheckFeatures, NoCheckFeatures, Features, ExtraFeatures}
 use Rattle.driver_table.specs.declared.rows.Dashes.{Dashes}
 use Rattle.driver_table.specs.declared.rows.Dashes.TheVariants.{One, Two, Any}
 use Rattle.driver_table.specs.declared.rows.Row.{Row}
@@ -34,9 +34,11 @@ switches =
     ∷ row (codes "no-entry") Two NoEntry
     ∷ row (codes "fatal-warnings") Any FatalWarnings
     ∷ row (codes "no-fatal-warnings") Any NoFatalWarnings
+    ∷ row (codes "check-features") Two CheckFeatures
+    ∷ row (codes "no-check-features") Two NoCheckFeatures
     ∷ []
 
--- words whose place counts, the other outputs, what is said in place of a link, and words that strip debug sections
+-- words whose place counts, the other outputs, what is said in place of a link, and words that strip sections
 abbrev pub marks : List (List ℕ × Row)
 marks =
     row (codes "whole-archive") Any WholeArchive
@@ -50,10 +52,10 @@ marks =
     ∷ row (codes "v") One Version
     ∷ row (codes "V") One Version
     ∷ row (codes "help") Any Help
-    ∷ row (codes "strip-all") Any Strip
-    ∷ row (codes "s") One Strip
-    ∷ row (codes "strip-debug") Any Strip
-    ∷ row (codes "S") One Strip
+    ∷ row (codes "strip-all") Any StripAll
+    ∷ row (codes "s") One StripAll
+    ∷ row (codes "strip-debug") Any StripDebug
+    ∷ row (codes "S") One StripDebug
     ∷ []
 
 -- words that are dropped: what they ask for is so, or concerns bitcode or text alone
@@ -94,8 +96,6 @@ dropped_more =
     ∷ row (codes "experimental-pic") Two Drop
     ∷ row (codes "merge-data-segments") Two Drop
     ∷ row (codes "no-merge-data-segments") Two Drop
-    ∷ row (codes "check-features") Two Drop
-    ∷ row (codes "no-check-features") Two Drop
     ∷ row (codes "allow-multiple-definition") Two Drop
     ∷ row (codes "no-allow-multiple-definition") Two Drop
     ∷ row (codes "lto-debug-pass-manager") Two Drop
@@ -133,7 +133,7 @@ either =
     ∷ row (codes "library-path") Any Folder
     ∷ row (codes "unresolved-symbols") Any Unresolved
     ∷ row (codes "mllvm") Any Drop
-    ∷ row (codes "keep-section") Any Drop
+    ∷ row (codes "keep-section") Any KeepSection
     ∷ row (codes "soname") Any Drop
     ∷ row (codes "rpath") Any Drop
     ∷ row (codes "error-limit") Two Drop
@@ -157,8 +157,8 @@ equals =
     ∷ row (codes "page-size") Two PageSize
     ∷ row (codes "initial-heap") Two InitialHeap
     ∷ row (codes "color-diagnostics") Any Drop
-    ∷ row (codes "features") Any Drop
-    ∷ row (codes "extra-features") Any Drop
+    ∷ row (codes "features") Any Features
+    ∷ row (codes "extra-features") Any ExtraFeatures
     ∷ row (codes "lto-partitions") Two Drop
     ∷ row (codes "thinlto-cache-dir") Two Drop
     ∷ row (codes "thinlto-jobs") Two Drop

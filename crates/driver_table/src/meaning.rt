@@ -1,6 +1,6 @@
 //! What an option means.
 ghost use Rattle.std.specs.Prelude.{◌≡◌};
-ghost use Rattle.driver_table.specs.Meanings.{same};
+ghost use Rattle.driver_table.specs.Meanings.{code as code_of, same};
 
 /// What a word of a driver means.
 #[derive(Clone, Copy, Debug)]
@@ -101,15 +101,34 @@ pub enum Meaning {
     Machine,
     /// A value of `-z` that isn't known.
     Z,
+    /// All sections for tools are left out: debug sections, names and features.
+    StripAll,
     /// Debug sections are left out.
-    Strip,
+    StripDebug,
+    /// A section that is kept where all are left out.
+    KeepSection,
+    /// Objects whose features don't agree are refused.
+    CheckFeatures,
+    /// They aren't.
+    NoCheckFeatures,
+    /// The features that the module may use.
+    Features,
+    /// Features that the module has beside those of its objects.
+    ExtraFeatures,
 }
 
 impl Meaning {
+    // Its number.
+    fn code(self) -> u8
+        ensures { result ≡ code_of self }
+    {
+        self as u8
+    }
+
     /// Whether the two are one.
     pub fn is(self, other: Meaning) -> bool
         ensures { result ≡ same self other }
     {
-        self as u8 == other as u8
+        self.code() == other.code()
     }
 }

@@ -2,6 +2,7 @@
 use Rattle.std.specs.Prelude.{ℕ, List, [], ◌∷◌, length, drop, Bool, true, not, ◌||◌, if◌then◌else◌, Option, Some, None, Result, Ok, Err, codes}
 use Rattle.std.specs.List.{list_any}
 use Rattle.std.specs.Str.{bytes_eq}
+use Rattle.link_plan.specs.declared.plan.FeatureWords.{FeatureWords}
 use Rattle.driver_table.specs.declared.meaning.Meaning.TheVariants.{Version as AsksVersion, Help as AsksHelp}
 use Rattle.driver_table.specs.Meanings.{same}
 use Rattle.driver_table.specs.Items.{Said}
@@ -11,6 +12,7 @@ use Rattle.driver_fields.specs.Values.{values_fault}
 use Rattle.driver_fields.specs.Lacking.{lacking}
 use Rattle.driver_fields.specs.Fields.{fatal}
 use Rattle.driver_fields.specs.Own.{own_words, warnings}
+use Rattle.driver_fields.specs.Sections.{keeps_names, feature_words}
 use Rattle.driver_words.specs.Expand.{expanded_to}
 use Rattle.driver_words.specs.Inputs.{inputs_of}
 use Rattle.driver_words.specs.declared.answer.What.{What}
@@ -33,9 +35,13 @@ unless_refused (Some refusal) answer = Refuses refusal
 unless_refused None answer = answer
 
 -- Warnings are errors where words say so: the first is told. It is kept for what the link itself warns of.
-abbrev pub links : Bool → List (List ℕ) → List (List ℕ) → Answer
-links true own (warning ∷ more) = Refuses warning
-links fatal own told = Links own told fatal
+abbrev pub links : Bool → Bool → Option FeatureWords → List (List ℕ) → List (List ℕ) → Answer
+links true names features own (warning ∷ more) = Refuses warning
+links fatal names features own told = Links own told fatal names features
+
+-- The words of the items, with what no own word asks for.
+abbrev pub links_with : List Said → List (List ℕ) → Answer
+links_with items own = links (fatal items) (keeps_names items) (feature_words items) own (warnings items)
 
 -- What is said in place of a link, by the first item that asks for it.
 abbrev pub asked : List Said → Option What
@@ -60,7 +66,7 @@ with_path options (Err refusal) = Err refusal
 
 -- Files from left to right, and then warnings.
 abbrev pub linked : World → List Said → Answer
-linked held items = then_answer (with_path (length (own_words items)) (behind (own_words items) (inputs_of held items))) (λ own. links (fatal items) own (warnings items))
+linked held items = then_answer (with_path (length (own_words items)) (behind (own_words items) (inputs_of held items))) (links_with items)
 
 -- What is asked for, values from left to right, what all words together lack, and then the files.
 abbrev pub answered : World → List Said → Answer

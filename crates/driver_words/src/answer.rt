@@ -1,5 +1,6 @@
 //! What drivers' words stand for.
 
+use link_plan::FeatureWords;
 use wl_base::{Seq, Text};
 
 /// What is said in place of a link.
@@ -14,11 +15,14 @@ pub enum What {
 /// What drivers' words stand for.
 #[derive(Debug, Drop)]
 pub enum Answer {
-    /// The linker's own words, what is told before it links, a line each, and whether warnings are errors.
+    /// The linker's own words; what is told before it links, a line each; whether warnings are errors; and, since no own word
+    /// asks for these, whether the module has a section `name`, and what is done with the features that objects use.
     Links {
         own: Seq<Text>,
         warnings: Seq<Text>,
         fatal: bool,
+        names: bool,
+        features: Option<FeatureWords>,
     },
     /// A text on standard output, and no link.
     Says(What),

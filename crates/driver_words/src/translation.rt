@@ -4,14 +4,17 @@ ghost use Rattle.std.specs.Prelude.{◌≡◌, drop, IsTrue, IfOk, IfErr};
 ghost use Rattle.std.specs.Option.{option_map};
 ghost use Rattle.wl_outside.specs.Shelf.{Same, Grows};
 ghost use Rattle.driver_words.specs.Expand.{Blames};
-ghost use Rattle.driver_words.specs.Translated.{asked as asked_of, links as links_of, has_path as has_path_of, linked, answered, cut_and_answered, expanded_and_answered, translated_words, under_flavor, first_and_rest, flavored, is_flavor as is_flavor_of, behind_flavor as behind_flavor_of, translated};
+ghost use Rattle.driver_words.specs.Translated.{asked as asked_of, links as links_of, links_with as links_with_of, has_path as has_path_of, linked, answered, cut_and_answered, expanded_and_answered, translated_words, under_flavor, first_and_rest, flavored, is_flavor as is_flavor_of, behind_flavor as behind_flavor_of, translated};
 
 use crate::answer::{Answer, What};
 use crate::inputs::with_inputs;
 use crate::spread::expand_all;
 use crate::{Finder, Stop};
-use driver_fields::{fatal, lacking, own_words, values_fault, warnings};
+use driver_fields::{
+    fatal, feature_words, keeps_names, lacking, own_words, values_fault, warnings,
+};
 use driver_table::{Item, Line, Meaning, cut_words};
+use link_plan::FeatureWords;
 use std::alloc::Global;
 use wl_base::{OutOfMemory, Seq, Text};
 
@@ -34,10 +37,12 @@ fn asked(items: &[Item<'_>]) -> Option<What>
 fn links(
     alloc: Global,
     fatal: bool,
+    names: bool,
+    features: Option<FeatureWords>,
     own: Seq<Text>,
     warnings: Seq<Text>,
 ) -> Result<Answer, OutOfMemory>
-    ensures { IfOk result (λ answer. answer ≡ links_of fatal own warnings) }
+    ensures { IfOk result (λ answer. answer ≡ links_of fatal names features own warnings) }
 {
     if fatal {
         if let Some(warning) = warnings.get(0) {
@@ -48,7 +53,19 @@ fn links(
         own,
         warnings,
         fatal,
+        names,
+        features,
     })
+}
+
+// The words of an input at least, with all else that items ask for.
+fn links_with(alloc: Global, items: &[Item<'_>], own: Seq<Text>) -> Result<Answer, OutOfMemory>
+    ensures { IfOk result (λ answer. answer ≡ links_with_of items.now own) }
+{
+    let warnings = warnings(alloc, items)?;
+    let features = feature_words(alloc, items)?;
+    let names = keeps_names(items);
+    links(alloc, fatal(items), names, features, own, warnings)
 }
 
 // Whether there is an input behind so many words.
@@ -74,7 +91,7 @@ fn link<F: Finder>(alloc: Global, shelf: &mut F, items: &[Item<'_>]) -> Result<A
         Ok(own) if !has_path(own.as_slice(), options) => {
             Ok(Answer::Refuses(Text::new(alloc, "no input files")?))
         }
-        Ok(own) => Ok(links(alloc, fatal(items), own, warnings(alloc, items)?)?),
+        Ok(own) => Ok(links_with(alloc, items, own)?),
         Err(refusal) => Ok(Answer::Refuses(refusal)),
     }
 }

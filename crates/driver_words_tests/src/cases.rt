@@ -2,8 +2,9 @@
 //! front of the reference linker.
 
 use driver_words::{Answer, What, tokens, translate};
+use link_plan::FeatureWords;
 use std::alloc::Global;
-use wl_base::{OutOfMemory, Seq, Text};
+use wl_base::{Name, OutOfMemory, Seq, Text};
 use wl_outside::{Held, MemShelf, names_differ};
 
 /// What words are to stand for.
@@ -11,6 +12,8 @@ use wl_outside::{Held, MemShelf, names_differ};
 pub enum Want {
     /// These own words.
     Own(&'static str),
+    /// This of names and features, as `spelled` says it, beside any own words.
+    Asked(&'static str),
     /// These own words, of a link whose warnings are errors.
     Strict(&'static str),
     /// These own words, with these lines of warnings.
@@ -71,6 +74,45 @@ fn lines(alloc: Global, texts: &[Text]) -> Result<Text, OutOfMemory> {
     Ok(Text::from_string(all))
 }
 
+/// Each name behind a sign.
+fn add_names(text: &mut String, sign: &str, names: &[Name]) -> Result<(), OutOfMemory> {
+    for name in names {
+        text.push_str(sign)?;
+        text.push_str(std::str::from_utf8(name.as_slice()).unwrap_or("?"))?;
+    }
+    Ok(())
+}
+
+/// What is said of features: `checked`, `allowed` with the features that are, the others behind `+`, and `kept`.
+fn add_features(text: &mut String, words: &FeatureWords) -> Result<(), OutOfMemory> {
+    if words.checked {
+        text.push_str(" checked")?;
+    }
+    if let Some(allowed) = &words.allowed {
+        text.push_str(" allowed")?;
+        add_names(text, " ", allowed.as_slice())?;
+    }
+    add_names(text, " +", words.extra.as_slice())?;
+    if words.kept {
+        text.push_str(" kept")?;
+    }
+    Ok(())
+}
+
+/// What is asked in words: `names` where there is a section of them, and what is said of features where anything is.
+fn spelled(
+    alloc: Global,
+    names: bool,
+    features: &Option<FeatureWords>,
+) -> Result<Text, OutOfMemory> {
+    let mut text = String::from_str(alloc, if names { "names" } else { "no names" })?;
+    match features {
+        Some(words) => add_features(&mut text, words)?,
+        None => text.push_str(" nor features")?,
+    }
+    Ok(Text::from_string(text))
+}
+
 fn is_wanted(alloc: Global, answer: &Answer, want: Want) -> Option<bool> {
     match (answer, want) {
         (
@@ -78,6 +120,8 @@ fn is_wanted(alloc: Global, answer: &Answer, want: Want) -> Option<bool> {
                 own,
                 warnings,
                 fatal,
+                names: _,
+                features: _,
             },
             Want::Own(line),
         ) => { Some(!*fatal && warnings.is_empty() && are(alloc, own.as_slice(), line)?) }
@@ -86,6 +130,8 @@ fn is_wanted(alloc: Global, answer: &Answer, want: Want) -> Option<bool> {
                 own,
                 warnings,
                 fatal,
+                names: _,
+                features: _,
             },
             Want::Strict(line),
         ) => { Some(*fatal && warnings.is_empty() && are(alloc, own.as_slice(), line)?) }
@@ -94,11 +140,26 @@ fn is_wanted(alloc: Global, answer: &Answer, want: Want) -> Option<bool> {
                 own,
                 warnings,
                 fatal,
+                names: _,
+                features: _,
             },
             Want::Warned(line, told),
         ) => {
             let told_lines = lines(alloc, warnings.as_slice()).ok()?;
             Some(!*fatal && told_lines.as_str() == told && are(alloc, own.as_slice(), line)?)
+        }
+        (
+            Answer::Links {
+                own: _,
+                warnings: _,
+                fatal: _,
+                names,
+                features,
+            },
+            Want::Asked(line),
+        ) => {
+            let spelled = spelled(alloc, *names, features).ok()?;
+            Some(spelled.as_str() == line)
         }
         (Answer::Refuses(text), Want::Line(line)) => Some(text.as_str() == line),
         (Answer::Says(what), Want::Said(said)) => Some(*what == said),

@@ -11,6 +11,8 @@ mod inputs;
 #[cfg(test)]
 mod refusals;
 #[cfg(test)]
+mod sections;
+#[cfg(test)]
 mod values;
 #[cfg(test)]
 mod words;

@@ -6,19 +6,20 @@ use Rattle.link_plan.specs.Plan.{IsPlan}
 use Rattle.link_words.specs.declared.error.WordError.{WordError}
 use Rattle.link_words.specs.declared.error.WordError.TheVariants.{Usage, OutOfMemory}
 use Rattle.link_words.specs.Words.{Reads}
+use Rattle.link_command.specs.declared.asked.Asked.{Asked}
 use Rattle.link_command.specs.Command.{as_lld, plan_for, said_for}
 
-pub given : (like loose : Bool) (said : Result Plan UsageFault) (plan : Plan) → said ≡ Ok plan → said_for like loose said ≡ Ok (plan_for like loose plan)
-given true loose said plan is = ap (as_lld loose) is
-given false loose said plan is = is
+pub given : (like loose : Bool) (asked : Asked) (said : Result Plan UsageFault) (plan : Plan) → said ≡ Ok plan → said_for like loose asked said ≡ Ok (plan_for like loose asked plan)
+given true loose asked said plan is = ap (as_lld loose asked) is
+given false loose asked said plan is = is
 
-pub refused : (like loose : Bool) (said : Result Plan UsageFault) (e : WordError) → Reads (Err e) said → Reads (Err e) (said_for like loose said)
-refused true loose said (Usage u) is = ap (as_lld loose) is
-refused false loose said (Usage u) is = is
-refused like loose said OutOfMemory is = tt
+pub refused : (like loose : Bool) (asked : Asked) (said : Result Plan UsageFault) (e : WordError) → Reads (Err e) said → Reads (Err e) (said_for like loose asked said)
+refused true loose asked said (Usage u) is = ap (as_lld loose asked) is
+refused false loose asked said (Usage u) is = is
+refused like loose asked said OutOfMemory is = tt
 
-pub sound : (like loose : Bool) (plan : Plan) → IsPlan plan → IsPlan (plan_for like loose plan)
-sound true loose plan is = record {
+pub sound : (like loose : Bool) (asked : Asked) (plan : Plan) → IsPlan plan → IsPlan (plan_for like loose asked plan)
+sound true loose asked plan is = record {
   stack = is.stack;
   stack_small = is.stack_small;
   initial = is.initial;
@@ -29,8 +30,8 @@ sound true loose plan is = record {
   cases = is.cases;
   inputs = is.inputs;
 }
-sound false loose plan is = is
+sound false loose asked plan is = is
 
-pub same_inputs : (like loose : Bool) (plan : Plan) → (plan_for like loose plan).inputs ≡ plan.inputs
-same_inputs true loose plan = refl
-same_inputs false loose plan = refl
+pub same_inputs : (like loose : Bool) (asked : Asked) (plan : Plan) → (plan_for like loose asked plan).inputs ≡ plan.inputs
+same_inputs true loose asked plan = refl
+same_inputs false loose asked plan = refl

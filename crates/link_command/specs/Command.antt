@@ -9,24 +9,29 @@ use Rattle.link_core.specs.Whole.{whole_link, MakesModule}
 use Rattle.link_core.specs.link_runs.Links.{Runs}
 use Rattle.link_core.specs.link_runs.link_program.link_rules.ModeOf.{IsPlain}
 use Rattle.case_objects.specs.Objects.{objects}
+use Rattle.link_command.specs.declared.asked.Asked.{Asked}
 use Rattle.link_command.specs.declared.status.Status.{Status}
 use Rattle.link_command.specs.declared.status.Status.TheVariants.{Linked, Refused, Usage, ReadFault, WriteFault, NoMemory}
 
--- The plan of the words, in a link that is like lld's, with loose calls or with strict ones, or that isn't. No own word asks for one.
-abbrev pub as_lld : Bool → Result Plan UsageFault → Result Plan UsageFault
-as_lld loose (Ok plan) = Ok (record plan { like_lld = true; loose_calls = loose })
-as_lld loose (Err usage) = Err usage
+-- The plan of the words, in a link that is like lld's, with loose calls or with strict ones and with what its driver asks beside them, or
+-- that isn't. No own word asks for one.
+abbrev pub lld_plan : Bool → Asked → Plan → Plan
+lld_plan loose asked plan = record plan { like_lld = true; loose_calls = loose; names = asked.names; features = asked.features }
 
-abbrev pub plan_for : Bool → Bool → Plan → Plan
-plan_for true loose plan = record plan { like_lld = true; loose_calls = loose }
-plan_for false loose plan = plan
+abbrev pub as_lld : Bool → Asked → Result Plan UsageFault → Result Plan UsageFault
+as_lld loose asked (Ok plan) = Ok (lld_plan loose asked plan)
+as_lld loose asked (Err usage) = Err usage
 
-abbrev pub said_for : Bool → Bool → Result Plan UsageFault → Result Plan UsageFault
-said_for true loose said = as_lld loose said
-said_for false loose said = said
+abbrev pub plan_for : Bool → Bool → Asked → Plan → Plan
+plan_for true loose asked plan = lld_plan loose asked plan
+plan_for false loose asked plan = plan
 
-abbrev pub planned : Bool → Bool → List (List ℕ) → Result Plan UsageFault
-planned like_lld loose words = said_for like_lld loose (plan_of words)
+abbrev pub said_for : Bool → Bool → Asked → Result Plan UsageFault → Result Plan UsageFault
+said_for true loose asked said = as_lld loose asked said
+said_for false loose asked said = said
+
+abbrev pub planned : Bool → Bool → Asked → List (List ℕ) → Result Plan UsageFault
+planned like_lld loose asked words = said_for like_lld loose asked (plan_of words)
 
 -- the contents of the names, where each holds any
 abbrev pub with_first : Option (List ℕ) → Option (List (List ℕ)) → Option (List (List ℕ))

@@ -5,6 +5,7 @@ use Rattle.wl_outside.specs.Shelf.{Shown}
 use Rattle.link_plan.specs.declared.plan.Plan.{Plan}
 use Rattle.link_core.specs.mismatch_rules.declared.mismatch.Mismatch.{Mismatch}
 use Rattle.link_core.specs.Whole.{told_calls}
+use Rattle.link_command.specs.declared.asked.Asked.{Asked}
 use Rattle.link_command.specs.declared.status.Status.{Status}
 use Rattle.link_command.specs.declared.status.Status.TheVariants.{Linked, Refused, Usage, ReadFault, WriteFault, NoMemory}
 use Rattle.link_command.specs.Command.{planned, IsTold, files_of}
@@ -28,6 +29,6 @@ abbrev pub Tells : Result Plan UsageFault → Status → Shown → List (List �
 Tells (Ok plan) status before words told = TellsBy status before words plan told
 Tells (Err usage) status before words told = told ≡ []
 
--- what a link by these words that lets such calls through would tell
-abbrev pub WouldTell : Shown → List (List ℕ) → List Mismatch → Type 0
-WouldTell before words told = IfOk (planned true true words) (λ plan. IsTold plan.make_case before → AreMismatches before words plan told)
+-- what a link by these words, with what is asked beside them, that lets such calls through would tell
+abbrev pub WouldTell : Asked → Shown → List (List ℕ) → List Mismatch → Type 0
+WouldTell asked before words told = IfOk (planned true true asked words) (λ plan. IsTold plan.make_case before → AreMismatches before words plan told)

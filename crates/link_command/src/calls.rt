@@ -5,6 +5,7 @@ ghost use Rattle.link_plan.specs.Plan.{IsPlan};
 ghost use Rattle.link_core.specs.Whole.{told_calls};
 ghost use Rattle.link_command.specs.Telling.{WouldTell};
 
+use crate::asked::Asked;
 use crate::command::read_plan;
 use crate::inputs::files;
 use link_core::{LinkError, Mismatch, link_telling};
@@ -33,21 +34,22 @@ fn told_of<R: Threads + Sync, G: Gate>(
     }
 }
 
-/// The functions that are called by another type than their definition has, in a link by these words that is like lld's and lets such calls
-/// through. Nothing is saved. There is no list where the words have no plan, an input can't be read or memory is refused.
+/// The functions that are called by another type than their definition has, in a link by these words that is like lld's, with what is asked beside
+/// them, and lets such calls through. Nothing is saved. There is no list where the words have no plan, an input can't be read or memory is refused.
 pub fn tell_calls<R: Threads + Sync, F: Shelf, G: Gate>(
     rt: &R,
     alloc: Global,
     words: &[Text],
+    asked: &Asked,
     shelf: &mut F,
     gate: &G,
 ) -> Option<Seq<Mismatch>>
     requires { length words.now < 2 ^ 32 }
-    ensures told { IfSome result (λ told. WouldTell (F.shown shelf.old) words.now told) }
+    ensures told { IfSome result (λ told. WouldTell asked.now (F.shown shelf.old) words.now told) }
     ensures held { Same (F.shown shelf.old) (F.shown shelf.new) }
     ensures counts { Grows (F.shown shelf.old) (F.shown shelf.new) }
 {
-    let Ok(plan) = read_plan(alloc, words, true, true) else {
+    let Ok(plan) = read_plan(alloc, words, true, true, asked) else {
         return None;
     };
     let Ok(files) = files(alloc, &plan, words, shelf) else {

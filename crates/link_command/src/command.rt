@@ -6,12 +6,13 @@ ghost use Rattle.wl_outside.specs.Shelf.{Same, Grows, SaveFailed};
 ghost use Rattle.link_plan.specs.declared.plan.Plan.{Plan as ThePlan};
 ghost use Rattle.link_plan.specs.Plan.{IsPlan};
 ghost use Rattle.link_words.specs.Words.{Reads, plan_of};
-ghost use Rattle.link_command.specs.Command.{planned, plan_for, Shows, LinkIs, IsTold, LoadsWork, SaveWorks, IsUnlessMemory, Saved, SavedRuns, Cut};
+ghost use Rattle.link_command.specs.Command.{planned, Shows, LinkIs, IsTold, LoadsWork, SaveWorks, IsUnlessMemory, Saved, SavedRuns, Cut};
 ghost use Rattle.link_command.specs.Ending.{ending_line};
 ghost use Rattle.link_command.specs.Line.{status_line};
 ghost use Rattle.link_command.specs.Said.{Said};
 ghost use Rattle.link_command.specs.Telling.{TellsBy, Tells};
 
+use crate::asked::{Asked, plan_for};
 use crate::ending::{Ending, case_of};
 use crate::inputs::{ReadError, files};
 use crate::status::Status;
@@ -19,7 +20,7 @@ use link_core::{LinkError, Mismatch, link_telling};
 use link_words::{Plan, WordError, read_words};
 use std::alloc::Global;
 use std::thread::Threads;
-use wl_base::{Seq, Text};
+use wl_base::{OutOfMemory, Seq, Text};
 use wl_outside::{Failed, Gate, Shelf, Sink};
 
 /// All that the program does: reads the words, which leave out its name; loads each input whole, in the
@@ -64,7 +65,10 @@ pub fn link_command<R: Threads + Sync, F: Shelf, E: Sink, G: Gate>(
     ensures said { Said (status_line (plan_of words.now) result) (E.told say.old) (E.told say.new) }
 {
     let mut told = Seq::new(alloc);
-    let ending = answer(rt, alloc, words, false, false, shelf, gate, &mut told);
+    let nothing = Asked::nothing();
+    let ending = answer(
+        rt, alloc, words, false, false, &nothing, shelf, gate, &mut told,
+    );
     // A line that can't be written changes no status.
     let _ = ending.say(say);
     ending.status
@@ -72,34 +76,45 @@ pub fn link_command<R: Threads + Sync, F: Shelf, E: Sink, G: Gate>(
 
 /// The same by words that LLVM's linker was given otherwise: a link that would lose constructors is refused, and with `loose_calls` a function
 /// may be called by another type than its definition has, which `told` then lists; without them such a call is a clash, as it is in our own
-/// links. It writes no line.
+/// links. Names and features stand behind the module as `asked` says. It writes no line.
 pub fn link_like_lld<R: Threads + Sync, F: Shelf, G: Gate>(
     rt: &R,
     alloc: Global,
     words: &[Text],
     loose_calls: bool,
+    asked: &Asked,
     shelf: &mut F,
     gate: &G,
     told: &mut Seq<Mismatch>,
 ) -> Status
     requires { length words.now < 2 ^ 32 }
-    ensures usage { (u : UsageFault) → result ≡ Status.Usage u → (planned true loose_calls words.now ≡ Err u) × Same (F.shown shelf.old) (F.shown shelf.new) }
-    ensures cause { IfOk (planned true loose_calls words.now) (λ plan. Shows result (F.shown shelf.old) (F.shown shelf.new) words.now plan) }
+    ensures usage { (u : UsageFault) → result ≡ Status.Usage u → (planned true loose_calls asked.now words.now ≡ Err u) × Same (F.shown shelf.old) (F.shown shelf.new) }
+    ensures cause { IfOk (planned true loose_calls asked.now words.now) (λ plan. Shows result (F.shown shelf.old) (F.shown shelf.new) words.now plan) }
     ensures memory { result ≡ Status.NoMemory → Same (F.shown shelf.old) (F.shown shelf.new) }
-    ensures runs { (plan : ThePlan) → planned true loose_calls words.now ≡ Ok plan → result ≡ Status.Linked → IsTold plan.make_case (F.shown shelf.old)
+    ensures runs { (plan : ThePlan) → planned true loose_calls asked.now words.now ≡ Ok plan → result ≡ Status.Linked → IsTold plan.make_case (F.shown shelf.old)
         → SavedRuns (F.shown shelf.old) (F.shown shelf.new) words.now plan }
     ensures counts { Grows (F.shown shelf.old) (F.shown shelf.new) }
-    ensures is_usage { IfErr (planned true loose_calls words.now) (λ u. IsUnlessMemory result (Status.Usage u)) }
-    ensures is_refused { (plan : ThePlan) (fault : Fault) → planned true loose_calls words.now ≡ Ok plan
+    ensures is_usage { IfErr (planned true loose_calls asked.now words.now) (λ u. IsUnlessMemory result (Status.Usage u)) }
+    ensures is_refused { (plan : ThePlan) (fault : Fault) → planned true loose_calls asked.now words.now ≡ Ok plan
         → IsTold plan.make_case (F.shown shelf.old) → LinkIs (F.shown shelf.old) words.now plan (Err fault)
         → LoadsWork (F.shown shelf.old) (F.shown shelf.new) words.now plan → IsUnlessMemory result (Status.Refused fault) }
-    ensures is_linked { (plan : ThePlan) (bytes : List ℕ) → planned true loose_calls words.now ≡ Ok plan
+    ensures is_linked { (plan : ThePlan) (bytes : List ℕ) → planned true loose_calls asked.now words.now ≡ Ok plan
         → IsTold plan.make_case (F.shown shelf.old) → LinkIs (F.shown shelf.old) words.now plan (Ok bytes)
         → LoadsWork (F.shown shelf.old) (F.shown shelf.new) words.now plan
         → SaveWorks (F.shown shelf.old) (F.shown shelf.new) plan → IsUnlessMemory result Status.Linked }
-    ensures told { told.old ≡ [] → Tells (planned true loose_calls words.now) result (F.shown shelf.old) words.now told.new }
+    ensures told { told.old ≡ [] → Tells (planned true loose_calls asked.now words.now) result (F.shown shelf.old) words.now told.new }
 {
-    let ending = answer(rt, alloc, words, true, loose_calls, shelf, gate, told);
+    let ending = answer(
+        rt,
+        alloc,
+        words,
+        true,
+        loose_calls,
+        asked,
+        shelf,
+        gate,
+        told,
+    );
     ending.status
 }
 
@@ -111,44 +126,34 @@ fn answer<R: Threads + Sync, F: Shelf, G: Gate>(
     words: &[Text],
     like_lld: bool,
     loose_calls: bool,
+    asked: &Asked,
     shelf: &mut F,
     gate: &G,
     told: &mut Seq<Mismatch>,
 ) -> Ending
     requires { length words.now < 2 ^ 32 }
-    ensures usage { (u : UsageFault) → result.status ≡ Status.Usage u → (planned like_lld loose_calls words.now ≡ Err u) × Same (F.shown shelf.old) (F.shown shelf.new) }
-    ensures cause { IfOk (planned like_lld loose_calls words.now) (λ plan. Shows result.status (F.shown shelf.old) (F.shown shelf.new) words.now plan) }
+    ensures usage { (u : UsageFault) → result.status ≡ Status.Usage u → (planned like_lld loose_calls asked.now words.now ≡ Err u) × Same (F.shown shelf.old) (F.shown shelf.new) }
+    ensures cause { IfOk (planned like_lld loose_calls asked.now words.now) (λ plan. Shows result.status (F.shown shelf.old) (F.shown shelf.new) words.now plan) }
     ensures memory { result.status ≡ Status.NoMemory → Same (F.shown shelf.old) (F.shown shelf.new) }
-    ensures runs { (plan : ThePlan) → planned like_lld loose_calls words.now ≡ Ok plan → result.status ≡ Status.Linked → IsTold plan.make_case (F.shown shelf.old)
+    ensures runs { (plan : ThePlan) → planned like_lld loose_calls asked.now words.now ≡ Ok plan → result.status ≡ Status.Linked → IsTold plan.make_case (F.shown shelf.old)
         → SavedRuns (F.shown shelf.old) (F.shown shelf.new) words.now plan }
     ensures counts { Grows (F.shown shelf.old) (F.shown shelf.new) }
-    ensures is_usage { IfErr (planned like_lld loose_calls words.now) (λ u. IsUnlessMemory result.status (Status.Usage u)) }
-    ensures is_refused { (plan : ThePlan) (fault : Fault) → planned like_lld loose_calls words.now ≡ Ok plan
+    ensures is_usage { IfErr (planned like_lld loose_calls asked.now words.now) (λ u. IsUnlessMemory result.status (Status.Usage u)) }
+    ensures is_refused { (plan : ThePlan) (fault : Fault) → planned like_lld loose_calls asked.now words.now ≡ Ok plan
         → IsTold plan.make_case (F.shown shelf.old) → LinkIs (F.shown shelf.old) words.now plan (Err fault)
         → LoadsWork (F.shown shelf.old) (F.shown shelf.new) words.now plan → IsUnlessMemory result.status (Status.Refused fault) }
-    ensures is_linked { (plan : ThePlan) (bytes : List ℕ) → planned like_lld loose_calls words.now ≡ Ok plan
+    ensures is_linked { (plan : ThePlan) (bytes : List ℕ) → planned like_lld loose_calls asked.now words.now ≡ Ok plan
         → IsTold plan.make_case (F.shown shelf.old) → LinkIs (F.shown shelf.old) words.now plan (Ok bytes)
         → LoadsWork (F.shown shelf.old) (F.shown shelf.new) words.now plan
         → SaveWorks (F.shown shelf.old) (F.shown shelf.new) plan → IsUnlessMemory result.status Status.Linked }
-    ensures told { told.old ≡ [] → Tells (planned like_lld loose_calls words.now) result.status (F.shown shelf.old) words.now told.new }
-    ensures line { ending_line result.status result.case ≡ status_line (planned like_lld loose_calls words.now) result.status }
+    ensures told { told.old ≡ [] → Tells (planned like_lld loose_calls asked.now words.now) result.status (F.shown shelf.old) words.now told.new }
+    ensures line { ending_line result.status result.case ≡ status_line (planned like_lld loose_calls asked.now words.now) result.status }
 {
-    match read_plan(alloc, words, like_lld, loose_calls) {
+    match read_plan(alloc, words, like_lld, loose_calls, asked) {
         Ok(plan) => run_plan(rt, alloc, &plan, words, shelf, gate, told),
         Err(WordError::Usage(usage)) => Ending::plain(Status::Usage(usage)),
         Err(WordError::OutOfMemory) => Ending::plain(Status::NoMemory),
     }
-}
-
-// The same plan, for a link that is like lld's or not.
-fn plan_for(mut plan: Plan, like_lld: bool, loose_calls: bool) -> Plan
-    ensures { result ≡ plan_for like_lld loose_calls plan }
-{
-    if like_lld {
-        plan.like_lld = true;
-        plan.loose_calls = loose_calls;
-    }
-    plan
 }
 
 // The plan of the words, in a link that is like lld's or not.
@@ -157,15 +162,20 @@ pub(crate) fn read_plan(
     words: &[Text],
     like_lld: bool,
     loose_calls: bool,
+    asked: &Asked,
 ) -> Result<Plan, WordError>
     requires { length words.now < 2 ^ 32 }
-    ensures plan { Reads result (planned like_lld loose_calls words.now) }
+    ensures plan { Reads result (planned like_lld loose_calls asked.now words.now) }
     ensures numbers { IfOk result IsPlan }
     ensures places { IfOk result (λ plan. All (λ i. i.place < length words.now) plan.inputs) }
 {
-    match read_words(alloc, words) {
-        Ok(plan) => Ok(plan_for(plan, like_lld, loose_calls)),
-        Err(error) => Err(error),
+    let plan = match read_words(alloc, words) {
+        Ok(plan) => plan,
+        Err(error) => return Err(error),
+    };
+    match plan_for(alloc, plan, like_lld, loose_calls, asked) {
+        Ok(plan) => Ok(plan),
+        Err(OutOfMemory) => Err(WordError::OutOfMemory),
     }
 }
 

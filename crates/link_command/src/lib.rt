@@ -2,12 +2,14 @@
 //! output, and says how it ended.
 #![tactic(auto)]
 
+mod asked;
 mod calls;
 mod command;
 mod ending;
 mod inputs;
 mod status;
 
+pub use asked::Asked;
 pub use calls::tell_calls;
 pub use command::{link_command, link_like_lld};
 pub use link_core::Mismatch;

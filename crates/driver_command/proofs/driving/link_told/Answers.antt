@@ -10,7 +10,7 @@ use Rattle.driver_command.proofs.driving.link_told.Goals as goal
 pub returns-clause-shows : goal.returns-clause-shows
 returns-clause-shows g c =
     links_as_before (g.F.Shelf.shown c.args.shelf.now) (g.F.Shelf.shown c.link_quietly-status.new.shelf) (g.F.Shelf.shown c.say_ending.new.shelf) c.link_quietly-status.ensures.counts c.say_ending.ensures.counts c.say_ending.ensures.same
-    c.args.own.now c.args.fatal c.link_quietly-status.result.status c.link_quietly-status.ensures.shows
+    c.args.own.now c.args.fatal c.args.asked.now c.link_quietly-status.result.status c.link_quietly-status.ensures.shows
 
 pub returns-clause-told : goal.returns-clause-told
 returns-clause-told g c =
@@ -26,7 +26,7 @@ returns-clause-told g c =
     let heard_before = heard (warning_lines program c.args.warnings.now) c.say_warnings-heard.result _ _ c.if-is_err.ensures.negation c.say_warnings-heard.ensures in (
       told,
       said.0,
-      tells_of_on before mid after c.say_ending.ensures.counts c.say_ending.ensures.same own fatal status told c.link_quietly-status.ensures.told,
+      tells_of_on before mid after c.say_ending.ensures.counts c.say_ending.ensures.same own fatal c.args.asked.now status told c.link_quietly-status.ensures.told,
       subst (λ (ms : List Mismatch). IsEnd fatal status ms program after own said.0) c.as_slice-told.ensures said.1,
       second _ said.0 _ _ _ _ heard_before said.2,
     )

@@ -7,5 +7,5 @@ use Rattle.link_command.proofs.calls.tell_calls.Goals as goal
 
 pub returns-clause-told : goal.returns-clause-told
 returns-clause-told g c =
-    would_tell (planned true true c.args.words.now) c.in-Ok.plan (g.F.Shelf.shown c.args.shelf.now) c.args.words.now c.in-Ok-files.files c.told_of.result c.in-Ok.ensures.plan c.in-Ok-files.ensures.files
+    would_tell (planned true true c.args.asked.now c.args.words.now) c.in-Ok.plan (g.F.Shelf.shown c.args.shelf.now) c.args.words.now c.in-Ok-files.files c.told_of.result c.in-Ok.ensures.plan c.in-Ok-files.ensures.files
     (subst (λ (fs : List (List ℕ)). IfSome c.told_of.result (λ told. told ≡ told_calls c.in-Ok.plan fs)) c.as_slice.ensures c.told_of.ensures)
