@@ -1,0 +1,5 @@
+pub mod Index
+pub mod Indexed
+pub mod Steps
+pub mod Completed
+pub mod Rows
