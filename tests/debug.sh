@@ -14,12 +14,8 @@ export PYTHONDONTWRITEBYTECODE=1
 subject="debug sections"
 need clang llvm-ar llvm-dwarfdump llvm-symbolizer wasm-ld python3
 
-folder=$(mktemp -d)
-trap 'rm -rf "$folder"' EXIT
-cd "$folder" || exit 2
-mkdir names
-ln -s "$(readlink -f "${WASMLD:-$top/bin/wasm-ld}")" names/wasm-ld
-driver=$folder/names/wasm-ld
+work_in_a_folder
+name_the_driver
 
 # Takes a compiler, and sources of the folder; each becomes an object of its name.
 compile() {

@@ -14,9 +14,7 @@ need clang llvm-ar node
 [ -e "$libc/crt1.o" ] || skip_all "no wasi-libc"
 [ -e "$(clang --target=wasm32-wasi --print-libgcc-file-name)" ] || skip_all "no compiler-rt for wasm32"
 
-folder=$(mktemp -d)
-trap 'rm -rf "$folder"' EXIT
-cd "$folder" || exit 2
+work_in_a_folder
 
 # The linker, by each name that a driver looks for.
 mkdir names

@@ -5,9 +5,7 @@ set -u
 top=$(cd "$(dirname "${BASH_SOURCE[0]}")/.." && pwd)
 . "$top/tests/common/expect.bash"
 wasmld=${WASMLD:-$top/bin/wasmld}
-folder=$(mktemp -d)
-trap 'rm -rf "$folder"' EXIT
-cd "$folder" || exit 2
+work_in_a_folder
 
 # Takes the wanted exit status, the wanted standard output, and the words.
 ends() {

@@ -10,12 +10,8 @@ sources=$top/tests/sections
 subject="sections behind modules"
 need clang node
 
-folder=$(mktemp -d)
-trap 'rm -rf "$folder"' EXIT
-cd "$folder" || exit 2
-mkdir names
-ln -s "$(readlink -f "${WASMLD:-$top/bin/wasm-ld}")" names/wasm-ld
-linker=$folder/names/wasm-ld
+work_in_a_folder
+name_the_driver
 
 compile() {
   clang --target=wasm32-unknown-unknown -c "$@"
@@ -29,7 +25,7 @@ told() {
 says() {
   local what=$1 wanted=$2
   shift 2
-  "$linker" "$@" -o said.wasm 2>err.txt && diff <(told said.wasm "$what") <(printf "$wanted") || {
+  "$driver" "$@" -o said.wasm 2>err.txt && diff <(told said.wasm "$what") <(printf "$wanted") || {
     cat err.txt
     return 1
   }
@@ -40,7 +36,7 @@ says_as_lld_does() {
   local what=$1
   shift
   command -v wasm-ld >/dev/null || return 0
-  "$linker" "$@" -o ours.wasm 2>ours.txt
+  "$driver" "$@" -o ours.wasm 2>ours.txt
   wasm-ld "$@" -o theirs.wasm 2>theirs.txt
   diff ours.txt theirs.txt && diff <(told ours.wasm "$what") <(told theirs.wasm "$what")
 }
@@ -49,7 +45,7 @@ says_as_lld_does() {
 refuses_as_lld_does() {
   command -v wasm-ld >/dev/null || return 0
   rm -f ours.wasm theirs.wasm
-  "$linker" "$@" -o ours.wasm 2>ours.txt
+  "$driver" "$@" -o ours.wasm 2>ours.txt
   wasm-ld "$@" -o theirs.wasm 2>theirs.txt
   [ ! -e ours.wasm ] && [ ! -e theirs.wasm ] && diff ours.txt theirs.txt
 }
@@ -59,7 +55,7 @@ is_refused_as() {
   local line=$1
   shift
   rm -f no.wasm
-  "$linker" "$@" -o no.wasm 2>err.txt
+  "$driver" "$@" -o no.wasm 2>err.txt
   [ $? -eq 1 ] && [ "$(cat err.txt)" = "$line" ] && [ ! -e no.wasm ] || {
     cat err.txt
     return 1
@@ -145,7 +141,7 @@ optimized() {
     return
   }
   printf '#include <stdio.h>\n#include <string.h>\nstatic char to[9000];\nint main(int n, char **words) { memset(to, 64 + n, 8999); to[2 * n + 1] = 0; return puts(to) < 0; }\n' >moved.c
-  expect "clang -O2 links and optimizes" clang --target=wasm32-wasi -O2 -mbulk-memory -msign-ext "-fuse-ld=$linker" moved.c -o moved.wasm
+  expect "clang -O2 links and optimizes" clang --target=wasm32-wasi -O2 -mbulk-memory -msign-ext "-fuse-ld=$driver" moved.c -o moved.wasm
   expect "to what runs" diff <(node --no-warnings "$top/tests/real/run.mjs" moved.wasm) <(printf 'AAA\n')
 }
 

@@ -9,9 +9,7 @@ wasmrun=${WASMRUN:-$top/bin/wasmrun}
 wasmld=${WASMLD:-$top/bin/wasmld}
 sources=$top/tests/wasmrun
 libc=/usr/lib/wasm32-wasi
-folder=$(mktemp -d)
-trap 'rm -rf "$folder"' EXIT
-cd "$folder" || exit 2
+work_in_a_folder
 
 # Takes the wanted exit status, the file with the wanted standard output, the wanted standard error, and the words.
 ends() {

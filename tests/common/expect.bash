@@ -41,3 +41,17 @@ need() {
   done
   clang --print-targets | grep -q wasm32 || skip_all "clang has no wasm32"
 }
+
+# A new folder for the files of the script, whose path is $folder; it goes at the end.
+work_in_a_folder() {
+  folder=$(mktemp -d)
+  trap 'rm -rf "$folder"' EXIT
+  cd "$folder" || exit 2
+}
+
+# The linker under the name by which compiler drivers call it; its path is $driver.
+name_the_driver() {
+  mkdir names
+  ln -s "$(readlink -f "${WASMLD:-$top/bin/wasm-ld}")" names/wasm-ld
+  driver=$folder/names/wasm-ld
+}
