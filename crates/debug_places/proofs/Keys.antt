@@ -23,7 +23,7 @@ use Rattle.link_layout.proofs.link_numbers_lemmas.link_keys_lemmas.Any.{all_map,
 use Rattle.link_layout.proofs.link_numbers_lemmas.link_keys_lemmas.Imports.{both}
 use Rattle.link_layout.proofs.link_numbers_lemmas.link_keys_lemmas.Positions.{position_of_map}
 use Rattle.link_debug.specs.Places.{slot_place, global_place}
-use Rattle.debug_places.specs.Found.{slot_among}
+use Rattle.found_numbers.specs.Found.{slot_among}
 use Rattle.debug_places.specs.Seen.{global_among}
 
 -- ---- globals

@@ -47,7 +47,8 @@ use Rattle.link_layout.proofs.link_numbers_lemmas.link_keys_lemmas.Any.{or_right
 use Rattle.link_layout.proofs.link_numbers_lemmas.link_keys_lemmas.Equals.{holds_distinct, holds_onto}
 use Rattle.link_layout.proofs.link_numbers_lemmas.link_keys_lemmas.Imports.{import_equal, import_itself}
 use Rattle.link_debug.specs.Places.{slot_place, global_place, is_placed, address_place, meant_slot, meant_global}
-use Rattle.debug_places.specs.Found.{slot_among, AreMarked, AreMade}
+use Rattle.found_numbers.specs.Found.{slot_among}
+use Rattle.debug_places.specs.Found.{AreMarked, AreMade}
 use Rattle.debug_places.specs.Seen.{Sight, sight_of, segment_address, address_at, address_meant, slot_meant, global_among, linkers_global, global_here, global_meant, row_by, rows_by}
 use Rattle.debug_places.proofs.Keys.{IsMeant, slot_placed, global_placed}
 use Rattle.debug_places.proofs.Linkers.{shared_here}

@@ -1,9 +1,7 @@
 -- Where bodies begin, as the data of a link show it.
-use Rattle.std.specs.Prelude.{ℕ, ◌-◌, ◌==◌, ◌&&◌, not, Bool, false, List, map, filter, length, position, slice_index_or, if◌then◌else◌, Option, Some, None}
+use Rattle.std.specs.Prelude.{ℕ, ◌-◌, ◌==◌, ◌&&◌, not, List, map, filter, length, position, slice_index_or, if◌then◌else◌, Option, Some, None}
 use Rattle.link_program.specs.wl_base.declared.span.Span.{Span}
 use Rattle.link_program.specs.object_file.declared.object.Object.{Object}
-use Rattle.link_program.specs.wasm_types.declared.import.Import.{Import}
-use Rattle.link_program.specs.object_rules.Spaces.{is_of}
 use Rattle.link_program.specs.object_file.Spaces.{function_imports}
 use Rattle.link_program.specs.linking_section.declared.symbol.Symbol.{Symbol}
 use Rattle.link_program.specs.linking_section.declared.symbol.SymbolKind.TheVariants.{Function}
@@ -53,7 +51,3 @@ body_for c input imported (Some s) = body_of c input imported s
 
 abbrev pub body_row : Code → Object → List (Option ℕ)
 body_row c o = map (body_of c o.input (length (function_imports o))) o.symbols
-
-abbrev pub is_function_at : Option Import → Bool
-is_function_at None = false
-is_function_at (Some i) = is_of Function i.kind

@@ -24,7 +24,7 @@ use Rattle.link_layout.specs.Cells.{made_place}
 use Rattle.debug_places.specs.declared.rows.View.{View}
 use Rattle.debug_places.specs.declared.rows.Asked.{Asked}
 use Rattle.debug_places.specs.declared.rows.Asked.TheVariants.{Address, Slot, Global}
-use Rattle.debug_places.specs.Found.{slot_among}
+use Rattle.found_numbers.specs.Found.{slot_among}
 
 -- What is looked up: which output is made, the numbers of the imports of the linker's globals, all numbers, the chunks of the parts, the
 -- addresses of the parts that are live segments, those of the linker's own data, and of each part whether it is live.

@@ -1,18 +1,15 @@
 //! Where the bodies of functions begin in the payload of the code section.
-ghost use Rattle.std.specs.Prelude.{◌≡◌, ◌+◌, ◌<◌, ◌^◌, map, length, slice_get, slice_index_or, if◌then◌else◌, IfOk};
+ghost use Rattle.std.specs.Prelude.{◌≡◌, ◌<◌, map, slice_get, slice_index_or, if◌then◌else◌, IfOk};
 ghost use Rattle.link_program.specs.linking_section.declared.symbol.SymbolKind.TheVariants.{Function};
-ghost use Rattle.link_program.specs.object_rules.Spaces.{imports_of, is_of};
 ghost use Rattle.link_program.specs.object_columns.Seen.{symbol_seen};
-ghost use Rattle.debug_places.specs.Bodies.{bodies_seen, place_in, body_at, body_of, body_for, is_function_at, body_row};
+ghost use Rattle.debug_places.specs.Bodies.{bodies_seen, place_in, body_at, body_of, body_for, body_row};
 
-use crate::finding::function_at;
 use crate::rows::narrowed;
+use found_numbers::{function_at, imported_functions};
 use link_layout::Numbering;
 use link_program::{FunctionKey, Object, SymbolRef};
 use linking_section::SymbolKind;
-use object_file::Imports;
 use std::alloc::Global;
-use wasm_types::ImportKind;
 use wl_base::{InputId, OutOfMemory, Seq, Span};
 
 /// Where bodies stand in the output, by reference.
@@ -56,40 +53,6 @@ fn body_at(view: Bodies<'_>, input: InputId, index: u32) -> Option<u64>
         Some(number) => place_in(view, number),
         None => None,
     }
-}
-
-fn is_function(kind: ImportKind) -> bool
-    ensures { result ≡ is_of Function kind }
-{
-    matches!(kind, ImportKind::Function(_))
-}
-
-/// Whether the import of a place is a function.
-fn is_function_at(imports: &Imports, at: usize) -> bool
-    ensures { result ≡ is_function_at (slice_get imports.now at) }
-{
-    match imports.get(at) {
-        Some(import) => is_function(import.kind),
-        None => false,
-    }
-}
-
-fn plus_if(count: usize, more: bool) -> usize
-    requires { count + 1 < 2 ^ 64 }
-    ensures { result ≡ (if more then count + 1 else count) }
-{
-    if more { count + 1 } else { count }
-}
-
-/// How many of the imports of an object are functions.
-fn imported_functions(imports: &Imports) -> usize
-    ensures { result ≡ length (imports_of Function imports.now) }
-{
-    let mut count = 0;
-    for at in 0..imports.len() {
-        count = plus_if(count, is_function_at(imports, at));
-    }
-    count
 }
 
 /// Where the body begins of the function that a symbol defines. So many functions are imported.

@@ -4,7 +4,7 @@ ghost use Rattle.link_program.specs.linking_section.Flags.{kind_code};
 ghost use Rattle.debug_places.specs.Seen.{seen, address_meant, slot_meant, linkers_global, global_here, global_meant, place_meant, row_by, rows_by};
 
 use crate::addresses::address_at;
-use crate::finding::{global_at, slot_at};
+use found_numbers::{global_at, slot_at};
 use link_layout::{Layout, Numbering, made_import};
 use link_program::{
     Definition, FunctionKey, GlobalKey, Lead, Object, Symbol, function_of, mode_of,

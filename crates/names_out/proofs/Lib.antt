@@ -1,5 +1,4 @@
 mod Marks
-mod Found
 mod Offered
 mod Tables
 mod Listed

@@ -1,9 +1,7 @@
 -- The names of functions, as the data of a link tell them.
 use Rattle.std.specs.Prelude.{ℕ, ◌+◌, ◌-◌, ◌==◌, ◌&&◌, Bool, false, not, List, [], ◌∷◌, ◌++◌, map, fold, length, drop, position, slice_get, slice_index_or, slice_set, if◌then◌else◌, unwrap_or, Option, Some, None}
-use Rattle.link_program.specs.wasm_types.declared.import.Import.{Import}
 use Rattle.link_program.specs.object_file.declared.object.Object.{Object}
 use Rattle.link_program.specs.object_file.Spaces.{function_imports}
-use Rattle.link_program.specs.object_rules.Spaces.{is_of}
 use Rattle.link_program.specs.linking_section.declared.symbol.Symbol as object_symbols
 use Rattle.link_program.specs.linking_section.declared.symbol.SymbolKind.TheVariants.{Function}
 use Rattle.link_program.specs.linking_section.Flags.{kind_code, is_undefined}
@@ -53,10 +51,6 @@ number_told fs (Some f) = position (same_function_key f) fs
 abbrev pub lead_at : Option Symbol → Lead
 lead_at None = leads.Nothing
 lead_at (Some s) = s.lead
-
-abbrev pub is_function_at : Option Import → Bool
-is_function_at None = false
-is_function_at (Some i) = is_of Function i.kind
 
 -- ---- what an object's symbols offer, beside what they lead to
 

@@ -5,8 +5,8 @@ ghost use Rattle.link_program.specs.object_file.Spaces.{function_imports};
 ghost use Rattle.function_names.specs.Names.{or_name};
 ghost use Rattle.names_out.specs.Told.{label_seen, import_named_told, function_named_told, number_told, lead_at, offer_at, offers_told, offers_rows, taken_by, taking};
 
-use crate::finding::{function_at, imported_functions};
 use crate::labels::{Label, is_empty, plain};
+use found_numbers::{function_at, imported_functions};
 use link_layout::Numbering;
 use link_program::{FunctionKey, Lead, Object, Symbol, SymbolRef};
 use linking_section::SymbolKind;
@@ -113,7 +113,7 @@ fn offer<'a>(
 fn offer_all<'a>(table: &mut [Label<'a>], numbering: &Numbering, o: &'a Object, symbols: &[Symbol])
     ensures { map label_seen table.new ≡ fold taking (map label_seen table.old) (offers_told numbering.now.functions o.now.input (length (function_imports o.now)) o.now.symbols symbols.now) }
 {
-    let imported = imported_functions(o);
+    let imported = imported_functions(&o.imports);
     for at in 0..o.symbols.len() {
         offer(table, numbering, o, imported, symbols, at);
     }

@@ -1,41 +1,51 @@
--- A number is believed where the key stands there.
-use Rattle.std.proofs.Common.{◌≡◌, ℕ, ◌+◌, ◌<◌, ◌≤◌, Bool, true, false, cond, List, [], ◌∷◌, filter, length, drop, slice_get, get_or, position, Option, Some, None, unwrap_or, refl, sym, ap, ◌∙◌, arith}
-use Rattle.std.specs.Prelude.{if◌then◌else◌}
+-- Numbers that are believed, and what is counted.
+use Rattle.std.proofs.Common.{◌≡◌, ℕ, ◌+◌, ◌<◌, ◌≤◌, Bool, true, false, List, [], ◌∷◌, filter, length, drop, get_or, slice_get, position, Option, Some, None, option_map, unwrap_or, refl, sym, ap, ◌∙◌, arith}
+use Rattle.std.specs.Prelude.{if◌then◌else◌, cond}
 use Rattle.std.proofs.lemmas.List.{at_drop_more}
 use Rattle.std.proofs.lemmas.List.Quantifiers.{position-Some}
 use Rattle.std.proofs.lemmas.Option.{slice_get-get_or}
 use Rattle.link_program.specs.index_layout.Numbers.{number_by}
-use Rattle.link_program.specs.declared.keys.FunctionKey.{FunctionKey}
-use Rattle.link_program.specs.Keys.{same_function_key}
-use Rattle.link_layout.specs.link_numbers.Rows.{is_function, stands_at}
 use Rattle.link_layout.proofs.Windows.{none_there}
-use Rattle.names_out.specs.Found.{if_there}
+use Rattle.found_numbers.specs.Found.{is_one, stands_at, if_there}
+
+-- ---- numbers
 
 -- where no key is found, the first one isn't it
-no_first : (keys : List FunctionKey) (key : FunctionKey) → position (same_function_key key) keys ≡ None → stands_at keys 0 key ≡ false
-no_first [] key none = refl
-no_first (y ∷ ys) key none = none_there (same_function_key key) (y ∷ ys) none 0 y refl
+no_first : {A : Type 0} (same : A → A → Bool) (keys : List A) (key : A) → position (same key) keys ≡ None → stands_at same keys 0 key ≡ false
+no_first same [] key none = refl
+no_first same (y ∷ ys) key none = none_there (same key) (y ∷ ys) none 0 y refl
 
-module _ (keys : List FunctionKey) (key : FunctionKey) (n : ℕ) (is : n ≡ number_by same_function_key keys key) where
-  here : (k : ℕ) → position (same_function_key key) keys ≡ Some k → stands_at keys n key ≡ true
+module _ {A : Type 0} (same : A → A → Bool) (keys : List A) (key : A) (n : ℕ) (is : n ≡ number_by same keys key) where
+  here : (k : ℕ) → position (same key) keys ≡ Some k → stands_at same keys n key ≡ true
   here k at =
-      let w = position-Some (same_function_key key) keys k key at in
+      let w = position-Some (same key) keys k key at in
       let e : n ≡ k = is ∙ ap (λ o. unwrap_or o 0) at in
-      ap (λ m. stands_at keys m key) e ∙ (ap (is_function key) (slice_get-get_or keys k key w.0) ∙ w.1)
+      ap (λ m. stands_at same keys m key) e ∙ (ap (is_one same key) (slice_get-get_or keys k key w.0) ∙ w.1)
 
-  nowhere : position (same_function_key key) keys ≡ None → stands_at keys n key ≡ false
-  nowhere none = ap (λ m. stands_at keys m key) (is ∙ ap (λ o. unwrap_or o 0) none) ∙ no_first keys key none
+  nowhere : position (same key) keys ≡ None → stands_at same keys n key ≡ false
+  nowhere none = ap (λ m. stands_at same keys m key) (is ∙ ap (λ o. unwrap_or o 0) none) ∙ no_first same keys key none
 
-  pub believed : if_there (stands_at keys n key) n ≡ position (same_function_key key) keys
-  believed = by_place (position (same_function_key key) keys) refl
+  -- a number is believed where the key stands there
+  pub believed : if_there (stands_at same keys n key) n ≡ position (same key) keys
+  believed = by_place (position (same key) keys) refl
     where
-      by_place : (o : Option ℕ) → position (same_function_key key) keys ≡ o → if_there (stands_at keys n key) n ≡ position (same_function_key key) keys
+      by_place : (o : Option ℕ) → position (same key) keys ≡ o → if_there (stands_at same keys n key) n ≡ position (same key) keys
       by_place None none = ap (λ b. if_there b n) (nowhere none) ∙ sym none
       by_place (Some k) at = ap (λ b. if_there b n) (here k at) ∙ (ap Some (is ∙ ap (λ o. unwrap_or o 0) at) ∙ sym at)
 
+  -- the same of numbers that count from another one
+  pub believed_from : (first : ℕ) → if_there (stands_at same keys n key) (first + n) ≡ option_map (λ k. first + k) (position (same key) keys)
+  believed_from first = by_place (position (same key) keys) refl
+    where
+      by_place : (o : Option ℕ) → position (same key) keys ≡ o → if_there (stands_at same keys n key) (first + n) ≡ option_map (λ k. first + k) (position (same key) keys)
+      by_place None none = ap (λ b. if_there b (first + n)) (nowhere none) ∙ sym (ap (option_map (λ k. first + k)) none)
+      by_place (Some k) at =
+          ap (λ b. if_there b (first + n)) (here k at)
+          ∙ (ap (λ m. Some (first + m)) (is ∙ ap (λ o. unwrap_or o 0) at) ∙ sym (ap (option_map (λ k. first + k)) at))
+
 -- ---- counting
 
--- one more import, which is counted or not
+-- one more that is counted or not, by its place
 counted_more : {A : Type 0} (test : A → Bool) (g : Option A → Bool) → ((a : A) → g (Some a) ≡ test a) → (xs : List A) (i : ℕ) → i < length xs → (count whole : ℕ) (b : Bool)
     → g (slice_get xs i) ≡ b → count + length (filter test (drop i xs)) ≡ whole → (if b then count + 1 else count) + length (filter test (drop (i + 1) xs)) ≡ whole
 counted_more test g each [] i lt count whole b is so_far = absurd (omega (arith, lt))

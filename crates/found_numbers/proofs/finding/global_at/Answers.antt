@@ -1,8 +1,8 @@
 use Rattle.std.proofs.Common.{ap, ◌∙◌}
 use Rattle.link_program.specs.Keys.{same_global_key}
-use Rattle.debug_places.specs.Found.{stands_at, if_there}
-use Rattle.debug_places.proofs.Found.{believed}
-use Rattle.debug_places.proofs.finding.global_at.Goals as goal
+use Rattle.found_numbers.specs.Found.{stands_at, if_there}
+use Rattle.found_numbers.proofs.Found.{believed}
+use Rattle.found_numbers.proofs.finding.global_at.Goals as goal
 
 pub returns : goal.returns
 returns c =

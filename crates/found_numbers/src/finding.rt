@@ -1,8 +1,8 @@
-//! Keys among those that a link numbered. A table tells the number of each; where a key isn't among
-//! them it tells the first one, so a number is believed where the list has the key there.
+//! Keys among those that a link numbered. A table tells the number of each; where a key isn't among them it tells the first one, so a
+//! number is believed where the list has the key there.
 ghost use Rattle.std.specs.Prelude.{◌≡◌, position};
 ghost use Rattle.link_program.specs.Keys.{same_definition, same_function_key, same_got_key, same_global_key};
-ghost use Rattle.debug_places.specs.Found.{stands_at, if_there, slot_among};
+ghost use Rattle.found_numbers.specs.Found.{stands_at, if_there, slot_among};
 
 use link_layout::Numbering;
 use link_program::{Definition, FunctionKey, GlobalKey, GotKey};
@@ -85,7 +85,7 @@ fn if_there(there: bool, number: u32) -> Option<u32>
 }
 
 /// The number of a function, where the output has it.
-pub(crate) fn function_at(numbering: &Numbering, key: FunctionKey) -> Option<u32>
+pub fn function_at(numbering: &Numbering, key: FunctionKey) -> Option<u32>
     ensures { result ≡ position (same_function_key key) numbering.now.functions }
 {
     let number = numbering.function_number(key);
@@ -94,7 +94,7 @@ pub(crate) fn function_at(numbering: &Numbering, key: FunctionKey) -> Option<u32
 }
 
 /// The slot of a function, where it has one.
-pub(crate) fn slot_at(numbering: &Numbering, key: FunctionKey) -> Option<u32>
+pub fn slot_at(numbering: &Numbering, key: FunctionKey) -> Option<u32>
     ensures { result ≡ slot_among numbering.now key }
 {
     let slot = numbering.slot(key);
@@ -104,7 +104,7 @@ pub(crate) fn slot_at(numbering: &Numbering, key: FunctionKey) -> Option<u32>
 }
 
 /// The number of a global, where the output has it.
-pub(crate) fn global_at(numbering: &Numbering, key: GlobalKey) -> Option<u32>
+pub fn global_at(numbering: &Numbering, key: GlobalKey) -> Option<u32>
     ensures { result ≡ position (same_global_key key) numbering.now.globals }
 {
     let number = numbering.global_number(key);

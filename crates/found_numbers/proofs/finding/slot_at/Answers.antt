@@ -1,9 +1,9 @@
 use Rattle.std.proofs.Common.{◌≡◌, ◌+◌, ◌-◌, refl, ap, ◌∙◌, arith}
 use Rattle.link_program.specs.index_layout.Numbers.{number_by}
 use Rattle.link_program.specs.Keys.{same_function_key}
-use Rattle.debug_places.specs.Found.{stands_at, if_there}
-use Rattle.debug_places.proofs.Found.{believed_from}
-use Rattle.debug_places.proofs.finding.slot_at.Goals as goal
+use Rattle.found_numbers.specs.Found.{stands_at, if_there}
+use Rattle.found_numbers.proofs.Found.{believed_from}
+use Rattle.found_numbers.proofs.finding.slot_at.Goals as goal
 
 pub returns : goal.returns
 returns c =

@@ -2,9 +2,9 @@ use Rattle.std.proofs.Common.{◌<◌, length, refl, sym, subst}
 use Rattle.link_program.specs.wasm_types.declared.import.Import.{Import}
 use Rattle.link_program.specs.linking_section.declared.symbol.SymbolKind.TheVariants.{Function}
 use Rattle.link_program.specs.object_rules.Spaces.{is_of, imports_of}
-use Rattle.debug_places.specs.Bodies.{is_function_at}
-use Rattle.debug_places.proofs.Found.{counted_step}
-use Rattle.debug_places.proofs.bodies.imported_functions.Goals as goal
+use Rattle.found_numbers.specs.Found.{is_function_at}
+use Rattle.found_numbers.proofs.Found.{counted_step}
+use Rattle.found_numbers.proofs.counting.imported_functions.Goals as goal
 
 pub loop-at-preserved : goal.loop-at-preserved
 loop-at-preserved c =
