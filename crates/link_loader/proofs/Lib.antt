@@ -1,5 +1,7 @@
 pub mod Lists
 mod Flagged
+mod Unused
+mod AlwaysBound
 mod Greatest
 pub mod Stands
 pub mod Bases

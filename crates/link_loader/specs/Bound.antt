@@ -30,3 +30,12 @@ is_bound symbols (names.Type place number) = true
 
 abbrev pub bound_part : Tables → ℕ → Bool
 bound_part t n = list_all (is_bound t.symbols) (row_at t n)
+
+-- ---- symbols
+
+-- Whether each window that names a symbol does so, of whatever type it is.
+abbrev pub is_always_bound : Symbol → Lead → Bool
+is_always_bound s (leads.Here d) = true
+is_always_bound s (leads.Import n) = has_name s.name
+is_always_bound s leads.Null = not (is_addressed s)
+is_always_bound s leads.Nothing = not (is_addressed s)

@@ -1,5 +1,5 @@
 -- The imports that may be absent, as the data tell them.
-use Rattle.std.specs.Prelude.{ℕ, ◌==◌, Bool, false, ◌||◌, List, [], ◌∷◌, ◌++◌, map, flat_map, fold, length, replicate, slice_index_or, if◌then◌else◌, Option, Some, None}
+use Rattle.std.specs.Prelude.{ℕ, ◌==◌, Bool, true, false, ◌||◌, List, [], ◌∷◌, ◌++◌, map, flat_map, fold, length, replicate, slice_index_or, if◌then◌else◌, Option, Some, None}
 use Rattle.link_program.specs.linking_section.declared.symbol.Symbol.{Symbol as Written}
 use Rattle.link_program.specs.linking_section.Flags.{is_weak}
 use Rattle.link_program.specs.reloc_section.declared.kinds.TheConstants as relocs
@@ -76,6 +76,21 @@ weak_use strong cells symbols (names.Type place number) = None
 
 abbrev pub part_uses : List Bool → List (Option ℕ) → Tables → ℕ → List (Option ℕ)
 part_uses strong cells t n = map (weak_use strong cells t.symbols) (row_at t n)
+
+-- ---- symbols by which nothing is used so
+
+abbrev pub is_strong_named : List Bool → Option ℕ → Bool
+is_strong_named strong None = true
+is_strong_named strong (Some k) = flag_at strong k
+
+-- Whether a symbol isn't imported, or some entry of its name isn't WEAK.
+abbrev pub is_strong : List Bool → Lead → Option ℕ → Bool
+is_strong strong (leads.Here d) name = true
+is_strong strong (leads.Import n) name = is_strong_named strong name
+is_strong strong leads.Null name = true
+is_strong strong leads.Nothing name = true
+
+-- ---- all
 
 abbrev pub weak_seen : Program → List ℕ → List Bool
 weak_seen d live = fold flagged (replicate (length d.resolution.now.imports) false)

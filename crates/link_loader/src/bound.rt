@@ -1,7 +1,9 @@
-//! Windows of live parts that ask for nothing that a shared output doesn't have.
-ghost use Rattle.std.specs.Prelude.{◌≡◌};
+//! Windows of live parts that ask for nothing that a shared output doesn't have. There are many more windows than symbols, so that they are looked
+//! at where a symbol is found by which some window might ask for it.
+ghost use Rattle.std.specs.Prelude.{◌≡◌, All};
 ghost use Rattle.std.specs.List.{list_all};
-ghost use Rattle.link_loader.specs.Bound.{has_name, bound_part, is_bound_by, is_bound};
+ghost use Rattle.link_program.specs.Seen.{NamesOne};
+ghost use Rattle.link_loader.specs.Bound.{has_name, bound_part, is_bound_by, is_bound, is_always_bound};
 
 use crate::cells::is_addressed;
 use link_program::{Lead, Named, Symbol, Tables, row_at, symbol_at};
@@ -63,8 +65,8 @@ fn part_is_bound(tables: &Tables, number: u32) -> bool
     row_is_bound(tables.symbols.as_slice(), row_at(tables, number))
 }
 
-/// Whether all windows of live parts do. A shared output has no null functions or data, and only entries of names are imported.
-pub(crate) fn all_are_bound(tables: &Tables, live: &[u32]) -> bool
+// Whether all windows of the parts of these numbers do.
+fn parts_are_bound(tables: &Tables, live: &[u32]) -> bool
     ensures { result ≡ list_all (bound_part tables.now) live.now }
 {
     live.iter().all(
@@ -72,4 +74,38 @@ pub(crate) fn all_are_bound(tables: &Tables, live: &[u32]) -> bool
             ensures { result ≡ bound_part tables.entry.now number.now }
         { part_is_bound(tables, *number) },
     )
+}
+
+// Whether a window of any type that names the symbol does.
+fn is_always_bound(symbol: Symbol) -> bool
+    ensures { result ≡ is_always_bound symbol symbol.lead }
+{
+    match symbol.lead {
+        Lead::Here(_) => true,
+        Lead::Import(_) => has_name(symbol),
+        Lead::Null | Lead::Nothing => !is_addressed(symbol),
+    }
+}
+
+// Whether that is so of all symbols.
+fn symbols_are_bound(symbols: &[Symbol]) -> bool
+    ensures { result ≡ list_all (λ s. is_always_bound s s.lead) symbols.now }
+{
+    symbols.iter().all(
+        |symbol: &Symbol| -> bool
+            ensures { result ≡ is_always_bound symbol.now symbol.now.lead }
+        { is_always_bound(*symbol) },
+    )
+}
+
+/// Whether all windows of live parts do. A shared output has no null functions or data, and only entries of names are imported.
+#[tactic(auto, using(crate::proofs::AlwaysBound::all_bound))]
+pub(crate) fn all_are_bound(tables: &Tables, live: &[u32]) -> bool
+    requires there { All (λ row. All (NamesOne tables.now.symbols tables.now.types) row) tables.now.named }
+    ensures { result ≡ list_all (bound_part tables.now) live.now }
+{
+    if symbols_are_bound(tables.symbols.as_slice()) {
+        return true;
+    }
+    parts_are_bound(tables, live)
 }

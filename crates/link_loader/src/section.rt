@@ -1,5 +1,5 @@
 //! What the section `dylink.0` tells the loader.
-ghost use Rattle.std.specs.Prelude.{◌≡◌, ◌++◌, max, map, filter_map, length, true, IfOk, OnOk, IsTrue};
+ghost use Rattle.std.specs.Prelude.{◌≡◌, ◌++◌, max, map, filter_map, length, true, IfOk, OnOk, IsTrue, All};
 ghost use Rattle.std.specs.Option.{option_to_list};
 ghost use Rattle.std.specs.List.{list_all};
 ghost use Rattle.link_program.specs.link_rules.ModeOf.{mode_of as asked_mode};
@@ -9,6 +9,7 @@ ghost use Rattle.link_program.specs.link_rules.Output.{layout as laid_out};
 ghost use Rattle.link_program.specs.made_symbols.declared.mode.Mode.TheVariants.{Shared};
 ghost use Rattle.link_program.specs.made_symbols.Made.{made};
 ghost use Rattle.link_program.specs.Live.{Stage, AreLive};
+ghost use Rattle.link_program.specs.Seen.{NamesOne};
 ghost use Rattle.link_layout.specs.Layout.{looked, IsLayout};
 ghost use Rattle.link_loader.specs.Section.{content_align, align_at, greatest_align, info_seen, function_info, global_info, infos_seen, dylink_seen};
 ghost use Rattle.link_loader.specs.Bound.{bound_part};
@@ -206,6 +207,7 @@ fn dylink_seen(alloc: Global, layout: Layout<'_>, live: &[u32]) -> Result<Dylink
 
 // Whether the data tell of cells as the definition does, which holds of all that the earlier steps let through.
 fn are_told(layout: Layout<'_>, live: &[u32]) -> bool
+    requires { All (λ row. All (NamesOne layout.program.tables.now.symbols layout.program.tables.now.types) row) layout.program.tables.now.named }
     ensures cells { IsTrue result → all_tell layout.entry.program.names.now.names layout.entry.program.resolution.now.imports layout.entry.program.resolution.now.cells 0 layout.entry.program.tables.now.symbols ≡ true }
     ensures windows { IsTrue result → list_all (bound_part layout.entry.program.tables.now) live.now ≡ true }
 {

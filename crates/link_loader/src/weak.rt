@@ -1,11 +1,12 @@
 //! The imports that may be absent when a shared output is loaded: those that live parts use by a name of which all entries are WEAK. A window uses the
 //! import that it calls or reads, or the cell from which it takes an address.
 ghost use Rattle.std.specs.Prelude.{◌≡◌, Some, fold, map, flat_map, length, slice_get, slice_index_or, [], IfOk};
+ghost use Rattle.std.specs.List.{list_all};
 ghost use Rattle.link_program.specs.object_columns.Seen.{symbol_seen};
 ghost use Rattle.link_layout.specs.link_numbers.link_keys.Noted.{flagged};
 ghost use Rattle.link_program.specs.made_symbols.declared.mode.Mode.TheVariants.{Shared};
 ghost use Rattle.link_program.specs.made_symbols.Made.{made};
-ghost use Rattle.link_loader.specs.Weak.{flag_at, strong_of, noted_at, strong_row, object_row, strong_rows, strong_names, taken, weak_by, weak_use, part_uses, weak_seen};
+ghost use Rattle.link_loader.specs.Weak.{flag_at, strong_of, noted_at, strong_row, object_row, strong_rows, strong_names, taken, weak_by, weak_use, part_uses, is_strong, weak_seen};
 
 use crate::cells::{cell_at, is_addressed};
 use link_program::{Lead, Named, Names, Object, Program, Symbol, SymbolRef, row_at, symbol_at};
@@ -187,6 +188,40 @@ fn note_parts(flags: &mut [bool], program: Program<'_>, strong: &[bool], live: &
     }
 }
 
+// Whether a symbol isn't imported, or some entry of its name isn't WEAK.
+fn is_strong(strong: &[bool], symbol: Symbol) -> bool
+    ensures { result ≡ is_strong strong.now symbol.lead symbol.name }
+{
+    let Lead::Import(_) = symbol.lead else {
+        return true;
+    };
+    match symbol.name {
+        Some(name) => flag_at(strong, name),
+        None => true,
+    }
+}
+
+// Whether that is so of all symbols. Then no window has to be looked at.
+fn all_are_strong(strong: &[bool], symbols: &[Symbol]) -> bool
+    ensures { result ≡ list_all (λ s. is_strong strong.now s.lead s.name) symbols.now }
+{
+    symbols.iter().all(
+        |symbol: &Symbol| -> bool
+            ensures { result ≡ is_strong strong.entry.now symbol.now.lead symbol.now.name }
+        { is_strong(strong, *symbol) },
+    )
+}
+
+// Flags the imports that live parts use so.
+fn note_live(flags: &mut [bool], program: Program<'_>, strong: &[bool], live: &[u32])
+    ensures { flags.new ≡ fold flagged flags.old (flat_map (part_uses strong.now program.entry.resolution.now.cells program.entry.tables.now) live.now) }
+{
+    if all_are_strong(strong, program.tables.symbols.as_slice()) {
+        return;
+    }
+    note_parts(flags, program, strong, live);
+}
+
 /// By the number of an import, whether live parts use it by a name of which all entries are WEAK.
 pub(crate) fn weak_imports(
     alloc: Global,
@@ -198,6 +233,6 @@ pub(crate) fn weak_imports(
 {
     let strong = strong_names(alloc, program.names, program.objects)?;
     let mut flags = vec![in alloc; false; program.resolution.imports() as usize]?;
-    note_parts(flags.as_mut_slice(), program, strong.as_slice(), live);
+    note_live(flags.as_mut_slice(), program, strong.as_slice(), live);
     Ok(flags)
 }

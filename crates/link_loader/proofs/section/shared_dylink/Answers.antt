@@ -5,6 +5,9 @@ use Rattle.link_loader.specs.Bound.{bound_part}
 use Rattle.link_loader.proofs.Whole.{dylink_is, made_count}
 use Rattle.link_loader.proofs.section.shared_dylink.Goals as goal
 
+pub are_told-requires : goal.are_told-requires
+are_told-requires g c = c.requires.0.program.tables.named_there
+
 pub dylink_seen-requires : goal.dylink_seen-requires
 dylink_seen-requires g c = made_count g.s c.args.layout c.requires.0 c.requires.1.1
 
