@@ -27,7 +27,7 @@ use Rattle.link_output.specs.link_program.link_rules.Keys.{numbers}
 use Rattle.link_output.specs.link_program.link_rules.Values.{rules_of, shapes}
 use Rattle.link_output.specs.link_program.link_rules.Output.{layout, image, source_windows, held}
 use Rattle.link_output.specs.link_program.link_rules.LinkOf.{asked_names, the_readers, exporting, marked, laid_out, written, length_fault, link_program, link_of}
-use Rattle.debug_links.specs.valid_links.link_runs.link_inputs.Inputs.{loaded_of}
+use Rattle.valid_shared_links.specs.valid_links.link_runs.link_inputs.Inputs.{loaded_of}
 use Rattle.program_build.specs.Found.{Finds, found_of}
 use Rattle.link_image.specs.link_layout.Placed.{AnswersPlacedIn, IsPlaced}
 use Rattle.link_image.specs.link_numbers.Numbered.{TellsOverflow, IsNumbering}

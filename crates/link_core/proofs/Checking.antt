@@ -7,14 +7,14 @@ use Rattle.link_output.specs.link_program.wl_base.declared.fault.Fault.TheVarian
 use Rattle.link_output.specs.link_program.wl_base.declared.fault.InvalidAt.{InvalidAt}
 use Rattle.link_output.specs.link_program.link_plan.declared.plan.Plan.{Plan}
 use Rattle.link_output.specs.link_program.link_plan.Plan.{IsPlan}
-use Rattle.link_output.specs.link_program.link_rules.ModeOf.{IsPlain}
 use Rattle.link_output.specs.link_program.link_rules.LinkOf.{link_of}
 use Rattle.link_output.specs.link_program.declared.error.LinkError.{LinkError}
 use Rattle.link_output.specs.link_program.declared.error.LinkError.TheVariants.{Refused, OutOfMemory}
 use Rattle.link_output.specs.link_program.Answers.{Stops}
-use Rattle.debug_links.specs.valid_links.Links.{AllValid, LinksAreValid, LinksDontJudge}
-use Rattle.debug_links.specs.valid_links.output_check.Check.{invalid_fault, IsValidOutput}
-use Rattle.debug_links.proofs.output_check_lemmas.Passed.{passes}
+use Rattle.valid_shared_links.specs.valid_links.Links.{LinksDontJudge}
+use Rattle.valid_shared_links.specs.valid_links.output_check.Check.{invalid_fault, IsValidOutput}
+use Rattle.valid_shared_links.proofs.output_check_lemmas.Passed.{passes}
+use Rattle.valid_shared_links.specs.Links.{AllValid, AllLinksAreValid}
 use Rattle.link_tails.specs.Tails.{with_tail}
 use Rattle.link_tails.specs.Keeps.{ValidStays}
 use Rattle.link_core.specs.Answers.{Answers}
@@ -103,10 +103,9 @@ module _ (plan : Plan) (files : List (List ℕ)) where
   valid_whole stays bytes (Ok whole) valid said = stays plan files bytes whole valid said
   valid_whole stays bytes (Err e) valid said = tt
 
-  module _ (law : LinksAreValid) (judge : LinksDontJudge) (stays : ValidStays) (is : IsPlan plan) (long : length files ≡ unwrap_or plan.make_case (length plan.inputs)) (plain : IsPlain plan)
-      (all : AllValid plan files) where
+  module _ (law : AllLinksAreValid) (judge : LinksDontJudge) (stays : ValidStays) (is : IsPlan plan) (long : length files ≡ unwrap_or plan.make_case (length plan.inputs)) (all : AllValid plan files) where
     none_found : (bytes : List ℕ) → link_of plan files ≡ Ok bytes → invalid_fault plan bytes ≡ None
-    none_found bytes link = passes plan bytes (law plan files bytes is long plain all link)
+    none_found bytes link = passes plan bytes (law plan files bytes is long all link)
 
     never_said : (at : InvalidAt) → unchecked plan files ≡ Err (Invalid at) → ⊥
     unfolding unchecked
@@ -122,7 +121,7 @@ module _ (plan : Plan) (files : List (List ℕ)) where
     all_valid : (answer : Result (List ℕ) LinkError) → Answers answer (unchecked plan files) → IfOk answer IsValidOutput
     all_valid (Ok whole) said =
         let p = unchecked_parts whole said in
-        stays plan files p.0 whole (law plan files p.0 is long plain all p.1) p.2
+        stays plan files p.0 whole (law plan files p.0 is long all p.1) p.2
     all_valid (Err e) said = tt
 
     pub keeps_valid : (answer : Result (List ℕ) LinkError) → Answers answer (linked plan files) → KeepsValid plan files answer

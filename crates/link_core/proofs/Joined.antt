@@ -16,9 +16,9 @@ use Rattle.link_output.specs.link_program.declared.error.LinkError.{LinkError}
 use Rattle.link_output.specs.link_program.declared.error.LinkError.TheVariants.{Refused, OutOfMemory}
 use Rattle.link_output.specs.link_program.Answers.{Fails, Answers as Told}
 use Rattle.link_output.specs.link_program.Loaded.{the_candidates}
-use Rattle.debug_links.specs.valid_links.link_runs.link_inputs.Inputs.{loaded_of}
-use Rattle.debug_links.specs.valid_links.link_runs.link_inputs.Loaded.{AreInputs}
-use Rattle.debug_links.specs.valid_links.link_runs.link_inputs.declared.inputs.Inputs.{Inputs}
+use Rattle.valid_shared_links.specs.valid_links.link_runs.link_inputs.Inputs.{loaded_of}
+use Rattle.valid_shared_links.specs.valid_links.link_runs.link_inputs.Loaded.{AreInputs}
+use Rattle.valid_shared_links.specs.valid_links.link_runs.link_inputs.declared.inputs.Inputs.{Inputs}
 use Rattle.program_build.specs.Found.{Finds, found_of}
 use Rattle.mismatch_rules.specs.declared.mismatch.Mismatch.{Mismatch}
 use Rattle.called_variants.specs.Called.{calls_told_of}

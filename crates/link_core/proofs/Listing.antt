@@ -25,7 +25,7 @@ use Rattle.link_output.specs.link_program.declared.error.LinkError.{LinkError}
 use Rattle.link_output.specs.link_program.declared.error.LinkError.TheVariants.{Refused, OutOfMemory}
 use Rattle.link_output.specs.link_program.Answers.{Fails}
 use Rattle.link_output.specs.link_program.Program.{variant_names, variant_type}
-use Rattle.debug_links.specs.valid_links.link_runs.link_inputs.Inputs.{loaded_of}
+use Rattle.valid_shared_links.specs.valid_links.link_runs.link_inputs.Inputs.{loaded_of}
 use Rattle.mismatch_rules.specs.declared.mismatch.Mismatch.{Mismatch}
 use Rattle.mismatch_rules.specs.Mismatches.{mismatches, mismatches_among, mismatch_by, same_call, standing}
 use Rattle.called_variants.specs.Called.{is_called, calls_told, calls_if, told_of, calls_told_by, calls_told_of}

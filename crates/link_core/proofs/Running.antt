@@ -5,7 +5,7 @@ use Rattle.link_plan.specs.declared.plan.Plan.{Plan}
 use Rattle.link_plan.specs.Plan.{IsPlan}
 use Rattle.link_output.specs.link_program.link_rules.ModeOf.{IsPlain}
 use Rattle.link_output.specs.link_program.declared.error.LinkError.{LinkError}
-use Rattle.debug_links.specs.valid_links.link_runs.Links.{Runs, LinksRun}
+use Rattle.valid_shared_links.specs.valid_links.link_runs.Links.{Runs, LinksRun}
 use Rattle.link_tails.specs.Keeps.{RunsStay, OffsetsStay}
 use Rattle.link_core.specs.Answers.{Answers}
 use Rattle.link_core.specs.Linked.{linked}

@@ -21,8 +21,8 @@ use Rattle.debug_rules.specs.Sections.{Custom, customs, is_debug, payloads_for}
 use Rattle.debug_rules.specs.Faults.{Input, Debug, relocs_in, debug_at, debugs_from, debug_places, debugs_of, debugs}
 use Rattle.debug_rules.specs.Joined.{Places, length_fault, tail_of, joined}
 use Rattle.link_output.specs.link_program.reloc_section.declared.entry.Reloc.{Reloc}
-use Rattle.debug_links.specs.debug_tails.link_debug.Places.{link_inputs}
-use Rattle.debug_links.specs.debug_tails.Tails.{live_tail, laid_tail}
+use Rattle.link_tails.specs.debug_tails.link_debug.Places.{link_inputs}
+use Rattle.link_tails.specs.debug_tails.Tails.{live_tail, laid_tail}
 use Rattle.object_features.specs.Tail.{feature_tail}
 use Rattle.object_features.proofs.Customs.{dont_judge}
 use Rattle.link_tails.specs.Tails.{laid_names, laid_features, laid_more, further, both_tails, laid_whole, program_whole, whole_tail_by, whole_tail, with_tail}

@@ -5,7 +5,7 @@ use Rattle.link_output.specs.link_program.wl_base.declared.fault.Fault.TheVarian
 use Rattle.link_output.specs.link_program.link_plan.declared.plan.Plan.{Plan}
 use Rattle.link_output.specs.link_program.declared.error.LinkError.{LinkError}
 use Rattle.link_output.specs.link_program.declared.error.LinkError.TheVariants.{Refused}
-use Rattle.debug_links.specs.valid_links.output_check.Check.{IsValidOutput}
+use Rattle.valid_shared_links.specs.valid_links.output_check.Check.{IsValidOutput}
 use Rattle.link_core.specs.Answers.{Answers}
 use Rattle.link_core.specs.Linked.{unchecked}
 

@@ -4,7 +4,7 @@ use Rattle.link_output.specs.link_program.wl_base.Choice.{unless, ◌>>=◌}
 use Rattle.link_output.specs.link_program.wl_base.declared.fault.Fault.{Fault}
 use Rattle.link_output.specs.link_program.link_plan.declared.plan.Plan.{Plan}
 use Rattle.link_output.specs.link_program.link_rules.LinkOf.{link_of}
-use Rattle.debug_links.specs.valid_links.output_check.Check.{invalid_fault}
+use Rattle.valid_shared_links.specs.valid_links.output_check.Check.{invalid_fault}
 use Rattle.link_tails.specs.Tails.{with_tail}
 
 -- The bytes, unless the plan asks for the check of the output and it finds a fault (Core 3).

@@ -28,9 +28,9 @@ ghost use Rattle.link_core.specs.Tails.{modules, stage_tail, TellsTail};
 ghost use Rattle.link_core.specs.Telling.{Tells};
 ghost use Rattle.mismatch_rules.specs.Mismatches.{standing};
 ghost use Rattle.called_variants.specs.Called.{calls_told_of, told_of};
-ghost use Rattle.debug_links.specs.valid_links.link_runs.Links.{Runs};
-ghost use Rattle.debug_links.specs.valid_links.output_check.Check.{invalid_fault, IsValidOutput};
-ghost use Rattle.debug_links.specs.valid_links.Links.{AllValid};
+ghost use Rattle.valid_shared_links.specs.valid_links.link_runs.Links.{Runs};
+ghost use Rattle.valid_shared_links.specs.valid_links.output_check.Check.{invalid_fault, IsValidOutput};
+ghost use Rattle.valid_shared_links.specs.Links.{AllValid};
 
 use crate::chosen::Chosen;
 use crate::prepared::Prepared;
@@ -43,8 +43,8 @@ use link_output::laws::{
 use link_output::{Entries, Home, LinkError, Program, Winner, measured, write};
 use link_plan::Plan;
 use link_tails::{
-    Inputs, ValidError, check_output, links_are_valid, links_dont_judge, links_run, load_inputs,
-    offsets_stay, runs_stay, valid_stays,
+    Inputs, ValidError, check_output, links_dont_judge, links_run, load_inputs, offsets_stay,
+    runs_stay, valid_stays,
 };
 use lost_ctors::{
     all_are_meant, exports, first_fixed, live_parts, repeated_export, uncalled, unresolved,
@@ -56,6 +56,7 @@ use std::alloc::Global;
 use std::mem::forget;
 use std::thread::Threads;
 use tails_out::tail_behind;
+use valid_shared_links::all_links_are_valid;
 use wl_base::{Fault, Seq};
 use wl_fan::Workers;
 use wl_outside::Gate;
@@ -80,14 +81,14 @@ pub(crate) fn module_telling<R: Threads + Sync, G: Gate>(
     requires files { length files.now ≡ unwrap_or plan.now.make_case (length plan.now.inputs) }
     ensures exact { Answers result (linked plan.now files.now) }
     ensures runs { IsPlain plan.now → IfOk result (λ bytes. Runs plan.now files.now bytes) }
-    ensures valid { IsPlain plan.now → AllValid plan.now files.now → KeepsValid plan.now files.now result }
+    ensures valid { AllValid plan.now files.now → KeepsValid plan.now files.now result }
     ensures checked { IsTrue plan.now.validate → IfOk result IsValidOutput }
     ensures places { IsPlain plan.now → plan.now.keep_debug ≡ true → IfOk result (SaysPlaces plan.now files.now) }
     ensures short { IsShort result }
     ensures told { told.old ≡ [] → Tells result told.new (calls_told_of plan.now files.now) }
 {
     links_run();
-    links_are_valid();
+    all_links_are_valid();
     links_dont_judge();
     runs_stay();
     valid_stays();

@@ -7,9 +7,9 @@ ghost use Rattle.link_core.specs.Checked.{KeepsValid};
 ghost use Rattle.link_core.specs.Places.{SaysPlaces};
 ghost use Rattle.link_core.specs.Telling.{Tells};
 ghost use Rattle.link_core.specs.Whole.{whole_link, told_calls, MakesModule};
-ghost use Rattle.debug_links.specs.valid_links.link_runs.Links.{Runs};
-ghost use Rattle.debug_links.specs.valid_links.output_check.Check.{IsValidOutput};
-ghost use Rattle.debug_links.specs.valid_links.Links.{AllValid};
+ghost use Rattle.valid_shared_links.specs.valid_links.link_runs.Links.{Runs};
+ghost use Rattle.valid_shared_links.specs.valid_links.output_check.Check.{IsValidOutput};
+ghost use Rattle.valid_shared_links.specs.Links.{AllValid};
 
 use crate::driver::{module_telling, workers_of};
 use crate::joining::join;
@@ -46,8 +46,9 @@ pub fn link<R: Threads + Sync, G: Gate>(
     ensures exact { Answers result (whole_link plan.now files.now) }
     // A plain module runs as the plan and the files tell, with nothing linked. What a shared one does hangs on its loader.
     ensures runs { MakesModule plan.now → IsPlain plan.now → IfOk result (λ bytes. Runs plan.now files.now bytes) }
-    // Where all objects that are loaded are valid, so is a plain module, and the check refuses nothing, whether the plan asks for it or not.
-    ensures valid { MakesModule plan.now → IsPlain plan.now → AllValid plan.now files.now → KeepsValid plan.now files.now result }
+    // Where all objects that are loaded are valid, so is the module, a plain one or a shared one, and the check refuses nothing, whether the plan
+    // asks for it or not.
+    ensures valid { MakesModule plan.now → AllValid plan.now files.now → KeepsValid plan.now files.now result }
     // Where the plan asks for the check, the module is valid whatever the objects are.
     ensures checked { MakesModule plan.now → IsTrue plan.now.validate → IfOk result IsValidOutput }
     // Where the plan keeps debug sections of a plain module, each place in a live function that they name is that of the same instruction in
@@ -75,7 +76,7 @@ pub fn link_telling<R: Threads + Sync, G: Gate>(
     requires files { length files.now ≡ unwrap_or plan.now.make_case (length plan.now.inputs) }
     ensures exact { Answers result (whole_link plan.now files.now) }
     ensures runs { MakesModule plan.now → IsPlain plan.now → IfOk result (λ bytes. Runs plan.now files.now bytes) }
-    ensures valid { MakesModule plan.now → IsPlain plan.now → AllValid plan.now files.now → KeepsValid plan.now files.now result }
+    ensures valid { MakesModule plan.now → AllValid plan.now files.now → KeepsValid plan.now files.now result }
     ensures checked { MakesModule plan.now → IsTrue plan.now.validate → IfOk result IsValidOutput }
     ensures places { MakesModule plan.now → IsPlain plan.now → plan.now.keep_debug ≡ true → IfOk result (SaysPlaces plan.now files.now) }
     ensures short { IsShort result }

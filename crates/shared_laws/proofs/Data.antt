@@ -15,9 +15,9 @@ use Rattle.name_rules.specs.Meanings.{Meaning, here, imported, null, nothing}
 use Rattle.link_rules.specs.Program.{Program, Part, Ref, refs, same_chunk, chunk_at, chunk_of, chunk_by, meant_chunk}
 use Rattle.link_rules.specs.Marks.{live, refs_of}
 use Rattle.link_rules.specs.Keys.{GotKey, got_entry, got_import, got_null, got_entries, needs_got, parts_of_kind, ref_got, got_of}
-use Rattle.link_worlds.specs.Sound.{same_part}
-use Rattle.link_worlds.proofs.Keys.{chunk_itself}
-use Rattle.link_worlds.proofs.Live.{live_part, live_closed}
+use Rattle.link_facts.specs.link_worlds.Sound.{same_part}
+use Rattle.link_facts.proofs.link_worlds_lemmas.Keys.{chunk_itself}
+use Rattle.link_facts.proofs.link_worlds_lemmas.Live.{live_part, live_closed}
 use Rattle.shared_laws.specs.Linked.{SharedStands}
 use Rattle.shared_laws.specs.Numbered.{IsPlaced}
 use Rattle.shared_laws.proofs.Places.{one_item}

@@ -16,9 +16,9 @@ use Rattle.link_rules.specs.Marks.{live, refs_of, is_foreign}
 use Rattle.link_rules.specs.Keys.{GlobalKey, outside_global, linker_global, own_global, got, exported_datum, same_global, globals, global_imports_in, foreign_cell, foreign_cells, used_globals, parts_of_kind, cell_key, ref_got}
 use Rattle.link_rules.specs.Loader.{cell_number}
 use Rattle.link_rules.specs.Output.{layout}
-use Rattle.link_worlds.proofs.Keys.{import_equal, import_itself, imports_same}
-use Rattle.link_worlds.proofs.Live.{live_part}
-use Rattle.link_worlds.proofs.Refs.{distinct_has}
+use Rattle.link_facts.proofs.link_worlds_lemmas.Keys.{import_equal, import_itself, imports_same}
+use Rattle.link_facts.proofs.link_worlds_lemmas.Live.{live_part}
+use Rattle.link_facts.proofs.link_worlds_lemmas.Refs.{distinct_has}
 use Rattle.shared_laws.specs.Linked.{shared_layout}
 use Rattle.shared_laws.proofs.Rows.{TakesAddress, RowsTake}
 use Rattle.shared_laws.proofs.Globals.{outs, owns, gots, dates, globals_are}

@@ -19,7 +19,7 @@ use Rattle.dylink_out.specs.Loading.{RiseFrom, RisesBy, LieFrom, LiesBy}
 use Rattle.link_rules.specs.Program.{Program, Part}
 use Rattle.link_rules.specs.Marks.{refs_of}
 use Rattle.link_rules.specs.Keys.{GlobalKey, outside_global, own_global, got, exported_datum, GotKey, same_global, same_got, globals, global_imports_in, foreign_cells, used_globals, own_global_key, got_entries, datum_key, ref_got, needs_got, parts_of_kind}
-use Rattle.link_worlds.proofs.Keys.{gots_same}
+use Rattle.link_facts.proofs.link_worlds_lemmas.Keys.{gots_same}
 use Rattle.shared_laws.specs.Linked.{the_linkers}
 use Rattle.shared_laws.proofs.Places.{own_place, place_behind, place_front, place_map, number_within, pick_append, picks_none}
 

@@ -9,10 +9,10 @@ use Rattle.made_symbols.specs.declared.mode.Mode.TheVariants.{Shared}
 use Rattle.object_file.specs.declared.object.Object.{Object}
 use Rattle.name_rules.specs.Meanings.{Resolved}
 use Rattle.round_rules.specs.Rounds.{Candidate}
-use Rattle.link_program.specs.name_entries.View.{InputsRise}
+use Rattle.program_build.specs.link_program.name_entries.View.{InputsRise}
 use Rattle.link_rules.specs.Program.{Part, Ref, option_onto, parts_in, made_kind, made_parts_from}
-use Rattle.link_worlds.specs.Sound.{same_part}
-use Rattle.link_worlds.proofs.Keys.{chunk_equal}
+use Rattle.link_facts.specs.link_worlds.Sound.{same_part}
+use Rattle.link_facts.proofs.link_worlds_lemmas.Keys.{chunk_equal}
 use Rattle.link_facts.proofs.Symbols.{above, positive}
 use Rattle.link_facts.proofs.Parts.{made_as, made_behind, own_apart, object_parts, of_some_object, input_of}
 

@@ -15,3 +15,5 @@ pub mod Steps
 pub mod Foreign
 pub mod Numbered
 pub mod Placed
+pub use Rattle.link_facts.proofs as link_facts_lemmas
+pub use Rattle.link_facts.proofs.link_worlds_lemmas as link_worlds_lemmas

@@ -13,7 +13,7 @@ use Rattle.dylink_out.specs.declared.word.WordValue.{WordValue}
 use Rattle.dylink_out.specs.Loading.{LieFrom, LiesBy, RiseFrom, PlaceFits}
 use Rattle.link_rules.specs.Program.{Part, Ref, Named, a_symbol, a_type, named_ref, refs}
 use Rattle.link_rules.specs.Values.{form_of}
-use Rattle.link_program.specs.Stand.{NamedStand}
+use Rattle.program_build.specs.link_program.Stand.{NamedStand}
 
 -- ---- from lower places on, and up to the end
 

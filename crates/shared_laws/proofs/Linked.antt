@@ -20,9 +20,9 @@ use Rattle.link_rules.specs.Values.{Layout, segments, solid_segments, segment_ad
 use Rattle.link_rules.specs.Loader.{got_word, is_function_got, foreign_value, own_value}
 use Rattle.link_rules.specs.Output.{layout}
 use Rattle.link_rules.specs.LinkOf.{memory_fault, table_fault}
-use Rattle.link_worlds.specs.Sound.{same_part}
-use Rattle.link_worlds.proofs.Live.{live_part}
-use Rattle.link_program.specs.Stand.{PartStands, NamedStand}
+use Rattle.link_facts.specs.link_worlds.Sound.{same_part}
+use Rattle.link_facts.proofs.link_worlds_lemmas.Live.{live_part}
+use Rattle.program_build.specs.link_program.Stand.{PartStands, NamedStand}
 use Rattle.shared_laws.specs.Linked.{SharedStands, shared_layout, shared_words, import_count, WordsAreLinked}
 use Rattle.shared_laws.proofs.Lie.{part_words, segments_lie, segments_rise, places_fit, CellFits}
 use Rattle.shared_laws.proofs.Places.{all_from_has, picks_all, number_below}

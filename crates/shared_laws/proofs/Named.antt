@@ -21,7 +21,7 @@ use Rattle.made_symbols.specs.declared.mode.Mode.TheVariants.{Shared}
 use Rattle.name_rules.specs.Entries.{InputSymbol, symbols_of}
 use Rattle.name_rules.specs.Meanings.{null, Resolved, Uses, resolved_in}
 use Rattle.round_rules.specs.Rounds.{Candidate}
-use Rattle.link_program.proofs.Loose.{refs_loose}
+use Rattle.program_build.proofs.link_program_lemmas.Loose.{refs_loose}
 use Rattle.link_rules.specs.Program.{Part, Ref, refs, named_ref, a_symbol, ref_in, operand_named, window_named, InitCall, init_call, init_calls, is_skipped, made_parts_from, loose_part, loose_parts, loose_ref, is_mismatch, variant}
 use Rattle.link_facts.proofs.Symbols.{symbol_at}
 use Rattle.link_facts.proofs.Refs.{refs_named, calls_are}

@@ -21,9 +21,9 @@ use Rattle.link_rules.specs.Keys.{FunctionKey, outside, linker_function, stub, o
 use Rattle.link_rules.specs.Values.{Layout}
 use Rattle.link_rules.specs.Output.{layout}
 use Rattle.index_layout.specs.Numbers.{number_by}
-use Rattle.link_worlds.specs.Sound.{PartOf}
-use Rattle.link_worlds.proofs.Keys.{function_equal, functions_same}
-use Rattle.link_worlds.proofs.Live.{live_part, live_closed, ref_listed}
+use Rattle.link_facts.specs.link_worlds.Sound.{PartOf}
+use Rattle.link_facts.proofs.link_worlds_lemmas.Keys.{function_equal, functions_same}
+use Rattle.link_facts.proofs.link_worlds_lemmas.Live.{live_part, live_closed, ref_listed}
 use Rattle.shared_laws.specs.Linked.{SharedStands}
 use Rattle.shared_laws.specs.Numbered.{HasSlot, IsPlaced, AreNumbered, SharedWordsAreNumbered}
 use Rattle.shared_laws.proofs.Named.{slot_kind, offset_kind, cell_kind}
@@ -32,7 +32,7 @@ use Rattle.shared_laws.proofs.Data.{placed_there, got_from, meant_by}
 use Rattle.shared_laws.proofs.Linked.{live_apart}
 use Rattle.shared_laws.proofs.Steps.{link_fits}
 use Rattle.shared_laws.proofs.Programs.{shared_stands, functions_stand}
-use Rattle.link_program.specs.Loaded.{home_of}
+use Rattle.program_build.specs.link_program.Loaded.{home_of}
 use Rattle.link_inputs.specs.Loaded.{LoadedAreSound}
 use Rattle.program_build.specs.Standing.{LoadedPartsStand}
 use Rattle.link_rules.specs.LinkOf.{asked_names}

@@ -15,7 +15,7 @@ use Rattle.dylink_out.specs.declared.word.WordReloc.{WordReloc}
 use Rattle.dylink_out.specs.declared.word.WordValue.TheVariants.{OwnDatum, OwnFunction, ForeignDatum, ForeignFunction}
 use Rattle.dylink_out.specs.Shared.{apply_body}
 use Rattle.dylink_out.specs.Loading.{cell, word_number, word_patch, word_patches, word_steps, step_bytes, Machine, run, AreLinked, Agree, IsLoaded, HoldsWindow, HoldsPlace}
-use Rattle.link_program.specs.Loaded.{home_of}
+use Rattle.program_build.specs.link_program.Loaded.{home_of}
 use Rattle.link_inputs.specs.Loaded.{LoadedAreSound}
 use Rattle.program_build.specs.Standing.{LoadedPartsStand}
 use Rattle.link_rules.specs.Program.{Program, Part, Ref, Named, named_ref, refs, program_of}

@@ -22,12 +22,12 @@ use Rattle.name_rules.specs.Cases.{clash_by}
 use Rattle.name_rules.specs.Further.{is_here}
 use Rattle.round_rules.specs.Rounds.{Candidate}
 use Rattle.link_plan.specs.declared.plan.Plan.{Plan}
-use Rattle.link_program.specs.declared.home.Home.{Home}
-use Rattle.link_program.specs.Loaded.{IsLoaded, IsReadFrom}
-use Rattle.link_program.specs.Stand.{PartsStand, PartStands, IsRefOf, IsSymbolOf}
+use Rattle.program_build.specs.link_program.declared.home.Home.{Home}
+use Rattle.program_build.specs.link_program.Loaded.{IsLoaded, IsReadFrom}
+use Rattle.program_build.specs.link_program.Stand.{PartsStand, PartStands, IsRefOf, IsSymbolOf}
 use Rattle.program_build.specs.Standing.{LoadedPartsStand}
 use Rattle.link_rules.specs.Program.{Program, Part, Ref, refs, strict_program, program_of, parts_of, parts_in, function_part, segment_part, made_kind, made_part, made_parts_from, option_onto, init_calls, loose_part, loose_parts, chunk_at, span_in}
-use Rattle.link_worlds.specs.Sound.{PartOf, same_part}
+use Rattle.link_facts.specs.link_worlds.Sound.{PartOf, same_part}
 use Rattle.link_facts.proofs.Symbols.{is_symbol, positive, IsSymbol}
 use Rattle.link_facts.proofs.Meant.{code_kind, find_none, one_kind}
 use Rattle.link_facts.proofs.Parts.{made_as, there_is, function_kept, segment_kept}
@@ -142,13 +142,13 @@ module _ (stand_law : LoadedPartsStand) (plan : Plan) (files : List (List ℕ)) 
       (has_either (made_from 0 (made Shared)) (filter is_entry (flat_map (symbols_of objects) objects)) e h)
 
   -- the object of a symbol that is named, and its meaning
-  record Named (x : InputSymbol) (m : Meaning) : Type 0 where
-    object : Object
-    there : Has objects object
-    symbol : Has (symbols_of objects object) x
-    means : meaning Shared uses plan.allow_undefined es x ≡ m
+  pub record Named (x : InputSymbol) (m : Meaning) : Type 0 where
+    pub object : Object
+    pub there : Has objects object
+    pub symbol : Has (symbols_of objects object) x
+    pub means : meaning Shared uses plan.allow_undefined es x ≡ m
 
-  named_in : (x : InputSymbol) (m : Meaning) → IsSymbolOf p.resolved x m → Named x m
+  pub named_in : (x : InputSymbol) (m : Meaning) → IsSymbolOf p.resolved x m → Named x m
   named_in x m s =
       let mean = meaning Shared uses plan.allow_undefined es in
       let r = has_map res objects s.2 (subst (λ rs. Has rs s.2) resolved_are (has_at p.resolved s.0 s.2 s.3)) in

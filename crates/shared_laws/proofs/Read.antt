@@ -21,7 +21,7 @@ use Rattle.link_rules.specs.Values.{Layout, address_of, got_value, segment_addre
 use Rattle.link_rules.specs.Loader.{own_value, foreign_value, cell_number, is_function_got}
 use Rattle.link_rules.specs.Output.{layout}
 use Rattle.link_rules.specs.LinkOf.{memory_fault, table_fault}
-use Rattle.link_worlds.specs.Sound.{same_part}
+use Rattle.link_facts.specs.link_worlds.Sound.{same_part}
 use Rattle.shared_laws.specs.Linked.{SharedStands, shared_layout, import_count}
 use Rattle.shared_laws.proofs.Places.{mapped_none, given_none, number_low}
 use Rattle.shared_laws.specs.Numbered.{IsPlaced}

@@ -17,7 +17,7 @@ use Rattle.made_symbols.specs.declared.mode.Mode.TheVariants.{Shared}
 use Rattle.name_rules.specs.Entries.{InputSymbol, is_kind, symbols_of}
 use Rattle.name_rules.specs.Meanings.{Meaning, null, Resolved, Uses, resolved_in}
 use Rattle.round_rules.specs.Rounds.{Candidate}
-use Rattle.link_program.proofs.Loose.{refs_loose}
+use Rattle.program_build.proofs.link_program_lemmas.Loose.{refs_loose}
 use Rattle.link_rules.specs.Program.{Program, Part, Ref, refs, a_symbol, ref_to, ref_in, window_named, made_parts_from, loose_part, loose_parts, loose_ref, is_mismatch, variant}
 use Rattle.link_facts.proofs.Symbols.{symbol_at}
 use Rattle.link_facts.proofs.Meant.{code_kind}

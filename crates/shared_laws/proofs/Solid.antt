@@ -20,8 +20,8 @@ use Rattle.link_rules.specs.Marks.{live}
 use Rattle.link_rules.specs.Values.{Layout, segments, solid_segments, shapes, shape_of, is_zero, segment_address}
 use Rattle.link_rules.specs.Output.{layout}
 use Rattle.link_rules.specs.LinkOf.{memory_fault}
-use Rattle.link_worlds.specs.Sound.{same_part}
-use Rattle.link_worlds.proofs.Keys.{chunk_equal, chunk_itself}
+use Rattle.link_facts.specs.link_worlds.Sound.{same_part}
+use Rattle.link_facts.proofs.link_worlds_lemmas.Keys.{chunk_equal, chunk_itself}
 use Rattle.shared_laws.proofs.Lie.{StandFrom}
 use Rattle.shared_laws.proofs.Places.{mapped_none, first_none, zipped, own_place}
 

@@ -5,7 +5,7 @@ use Rattle.linking_section.specs.declared.symbol.SymbolKind.TheVariants.{Functio
 use Rattle.name_rules.specs.Entries.{InputSymbol}
 use Rattle.name_rules.specs.Meanings.{here}
 use Rattle.link_rules.specs.Program.{Program, Part, Ref, refs, chunk_at}
-use Rattle.link_worlds.specs.Sound.{PartOf}
+use Rattle.link_facts.specs.link_worlds.Sound.{PartOf}
 use Rattle.shared_laws.proofs.Named.{NamesByKind}
 
 pub record FunctionsStand (p : Program) : Type 0 where

@@ -16,8 +16,8 @@ use Rattle.link_rules.specs.Values.{Layout}
 use Rattle.link_rules.specs.Loader.{words}
 use Rattle.link_rules.specs.Output.{layout}
 use Rattle.link_rules.specs.LinkOf.{memory_fault, table_fault}
-use Rattle.link_worlds.specs.Sound.{same_part}
-use Rattle.link_program.specs.Stand.{PartsStand}
+use Rattle.link_facts.specs.link_worlds.Sound.{same_part}
+use Rattle.program_build.specs.link_program.Stand.{PartsStand}
 
 -- ---- the layout and the words of a shared link that exports these winners
 

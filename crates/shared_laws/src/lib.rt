@@ -6,6 +6,8 @@ ghost use Rattle.shared_laws.specs.Linked.{WordsAreLinked};
 ghost use Rattle.shared_laws.specs.Numbered.{SharedWordsAreNumbered};
 ghost use Rattle.shared_laws.specs.Placed.{SharedWordsAreLoaded};
 
+pub use program_build::laws::{parts_stand, strict_parts_stand};
+
 /// Of a program of loaded objects, where neither the memory nor the table overflows: the windows of
 /// live data rise, lie apart and end within the data, own cells of addresses rise behind the imported
 /// globals, and values read imported cells alone.

@@ -1,7 +1,7 @@
 use Rattle.std.proofs.Common.{◌∙◌, ℕ, List, Err, ap, length, subst, sym}
 use Rattle.std.proofs.lemmas.Result.{err_from_is_err_and}
 use Rattle.link_output.specs.link_program.Answers.{Stops}
-use Rattle.debug_links.specs.valid_links.output_check.Check.{invalid_fault, IsValidOutput}
+use Rattle.valid_shared_links.specs.valid_links.output_check.Check.{invalid_fault, IsValidOutput}
 use Rattle.called_variants.specs.Called.{calls_told_of}
 use Rattle.link_tails.specs.Tails.{whole_tail}
 use Rattle.link_core.proofs.Checking.{not_linked, not_valid, passes_check, valid_whole}

@@ -7,8 +7,8 @@ returns-clause-runs g c = λ plain.
     runs_of c.args.plan.now c.args.files.now c.link_checked-answer.result c.links_run.ensures c.runs_stay.ensures c.requires.plan c.requires.files plain c.link_checked-answer.ensures.exact
 
 pub returns-clause-valid : goal.returns-clause-valid
-returns-clause-valid g c = λ plain all.
-    keeps_valid c.args.plan.now c.args.files.now c.links_are_valid.ensures c.links_dont_judge.ensures c.valid_stays.ensures c.requires.plan c.requires.files plain all c.link_checked-answer.result
+returns-clause-valid g c = λ all.
+    keeps_valid c.args.plan.now c.args.files.now c.all_links_are_valid.ensures c.links_dont_judge.ensures c.valid_stays.ensures c.requires.plan c.requires.files all c.link_checked-answer.result
     c.link_checked-answer.ensures.exact
 
 pub returns-clause-places : goal.returns-clause-places

@@ -1,0 +1,3 @@
+pub mod Types
+pub mod Links
+pub use Rattle.valid_links.specs as valid_links
