@@ -6,14 +6,15 @@ use Rattle.std.proofs.lemmas.List.{length-map}
 use Rattle.leb_codec.specs.Shortest.{u32, s32}
 use Rattle.reloc_section.specs.declared.entry.Reloc.{Reloc}
 use Rattle.image_emit.specs.Bytes.{header, section, sized, vector, func_type, import_entry, export}
-use Rattle.partial_rules.specs.Relocatable.{Windowed, init, subsection, later, body_head, segment_head, relocs_from, section_relocs, custom, reloc_section, spelled_global, segment_info, symbol, group, present, linking, relocatable_bytes}
+use Rattle.partial_rules.specs.Relocatable.{Windowed, init, subsection, reloc, later, body_head, segment_head, relocs_from, section_relocs, custom, reloc_section, spelled_global, segment_info, symbol, group, present, linking, relocatable_bytes}
 use Rattle.partial_bytes.specs.declared.tree.Part.{Part}
 use Rattle.partial_bytes.specs.declared.tree.Tree.{Tree}
 use Rattle.partial_bytes.specs.declared.part.PartKind.{PartKind}
 use Rattle.partial_bytes.specs.declared.part.PartKind.TheVariants.{Body, Segment}
+use Rattle.partial_bytes.specs.Relocs.{reloc_by, relocs_of}
 use Rattle.partial_bytes.specs.Told.{emptied, part_told, global_told, info_told, symbol_told, group_told, tree_told, TreeFits}
 use Rattle.partial_bytes.specs.Items.{symbol_row}
-use Rattle.partial_bytes.specs.Written.{lead, head_of, head_len, part_len, parts_len, payload_len, part_spelled, parts_section, relocs_at, relocs_in, front_of, linking_of, linking_section, code_at, data_at, written, part_fits}
+use Rattle.partial_bytes.specs.Written.{lead, head_of, head_len, part_len, parts_len, payload_len, part_spelled, parts_section, relocs_at, relocs_in, part_entries, front_of, linking_of, linking_section, code_at, data_at, written, part_fits}
 use Rattle.partial_bytes.proofs.Fitting.{emptied_long, head_long, part_long, parts_judged}
 use Rattle.std.proofs.lemmas.Bool.{and_parts}
 use Rattle.std.proofs.lemmas.List.Sums.{sum_by-drop_more}
@@ -26,6 +27,12 @@ some n x y = let none : (suc n == 0) ≡ false = search rules in rw none refl
 pub flat_told : {A B : Type 0} (item : B → List ℕ) (told : A → B) (xs : List A) → flat_map (λ x. item (told x)) xs ≡ flat_map item (map told xs)
 flat_told item told [] = refl
 flat_told item told (x ∷ xs) = ap (λ zs. item (told x) ++ zs) (flat_told item told xs)
+
+-- the entries of a part are those of its relocations
+pub entries_made : (from : ℕ) (p : Part) → part_entries from p ≡ flat_map reloc (map {A = Reloc} {B = Reloc} (later from) (relocs_of p))
+entries_made from p =
+    flat_told (λ x. reloc (later from x)) (reloc_by p.numbers.now) p.named.now
+    ∙ flat_told reloc (later from) (relocs_of p)
 
 vector_told : {A B : Type 0} (item : B → List ℕ) (told : A → B) (xs : List A) → vector (λ x. item (told x)) xs ≡ vector item (map told xs)
 vector_told item told xs =
@@ -79,8 +86,8 @@ unfolding whole
 parts_told kind [] h = refl
 parts_told kind (p ∷ ps) h =
     let fits = and_parts (part_fits p) (list_all part_fits ps) h in
-    let head = head_told kind p.bytes.now (emptied p.relocs.now p.bytes.now) (emptied_long p.relocs.now p.bytes.now fits.0) in
-    λ i. (head i ++ emptied p.relocs.now p.bytes.now) ++ parts_told kind ps fits.1 i
+    let head = head_told kind p.bytes.now (emptied (relocs_of p) p.bytes.now) (emptied_long (relocs_of p) p.bytes.now fits.0) in
+    λ i. (head i ++ emptied (relocs_of p) p.bytes.now) ++ parts_told kind ps fits.1 i
 
 sum_cons : (kind : PartKind) (p : Part) (ps : List Part) → parts_len kind (p ∷ ps) ≡ part_len kind p + parts_len kind ps
 sum_cons kind p ps = sum_by-drop_more (part_len kind) (p ∷ ps) 0 p (omega arith)
@@ -122,12 +129,12 @@ relocs_told : (kind : PartKind) (at : ℕ) (ps : List Part) → list_all part_fi
 relocs_told kind at [] h = refl
 relocs_told kind at (p ∷ ps) h =
     let fits = and_parts (part_fits p) (list_all part_fits ps) h in
-    let e = emptied p.relocs.now p.bytes.now in
-    let long : length p.bytes.now ≡ length e = sym (emptied_long p.relocs.now p.bytes.now fits.0) in
+    let e = emptied (relocs_of p) p.bytes.now in
+    let long : length p.bytes.now ≡ length e = sym (emptied_long (relocs_of p) p.bytes.now fits.0) in
     let number = ap (λ n. length (u32 n)) long in
     let head : head_len kind p ≡ length (heads kind e) = omega (arith, head_long kind e, number, ap (λ (zs : List ℕ). length zs) (heads_are kind e)) in
-    (λ i. map {A = Reloc} {B = Reloc} (later (at + head i)) p.relocs.now ++ relocs_at kind (at + head i + long i) ps)
-    ∙ ap (λ (zs : List Reloc). map {A = Reloc} {B = Reloc} (later (at + length (heads kind e))) p.relocs.now ++ zs) (relocs_told kind (at + length (heads kind e) + length e) ps fits.1)
+    (λ i. map {A = Reloc} {B = Reloc} (later (at + head i)) (relocs_of p) ++ relocs_at kind (at + head i + long i) ps)
+    ∙ ap (λ (zs : List Reloc). map {A = Reloc} {B = Reloc} (later (at + length (heads kind e))) (relocs_of p) ++ zs) (relocs_told kind (at + length (heads kind e) + length e) ps fits.1)
 
 section_told_relocs : (kind : PartKind) (ps : List Part) → list_all part_fits ps ≡ true → relocs_in kind ps ≡ section_relocs (heads kind) (map part_told ps)
 section_told_relocs kind ps h =

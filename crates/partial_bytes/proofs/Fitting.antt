@@ -9,12 +9,16 @@ use Rattle.reloc_section.specs.declared.entry.Reloc.{Reloc}
 use Rattle.reloc_apply.specs.Apart.{LiesIn, size_of}
 use Rattle.reloc_apply.proofs.Over.{long_all}
 use Rattle.link_rules.specs.Values.{form_of}
+use Rattle.partial_rules.specs.Relocatable.{reloc, later}
+use Rattle.link_program.specs.declared.named.Named.{Named}
+use Rattle.partial_bytes.specs.declared.tree.Numbers.{Numbers}
 use Rattle.partial_bytes.specs.declared.tree.Part.{Part}
 use Rattle.partial_bytes.specs.declared.tree.Tree.{Tree}
 use Rattle.partial_bytes.specs.declared.part.PartKind.{PartKind}
+use Rattle.partial_bytes.specs.Relocs.{reloc_by, relocs_by, relocs_of}
 use Rattle.partial_bytes.specs.Told.{empty_of, emptied, PartFits, TreeFits}
 use Rattle.partial_bytes.specs.Pieces.{entry_fits}
-use Rattle.partial_bytes.specs.Written.{head_of, lead, part_len, part_spelled, window_fits, part_fits}
+use Rattle.partial_bytes.specs.Written.{head_of, lead, part_len, part_spelled, entries, window_fits, part_fits}
 
 -- ---- windows in so many bytes, judged and known
 
@@ -34,7 +38,7 @@ judged len (x ∷ xs) h =
     is_le a b le = search rules
 
 pub part_judged : (p : Part) → PartFits p → part_fits p ≡ true
-part_judged p h = judged (length p.bytes.now) p.relocs.now (recursion_from_All (LiesIn (length p.bytes.now)) (map empty_of p.relocs.now) h)
+part_judged p h = judged (length p.bytes.now) (relocs_of p) (recursion_from_All (LiesIn (length p.bytes.now)) (map empty_of (relocs_of p)) h)
 
 pub parts_judged : (ps : List Part) → All PartFits ps → list_all part_fits ps ≡ true
 parts_judged ps h = by ps (recursion_from_All PartFits ps h)
@@ -42,6 +46,11 @@ parts_judged ps h = by ps (recursion_from_All PartFits ps h)
     by : (ps : List Part) → AllByRecursion PartFits ps → list_all part_fits ps ≡ true
     by [] h = refl
     by (p ∷ ps) h = ap (λ b. b && list_all part_fits ps) (part_judged p h.0) ∙ by ps h.1
+
+-- what is looked at of each window
+pub fits_made : (len : ℕ) (n : Numbers) (xs : List Named) → list_all (λ x. window_fits len (reloc_by n x)) xs ≡ list_all (window_fits len) (relocs_by n xs)
+fits_made len n [] = refl
+fits_made len n (x ∷ xs) = ap (λ b. window_fits len (reloc_by n x) && b) (fits_made len n xs)
 
 -- ---- how long
 
@@ -53,7 +62,7 @@ head_long kind bytes = length-append (lead kind) (u32 (length bytes))
 
 pub part_long : (kind : PartKind) (p : Part) → part_fits p ≡ true → length (part_spelled kind p) ≡ part_len kind p
 part_long kind p h =
-    omega (arith, length-append (head_of kind p.bytes.now) (emptied p.relocs.now p.bytes.now), head_long kind p.bytes.now, emptied_long p.relocs.now p.bytes.now h)
+    omega (arith, length-append (head_of kind p.bytes.now) (emptied (relocs_of p) p.bytes.now), head_long kind p.bytes.now, emptied_long (relocs_of p) p.bytes.now h)
 
 -- ---- places of relocations
 
@@ -76,6 +85,12 @@ item_room f (x ∷ xs) zero d lt = omega (arith, length-append (f x) (flat_map f
 item_room f (x ∷ xs) (suc i) d lt =
     omega (arith, item_room f xs i d (omega (arith, lt)), length-append (f x) (flat_map f xs), length-append (f x) (flat_map f (take i xs)))
 
+-- the same of the entries of what windows name
+pub entry_room : (from : ℕ) (n : Numbers) (xs : List Named) (i : ℕ) (d : Named) → i < length xs → (r : Reloc) → r ≡ reloc_by n (get_or xs i d)
+    → length (entries from n (take i xs)) + length (reloc (later from r)) ≤ length (entries from n xs)
+entry_room from n xs i d lt r is =
+    omega (arith, ap (λ x. length (reloc (later from x))) is, item_room (λ x. reloc (later from (reloc_by n x))) xs i d lt)
+
 -- ---- all parts
 
 parts_known : (ps : List Part) → list_all part_fits ps ≡ true → All PartFits ps
@@ -85,7 +100,7 @@ parts_known ps h = All-from_recursion PartFits ps (by ps h)
     by [] h = tt
     by (p ∷ ps) h =
         let q = and_parts (part_fits p) (list_all part_fits ps) h in
-        (All-from_recursion (LiesIn (length p.bytes.now)) (map empty_of p.relocs.now) (all_of (length p.bytes.now) p.relocs.now q.0), by ps q.1)
+        (All-from_recursion (LiesIn (length p.bytes.now)) (map empty_of (relocs_of p)) (all_of (length p.bytes.now) (relocs_of p) q.0), by ps q.1)
 
 pub tree_known : (t : Tree) → list_all part_fits t.bodies.now ≡ true → list_all part_fits t.segments.now ≡ true → TreeFits t
 tree_known t bodies segments = record { bodies = parts_known t.bodies.now bodies; segments = parts_known t.segments.now segments }

@@ -16,8 +16,9 @@ use Rattle.partial_bytes.specs.declared.part.PartKind.TheVariants.{Body, Segment
 use Rattle.partial_bytes.specs.declared.pieces.Piece.{Piece}
 use Rattle.partial_bytes.specs.declared.pieces.Piece.TheVariants.{Head, Part, Relocs}
 use Rattle.partial_bytes.specs.Pieces.{reloc_head, piece_bytes, pieces_bytes, part_pieces, reloc_pieces, fits, Fit}
-use Rattle.partial_bytes.specs.Written.{head_len, payload_len, part_spelled, parts_section, relocs_at, relocs_in, part_fits, entries, front_of, linking_section, code_at, data_at, written}
-use Rattle.partial_bytes.proofs.Bridge.{flat_told}
+use Rattle.partial_bytes.specs.Relocs.{relocs_of}
+use Rattle.partial_bytes.specs.Written.{head_len, payload_len, part_spelled, parts_section, relocs_at, relocs_in, part_fits, part_entries, front_of, linking_section, code_at, data_at, written}
+use Rattle.partial_bytes.proofs.Bridge.{flat_told, entries_made}
 use Rattle.partial_bytes.proofs.Fitting.{entries_fit}
 
 -- ---- bytes of lists of pieces
@@ -38,8 +39,8 @@ parts_bytes kind ps = sym (flat_told piece_bytes (Part kind) ps)
 relocs_bytes : (kind : PartKind) (at : ℕ) (ps : List Lent) → pieces_bytes (reloc_pieces kind at ps) ≡ flat_map reloc (relocs_at kind at ps)
 relocs_bytes kind at [] = refl
 relocs_bytes kind at (p ∷ ps) =
-    (λ i. flat_told reloc (later (at + head_len kind p)) p.relocs.now i ++ relocs_bytes kind (at + head_len kind p + length p.bytes.now) ps i)
-    ∙ sym (flat_map-append reloc (map {A = Reloc} {B = Reloc} (later (at + head_len kind p)) p.relocs.now) (relocs_at kind (at + head_len kind p + length p.bytes.now) ps))
+    (λ i. entries_made (at + head_len kind p) p i ++ relocs_bytes kind (at + head_len kind p + length p.bytes.now) ps i)
+    ∙ sym (flat_map-append reloc (map {A = Reloc} {B = Reloc} (later (at + head_len kind p)) (relocs_of p)) (relocs_at kind (at + head_len kind p + length p.bytes.now) ps))
 
 -- ---- fitting lists of pieces
 
@@ -150,15 +151,15 @@ all_bytes t q l code_name data_name code later_code a b c d e f front linking na
 -- ---- relocations of one part more
 
 pub entries_more : (kind : PartKind) (ps : List Lent) (i : ℕ) (d : Lent) → i < length ps → (qs rs whole : List Piece) (at from end len : ℕ)
-    → from ≡ at + head_len kind (get_or ps i d) → end ≡ from + length (get_or ps i d).bytes.now → len ≡ length (entries from (get_or ps i d).relocs.now)
-    → rs ≡ qs ++ Relocs from len (get_or ps i d).relocs ∷ [] → qs ++ reloc_pieces kind at (drop i ps) ≡ whole → rs ++ reloc_pieces kind end (drop (i + 1) ps) ≡ whole
+    → from ≡ at + head_len kind (get_or ps i d) → end ≡ from + length (get_or ps i d).bytes.now → len ≡ length (part_entries from (get_or ps i d))
+    → rs ≡ qs ++ Relocs from len (get_or ps i d) ∷ [] → qs ++ reloc_pieces kind at (drop i ps) ≡ whole → rs ++ reloc_pieces kind end (drop (i + 1) ps) ≡ whole
 entries_more kind ps i d lt qs rs whole at from end len is next long put so_far =
     let p = get_or ps i d in
-    let long_of : ℕ → ℕ = λ n. length (entries n p.relocs.now) in
+    let long_of : ℕ → ℕ = λ n. length (part_entries n p) in
     (λ j. put j ++ reloc_pieces kind (next j) (drop (i + 1) ps))
-    ∙ ap (λ n. (qs ++ Relocs from n p.relocs ∷ []) ++ reloc_pieces kind (from + length p.bytes.now) (drop (i + 1) ps)) long
-    ∙ (λ j. (qs ++ Relocs (is j) (long_of (is j)) p.relocs ∷ []) ++ reloc_pieces kind (is j + length p.bytes.now) (drop (i + 1) ps))
-    ∙ behind qs (Relocs (at + head_len kind p) (long_of (at + head_len kind p)) p.relocs) (reloc_pieces kind (at + head_len kind p + length p.bytes.now) (drop (i + 1) ps))
+    ∙ ap (λ n. (qs ++ Relocs from n p ∷ []) ++ reloc_pieces kind (from + length p.bytes.now) (drop (i + 1) ps)) long
+    ∙ (λ j. (qs ++ Relocs (is j) (long_of (is j)) p ∷ []) ++ reloc_pieces kind (is j + length p.bytes.now) (drop (i + 1) ps))
+    ∙ behind qs (Relocs (at + head_len kind p) (long_of (at + head_len kind p)) p) (reloc_pieces kind (at + head_len kind p + length p.bytes.now) (drop (i + 1) ps))
     ∙ sym (at_drop_more (λ (xs : List Lent). qs ++ reloc_pieces kind at xs) ps i d lt)
     ∙ so_far
   where
@@ -166,14 +167,14 @@ entries_more kind ps i d lt qs rs whole at from end len is next long put so_far 
     behind xs y zs = simp append_assoc
 
 pub entries_fit_more : (ps : List Lent) (i : ℕ) (d : Lent) → i < length ps → (qs rs : List Piece) (from end len : ℕ)
-    → end ≡ from + length (get_or ps i d).bytes.now → end < 2 ^ 32 → len ≡ length (entries from (get_or ps i d).relocs.now)
-    → rs ≡ qs ++ Relocs from len (get_or ps i d).relocs ∷ []
+    → end ≡ from + length (get_or ps i d).bytes.now → end < 2 ^ 32 → len ≡ length (part_entries from (get_or ps i d))
+    → rs ≡ qs ++ Relocs from len (get_or ps i d) ∷ []
     → list_all part_fits (drop i ps) ≡ true → Fit qs → Fit rs × (list_all part_fits (drop (i + 1) ps) ≡ true)
 entries_fit_more ps i d lt qs rs from end len next low long put h k =
     let p = get_or ps i d in
     let here : list_all part_fits (p ∷ drop (i + 1) ps) ≡ true = subst (λ (zs : List Lent). list_all part_fits zs ≡ true) (at_drop_more (λ (xs : List Lent). xs) ps i d lt) h in
     let both = and_parts (part_fits p) (list_all part_fits (drop (i + 1) ps)) here in
-    let low_ones = entries_fit p.relocs.now from (length p.bytes.now) both.0 (omega (arith, next, low)) in
-    let entry : fits (Relocs from len p.relocs) ≡ true =
-    ap (λ b. b && (len == length (entries from p.relocs.now))) low_ones ∙ eq-eqb len (length (entries from p.relocs.now)) long in
-    (subst Fit (sym put) (one_fit qs (Relocs from len p.relocs) k entry), both.1)
+    let low_ones = entries_fit (relocs_of p) from (length p.bytes.now) both.0 (omega (arith, next, low)) in
+    let entry : fits (Relocs from len p) ≡ true =
+    ap (λ b. b && (len == length (part_entries from p))) low_ones ∙ eq-eqb len (length (part_entries from p)) long in
+    (subst Fit (sym put) (one_fit qs (Relocs from len p) k entry), both.1)

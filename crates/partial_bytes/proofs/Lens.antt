@@ -26,13 +26,13 @@ module _ (kind : PartKind) (ps : List Part) (i : ℕ) (d : Part) (lt : i < lengt
   stop = omega (arith, begins, ends)
 
   pub lens_more : (lens : List ℕ) → drop i lens ≡ entry_lens kind at (drop i ps)
-      → (get_or lens i 0 ≡ entries_len from (get_or ps i d).relocs.now) × (drop (i + 1) lens ≡ entry_lens kind end (drop (i + 1) ps))
+      → (get_or lens i 0 ≡ entries_len from (get_or ps i d)) × (drop (i + 1) lens ≡ entry_lens kind end (drop (i + 1) ps))
   lens_more lens so_far =
       let p : Part = get_or ps i d in
       let rest : List Part = drop (i + 1) ps in
       let here : drop i lens ≡ entry_lens kind at (p ∷ rest) = so_far ∙ at_drop_more (λ (xs : List Part). entry_lens kind at xs) ps i d lt in
-      let both = next lens i (entries_len (at + head_len kind p) p.relocs.now) (entry_lens kind (at + head_len kind p + length p.bytes.now) rest) here in (
-        both.0 ∙ ap (λ n. entries_len n p.relocs.now) (sym begins),
+      let both = next lens i (entries_len (at + head_len kind p) p) (entry_lens kind (at + head_len kind p + length p.bytes.now) rest) here in (
+        both.0 ∙ ap (λ n. entries_len n p) (sym begins),
         both.1 ∙ ap (λ n. entry_lens kind n rest) stop,
       )
 
@@ -65,5 +65,5 @@ lens_told kind at (p ∷ ps) =
     let from : ℕ = at + head_len kind p in
     let froms : List ℕ = froms_at kind (from + length p.bytes.now) ps in
     let later : (k : ℕ) → len_there (p ∷ ps) (from ∷ froms) (k + 1) ≡ len_there ps froms k = λ k. let next : k + 1 ≡ suc k = omega arith in ap (λ (n : ℕ). len_there (p ∷ ps) (from ∷ froms) n) next in
-    ap (λ (ns : List ℕ). entries_len from p.relocs.now ∷ ns)
+    ap (λ (ns : List ℕ). entries_len from p ∷ ns)
     (shifted (len_there (p ∷ ps) (from ∷ froms)) (len_there ps froms) 0 1 (length ps) later ∙ lens_told kind (from + length p.bytes.now) ps)

@@ -7,3 +7,4 @@ pub mod Adding
 pub mod Laid
 pub mod Lens
 pub mod Fronts
+pub mod Shorts

@@ -49,7 +49,7 @@ piece_long (Head id size count) h = refl
 piece_long (Part kind p) h = part_long kind p h
 piece_long (Linking t) h = refl
 piece_long (RelocHead name size target count) h = refl
-piece_long (Relocs from len relocs) h = refl
+piece_long (Relocs from len p) h = refl
 
 -- ---- one piece more
 

@@ -12,6 +12,7 @@ use Rattle.link_rules.specs.Values.{part_bytes}
 use Rattle.partial_rules.specs.Relocatable.{Windowed}
 use Rattle.partial_rules.specs.Partial.{empty_window, named_reloc, windowed}
 use Rattle.partial_bytes.specs.declared.tree.Part.{Part}
+use Rattle.partial_bytes.specs.Relocs.{relocs_of}
 use Rattle.partial_bytes.specs.Told.{empty_of, part_with, part_told, AreRows, RowsAreWindowed, RowsFit, PartFits, WindowsLie}
 
 -- ---- one part
@@ -25,13 +26,13 @@ part_windowed : (p : Program) (part : ProgramPart) → part_with (map (named_rel
 part_windowed p part =
     ap (λ (zs : List Patch). record { bytes = filled zs (part_bytes p part); relocs = map (named_reloc p) part.named }) (windows_told p part.named)
 
-module _ (p : Program) (part : ProgramPart) (row : Part) (relocs : row.relocs.now ≡ map (named_reloc p) part.named) (bytes : row.bytes.now ≡ part_bytes p part) where
+module _ (p : Program) (part : ProgramPart) (row : Part) (relocs : (relocs_of row) ≡ map (named_reloc p) part.named) (bytes : row.bytes.now ≡ part_bytes p part) where
   row_windowed : part_told row ≡ windowed p part
   row_windowed = (λ i. part_with (relocs i) (bytes i)) ∙ part_windowed p part
 
   row_fits : WindowsLie p part → PartFits row
   row_fits lie =
-      let windows : map empty_of row.relocs.now ≡ map empty_window part.named = ap (λ (xs : List Reloc). map empty_of xs) relocs ∙ windows_told p part.named in
+      let windows : map empty_of (relocs_of row) ≡ map empty_window part.named = ap (λ (xs : List Reloc). map empty_of xs) relocs ∙ windows_told p part.named in
       subst (λ (ws : List Patch). All (LiesIn (length row.bytes.now)) ws) (sym windows)
       (subst (λ (zs : List ℕ). All (LiesIn (length zs)) (map empty_window part.named)) (sym bytes) lie)
 

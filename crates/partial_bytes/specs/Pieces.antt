@@ -9,7 +9,8 @@ use Rattle.partial_bytes.specs.declared.tree.Part.{Part as Lent}
 use Rattle.partial_bytes.specs.declared.part.PartKind.{PartKind}
 use Rattle.partial_bytes.specs.declared.pieces.Piece.{Piece}
 use Rattle.partial_bytes.specs.declared.pieces.Piece.TheVariants.{Front, Head, Part, Linking, RelocHead, Relocs}
-use Rattle.partial_bytes.specs.Written.{head_len, part_len, part_spelled, part_fits, entries, front_of, linking_section}
+use Rattle.partial_bytes.specs.Relocs.{relocs_of}
+use Rattle.partial_bytes.specs.Written.{head_len, part_len, part_spelled, part_fits, part_entries, front_of, linking_section}
 
 -- What stands before parts: the number of the section, the size of its payload, and how many there are.
 abbrev pub head_bytes : ℕ → ℕ → ℕ → List ℕ
@@ -25,7 +26,7 @@ piece_bytes (Head id size count) = head_bytes id size count
 piece_bytes (Part kind p) = part_spelled kind p
 piece_bytes (Linking t) = linking_section t.now
 piece_bytes (RelocHead name size target count) = reloc_head name.now size target count
-piece_bytes (Relocs from len relocs) = entries from relocs.now
+piece_bytes (Relocs from len p) = part_entries from p
 
 abbrev pub pieces_bytes : List Piece → List ℕ
 pieces_bytes qs = flat_map piece_bytes qs
@@ -37,7 +38,7 @@ piece_len (Head id size count) = length (head_bytes id size count)
 piece_len (Part kind p) = part_len kind p
 piece_len (Linking t) = length (linking_section t.now)
 piece_len (RelocHead name size target count) = length (reloc_head name.now size target count)
-piece_len (Relocs from len relocs) = length (entries from relocs.now)
+piece_len (Relocs from len p) = length (part_entries from p)
 
 -- Whether a relocation's place is a number of 32 bits.
 abbrev pub entry_fits : ℕ → Reloc → Bool
@@ -50,7 +51,7 @@ fits (Head id size count) = true
 fits (Part kind p) = part_fits p
 fits (Linking t) = true
 fits (RelocHead name size target count) = true
-fits (Relocs from len relocs) = list_all (entry_fits from) relocs.now && (len == length (entries from relocs.now))
+fits (Relocs from len p) = list_all (entry_fits from) (relocs_of p) && (len == length (part_entries from p))
 
 abbrev pub Fit : List Piece → Type 0
 Fit qs = list_all fits qs ≡ true
@@ -72,7 +73,7 @@ part_pieces kind ps = map (Part kind) ps
 abbrev pub reloc_pieces : PartKind → ℕ → List Lent → List Piece
 reloc_pieces kind at [] = []
 reloc_pieces kind at (p ∷ ps) =
-    Relocs (at + head_len kind p) (length (entries (at + head_len kind p) p.relocs.now)) p.relocs ∷ reloc_pieces kind (at + head_len kind p + length p.bytes.now) ps
+    Relocs (at + head_len kind p) (length (part_entries (at + head_len kind p) p)) p ∷ reloc_pieces kind (at + head_len kind p + length p.bytes.now) ps
 
 -- ---- runs
 

@@ -17,6 +17,7 @@ use Rattle.partial_bytes.specs.declared.tree.InfoRow.{InfoRow}
 use Rattle.partial_bytes.specs.declared.tree.SymbolRow.{SymbolRow}
 use Rattle.partial_bytes.specs.declared.tree.GroupRow.{GroupRow}
 use Rattle.partial_bytes.specs.declared.tree.Tree.{Tree}
+use Rattle.partial_bytes.specs.Relocs.{relocs_of}
 
 -- The window of a relocation, empty: it holds 0 in the form that follows from the relocation's type.
 abbrev pub empty_of : Reloc → Patch
@@ -30,7 +31,7 @@ abbrev pub part_with : List Reloc → List ℕ → Windowed
 part_with relocs bytes = record { bytes = emptied relocs bytes; relocs = relocs }
 
 abbrev pub part_told : Part → Windowed
-part_told p = part_with p.relocs.now p.bytes.now
+part_told p = part_with (relocs_of p) p.bytes.now
 
 abbrev pub global_told : GlobalRow → SpelledGlobal
 global_told g = record { kind = g.kind; value = g.value; bytes = g.bytes.now }
@@ -61,7 +62,7 @@ tree_told t = record {
 
 -- The window of each relocation lies in the part.
 abbrev pub PartFits : Part → Type 0
-PartFits p = All (LiesIn (length p.bytes.now)) (map empty_of p.relocs.now)
+PartFits p = All (LiesIn (length p.bytes.now)) (map empty_of (relocs_of p))
 
 -- The windows of all parts do.
 pub record TreeFits (t : Tree) : Type 0 where
@@ -72,7 +73,7 @@ pub record TreeFits (t : Tree) : Type 0 where
 
 -- The rows of parts: their relocations are those that the definition makes of what the parts name, and their bytes are the parts'.
 pub record AreRows (p : Program) (parts : List ProgramPart) (rows : List Part) : Type 0 where
-  pub relocs : map (λ row. row.relocs.now) rows ≡ map (λ part. map (named_reloc p) part.named) parts
+  pub relocs : map (λ row. (relocs_of row)) rows ≡ map (λ part. map (named_reloc p) part.named) parts
   pub bytes : map (λ row. row.bytes.now) rows ≡ map (part_bytes p) parts
 
 -- They stand for the parts with empty windows.

@@ -7,10 +7,13 @@ use Rattle.reloc_apply.specs.Apart.{size_of}
 use Rattle.link_rules.specs.Values.{form_of}
 use Rattle.image_emit.specs.Bytes.{header, section, sized, vector, func_type, import_entry, export}
 use Rattle.partial_rules.specs.Relocatable.{init, reloc, later, custom, reloc_section, present}
+use Rattle.link_program.specs.declared.named.Named.{Named}
+use Rattle.partial_bytes.specs.declared.tree.Numbers.{Numbers}
 use Rattle.partial_bytes.specs.declared.tree.Part.{Part}
 use Rattle.partial_bytes.specs.declared.tree.Tree.{Tree}
 use Rattle.partial_bytes.specs.declared.part.PartKind.{PartKind}
 use Rattle.partial_bytes.specs.declared.part.PartKind.TheVariants.{Body, Segment}
+use Rattle.partial_bytes.specs.Relocs.{reloc_by, relocs_of}
 use Rattle.partial_bytes.specs.Told.{emptied}
 use Rattle.partial_bytes.specs.Items.{global_row, info_row, symbol_row, group_row}
 
@@ -26,7 +29,7 @@ abbrev pub head_of : PartKind → List ℕ → List ℕ
 head_of kind bytes = lead kind ++ u32 (length bytes)
 
 abbrev pub part_spelled : PartKind → Part → List ℕ
-part_spelled kind p = head_of kind p.bytes.now ++ emptied p.relocs.now p.bytes.now
+part_spelled kind p = head_of kind p.bytes.now ++ emptied (relocs_of p) p.bytes.now
 
 -- How long what leads to a part is, and the part with it.
 abbrev pub head_len : PartKind → Part → ℕ
@@ -53,14 +56,17 @@ parts_section id kind (p ∷ ps) =
 abbrev pub relocs_at : PartKind → ℕ → List Part → List Reloc
 relocs_at kind at [] = []
 relocs_at kind at (p ∷ ps) =
-    map {A = Reloc} {B = Reloc} (later (at + head_len kind p)) p.relocs.now ++ relocs_at kind (at + head_len kind p + length p.bytes.now) ps
+    map {A = Reloc} {B = Reloc} (later (at + head_len kind p)) (relocs_of p) ++ relocs_at kind (at + head_len kind p + length p.bytes.now) ps
 
 abbrev pub relocs_in : PartKind → List Part → List Reloc
 relocs_in kind ps = relocs_at kind (length (u32 (length ps))) ps
 
--- The entries of relocations, so much later.
-abbrev pub entries : ℕ → List Reloc → List ℕ
-entries from relocs = flat_map (λ x. reloc (later from x)) relocs
+-- The entries of what windows name, so much later.
+abbrev pub entries : ℕ → Numbers → List Named → List ℕ
+entries from n named = flat_map (λ x. reloc (later from (reloc_by n x))) named
+
+abbrev pub part_entries : ℕ → Part → List ℕ
+part_entries from p = entries from p.numbers.now p.named.now
 
 -- ---- what is no part
 
@@ -110,4 +116,4 @@ abbrev pub window_fits : ℕ → Reloc → Bool
 window_fits len x = nat_le (x.offset + size_of (form_of x.kind)) len
 
 abbrev pub part_fits : Part → Bool
-part_fits p = list_all (window_fits (length p.bytes.now)) p.relocs.now
+part_fits p = list_all (window_fits (length p.bytes.now)) (relocs_of p)

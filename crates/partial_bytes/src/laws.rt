@@ -4,7 +4,6 @@ ghost use Rattle.partial_bytes.specs.Told.{RowsAreWindowed, RowsFit};
 /// Parts whose relocations are those that the definition makes of what parts of a program name, and
 /// whose bytes are theirs, stand for those with empty windows. Where these windows lie in the parts,
 /// they meet what is asked of a tree.
-#[tactic(auto, using(crate::proofs::Windowed::rows_windowed, crate::proofs::Windowed::rows_fit))]
 pub fn rows_are_windowed()
     ensures told { RowsAreWindowed }
     ensures fit { RowsFit }

@@ -74,7 +74,7 @@ fn push_entries<'a>(
         out.push(Piece::Relocs {
             from: from as u32,
             len,
-            relocs: part.relocs,
+            part: *part,
         })?;
         at = u64::from(end);
     }
@@ -112,6 +112,12 @@ fn push_relocs<'a>(
     Ok(())
 }
 
+/// How many pieces there are at most: two for each part, and those that stand before them.
+fn most_pieces(tree: &Tree<'_>) -> usize {
+    let parts = tree.bodies.len().saturating_add(tree.segments.len());
+    parts.saturating_add(parts).saturating_add(6)
+}
+
 /// The pieces of the object.
 pub fn pieces_of<'a>(
     alloc: Global,
@@ -125,7 +131,7 @@ pub fn pieces_of<'a>(
     ensures bytes { IfOk result (λ pieces. pieces_bytes pieces ≡ written tree.now) }
     ensures fit { IfOk result (λ pieces. list_all part_fits tree.now.bodies.now ≡ true → list_all part_fits tree.now.segments.now ≡ true → Fit pieces) }
 {
-    let mut out = Seq::new(alloc);
+    let mut out = Seq::with_room(alloc, most_pieces(tree))?;
     let code = code_at(tree);
     let data = code + present(tree.bodies);
     out.push(Piece::Front(tree))?;

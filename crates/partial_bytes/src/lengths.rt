@@ -82,7 +82,7 @@ impl Measuring<'_> {
         ensures { result ≡ len_there self.now.parts.now self.now.froms.now number }
     {
         match self.parts.get(number) {
-            Some(part) => entries_size(from_at(self.froms, number), part.relocs),
+            Some(part) => entries_size(from_at(self.froms, number), part),
             None => 0,
         }
     }

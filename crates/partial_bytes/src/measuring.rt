@@ -63,7 +63,7 @@ fn section_size(
         let from = sum(at, head_size(kind, part))?;
         let size = exact(len_at(lens, number))?;
         entries = sum(entries, size)?;
-        count = sum(count, part.relocs.len() as u64)?;
+        count = sum(count, part.named.len() as u64)?;
         at = sum(from, part.bytes.len() as u64)?;
     }
     Ok(SectionSize {

@@ -5,14 +5,17 @@ ghost use Rattle.image_emit.specs.Put.{IsPut, HasRoom};
 ghost use Rattle.reloc_apply.specs.Windows.{over, spelled};
 ghost use Rattle.reloc_apply.specs.Apart.{size_of};
 ghost use Rattle.link_rules.specs.Values.{form_of};
+ghost use Rattle.partial_bytes.specs.Relocs.{relocs_by, relocs_of};
 ghost use Rattle.partial_bytes.specs.Told.{emptied};
 ghost use Rattle.partial_bytes.specs.Written.{head_of, lead, head_len, part_len, part_spelled, window_fits, part_fits};
 
-use crate::tree::Part;
+use crate::entries::reloc_of;
+use crate::tree::{Numbers, Part};
 use image_emit::put::{put_bytes, put_number, u32_size};
 use leb_codec::{put_s32_5, put_u32_5};
+use link_program::Named;
 use reloc_apply::Form;
-use reloc_section::{Reloc, kinds};
+use reloc_section::kinds;
 
 /// What a part is.
 #[derive(Clone, Copy)]
@@ -70,13 +73,14 @@ fn empty_window(form: Form, at: usize, out: &mut [u8])
     }
 }
 
-/// Empties the windows of relocations.
-fn empty_windows(relocs: &[Reloc], out: &mut [u8])
-    requires { list_all (window_fits (length out.old)) relocs.now ≡ true }
-    ensures bytes { out.new ≡ emptied relocs.now out.old }
+/// Empties the windows of relocations, by what they name.
+fn empty_windows(numbers: &Numbers<'_>, named: &[Named], out: &mut [u8])
+    requires { list_all (window_fits (length out.old)) (relocs_by numbers.now named.now) ≡ true }
+    ensures bytes { out.new ≡ emptied (relocs_by numbers.now named.now) out.old }
     ensures len { length out.new ≡ length out.old }
 {
-    for x in relocs {
+    for x in named {
+        let x = reloc_of(numbers, *x);
         empty_window(form_of(x.kind), x.offset as usize, out);
     }
 }
@@ -85,11 +89,11 @@ fn empty_windows(relocs: &[Reloc], out: &mut [u8])
 fn put_emptied(part: &Part<'_>, out: &mut [u8])
     requires fits { part_fits part.now ≡ true }
     requires room { length out.old ≡ length part.now.bytes.now }
-    ensures bytes { out.new ≡ emptied part.now.relocs.now part.now.bytes.now }
+    ensures bytes { out.new ≡ emptied (relocs_of part.now) part.now.bytes.now }
     ensures len { length out.new ≡ length out.old }
 {
     out.copy_from_slice(part.bytes);
-    empty_windows(part.relocs, out);
+    empty_windows(part.numbers, part.named, out);
 }
 
 fn put_head(kind: PartKind, part: &Part<'_>, at: usize, out: &mut [u8]) -> usize

@@ -51,7 +51,7 @@ pub enum Piece<'a> {
         from: u32,
         /// How many bytes their entries have.
         len: u64,
-        relocs: &'a [Reloc],
+        part: Part<'a>,
     },
 }
 
@@ -149,7 +149,7 @@ fn put_piece(q: &Piece<'_>, at: usize, out: &mut [u8]) -> usize
             target,
             count,
         } => put_reloc_head(name, *size, *target, *count, at, out),
-        Piece::Relocs { from, relocs, .. } => put_entries(*from, relocs, at, out),
+        Piece::Relocs { from, part, .. } => put_entries(*from, part, at, out),
     }
 }
 

@@ -1,17 +1,28 @@
 //! The object as plain data: all lists are lent, and so are names and the bytes of files.
 
+use link_program::Named;
 use linking_section::{InitFunc, Member, SymbolKind};
-use reloc_section::Reloc;
 use wasm_module::Export;
 use wasm_types::{ConstExpr, FuncType, GlobalType, Import};
+
+/// By which relocations are made of what windows name.
+#[derive(Clone, Copy)]
+pub struct Numbers<'a> {
+    /// By the place of a symbol among those of all objects, the number of the one that stands for it; 0 where none does.
+    pub symbols: &'a [u32],
+    /// By the number of a type among the program's, its number in the object.
+    pub types: &'a [u32],
+}
 
 /// A body or a data segment.
 #[derive(Clone, Copy)]
 pub struct Part<'a> {
     /// Its bytes, as they stand in a file.
     pub bytes: &'a [u8],
-    /// Its relocations, by their places in it. Their windows are emptied where it is written.
-    pub relocs: &'a [Reloc],
+    /// What its windows name, by their places in it. They are emptied where it is written.
+    pub named: &'a [Named],
+    /// By which its relocations are made, each where it is written.
+    pub numbers: &'a Numbers<'a>,
 }
 
 /// A defined global.

@@ -2,11 +2,14 @@
 ghost use Rattle.std.specs.Prelude.{◌≡◌, true};
 ghost use Rattle.std.specs.List.{list_all};
 ghost use Rattle.reloc_apply.specs.Apart.{size_of};
+ghost use Rattle.partial_bytes.specs.Relocs.{reloc_by};
 ghost use Rattle.partial_bytes.specs.Told.{TreeFits};
 ghost use Rattle.partial_bytes.specs.Written.{window_fits, part_fits};
 
+use crate::entries::reloc_of;
 use crate::part::form_of;
-use crate::tree::{Part, Tree};
+use crate::tree::{Numbers, Part, Tree};
+use link_program::Named;
 use reloc_apply::Form;
 use reloc_section::Reloc;
 
@@ -25,11 +28,18 @@ fn window_fits(len: u64, x: &Reloc) -> bool
     u64::from(x.offset) + size_of(form_of(x.kind)) <= len
 }
 
+fn windows_fit(len: u64, numbers: &Numbers<'_>, named: &[Named]) -> bool
+    ensures { result ≡ list_all (λ x. window_fits len (reloc_by numbers.now x)) named.now }
+{
+    named
+        .iter()
+        .all(|x| window_fits(len, &reloc_of(numbers, *x)))
+}
+
 fn part_fits(part: &Part<'_>) -> bool
     ensures { result ≡ part_fits part.now }
 {
-    let len = part.bytes.len() as u64;
-    part.relocs.iter().all(|x| window_fits(len, x))
+    windows_fit(part.bytes.len() as u64, part.numbers, part.named)
 }
 
 fn parts_fit(parts: &[Part<'_>]) -> bool

@@ -1,11 +1,11 @@
 //! Bodies of more bytes than one worker is given: several runs are written at once.
 
 use crate::trees::is_written;
-use partial_bytes::{Part, Tree};
-use reloc_section::Reloc;
+use link_program::Named;
+use partial_bytes::{Numbers, Part, Tree};
 use std::alloc::Global;
 use std::thread::Threads;
-use test_kit::{joined, reloc};
+use test_kit::joined;
 use wl_base::{OutOfMemory, Seq};
 
 /// A tree of these bodies alone.
@@ -30,9 +30,18 @@ fn filled(alloc: Global, len: usize) -> Result<Seq<u8>, OutOfMemory> {
     Ok(Seq::from_vec(vec![in alloc; 0x3f; len]?))
 }
 
-/// Windows at both ends of 300,000 bytes, which name symbol 0, 1 or 2.
-fn ends(index: u32) -> [Reloc; 2] {
-    [reloc(0, 0, index, 0), reloc(4, 299_995, index, 7)]
+fn window(kind: u8, place: u32, symbol: u32, addend: i32) -> Named {
+    Named::Symbol {
+        kind,
+        place,
+        addend,
+        symbol,
+    }
+}
+
+/// Windows at both ends of 300,000 bytes, which name a symbol.
+fn ends(symbol: u32) -> [Named; 2] {
+    [window(0, 0, symbol, 0), window(4, 299_995, symbol, 7)]
 }
 
 /// What is written of three such bodies, in which the windows are empty.
@@ -58,20 +67,25 @@ fn wanted(alloc: Global, inner: &[u8]) -> Result<Seq<u8>, OutOfMemory> {
     joined(alloc, &parts)
 }
 
-fn part<'a>(bytes: &'a [u8], relocs: &'a [Reloc]) -> Part<'a> {
-    Part { bytes, relocs }
+fn part<'a>(bytes: &'a [u8], named: &'a [Named], numbers: &'a Numbers<'a>) -> Part<'a> {
+    Part {
+        bytes,
+        named,
+        numbers,
+    }
 }
 
 fn add_bodies<'a>(
     bodies: &mut Seq<Part<'a>>,
     bytes: &'a [u8],
-    first: &'a [Reloc],
-    second: &'a [Reloc],
-    third: &'a [Reloc],
+    numbers: &'a Numbers<'a>,
+    first: &'a [Named],
+    second: &'a [Named],
+    third: &'a [Named],
 ) -> Result<(), OutOfMemory> {
-    bodies.push(part(bytes, first))?;
-    bodies.push(part(bytes, second))?;
-    bodies.push(part(bytes, third))
+    bodies.push(part(bytes, first, numbers))?;
+    bodies.push(part(bytes, second, numbers))?;
+    bodies.push(part(bytes, third, numbers))
 }
 
 fn three_are_written<R: Threads + Sync>(
@@ -81,11 +95,16 @@ fn three_are_written<R: Threads + Sync>(
     inner: &[u8],
 ) -> Result<bool, OutOfMemory> {
     let wanted = wanted(alloc, inner)?;
-    let first = ends(0);
-    let second = ends(1);
-    let third = ends(2);
+    // The symbols at the places 1, 3 and 4 are those of the numbers 0, 1 and 2 in the object.
+    let numbers = Numbers {
+        symbols: &[0, 0, 0, 1, 2],
+        types: &[],
+    };
+    let first = ends(1);
+    let second = ends(3);
+    let third = ends(4);
     let mut bodies = Seq::new(alloc);
-    add_bodies(&mut bodies, all, &first, &second, &third)?;
+    add_bodies(&mut bodies, all, &numbers, &first, &second, &third)?;
     let tree = tree_of(bodies.as_slice());
     let holds = is_written(rt, alloc, &tree, wanted.as_slice());
     Ok(holds)

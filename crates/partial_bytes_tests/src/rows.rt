@@ -1,8 +1,9 @@
 //! What a tree lends, made of an object that was read.
 
+use link_program::Named;
 use linking_section::Member;
 use object_file::{FunctionRef, Group, Object, Operand, SegmentRef, SymbolRef};
-use partial_bytes::{GlobalRow, GroupRow, InfoRow, Part, SymbolRow};
+use partial_bytes::{GlobalRow, GroupRow, InfoRow, Numbers, Part, SymbolRow};
 use reloc_section::Reloc;
 use std::alloc::Global;
 use test_kit::func_type;
@@ -18,8 +19,12 @@ pub struct Owned {
     pub imports: Seq<Import>,
     pub functions: Seq<u32>,
     pub exports: Seq<Export>,
-    /// The relocations of each body.
-    pub relocs: Lists<Reloc>,
+    /// What the windows of each body name.
+    pub bodies: Lists<Named>,
+    /// And those of each data segment.
+    pub segments: Lists<Named>,
+    /// The numbers of symbols and of types: each its own place.
+    pub numbers: Seq<u32>,
 }
 
 /// What names other things.
@@ -79,47 +84,90 @@ fn add_imports(
     Ok(functions)
 }
 
-/// The relocation of an operand.
-fn reloc_of(operand: Operand) -> Option<Reloc> {
+/// What an operand names.
+fn named_of(operand: Operand) -> Option<Named> {
     match operand {
         Operand::Symbol {
             kind,
             place,
             symbol,
             addend,
-        } => Some(Reloc {
+        } => Some(Named::Symbol {
             kind,
-            offset: place,
-            index: symbol,
+            place,
             addend,
+            symbol,
         }),
-        Operand::TypeRef { place, index } => Some(Reloc {
-            kind: 6,
-            offset: place,
-            index,
-            addend: 0,
+        Operand::TypeRef { place, index } => Some(Named::Type {
+            place,
+            number: index,
         }),
         Operand::Number | Operand::TableZero => None,
     }
 }
 
-fn relocs_of(alloc: Global, function: FunctionRef<'_>) -> Result<Seq<Reloc>, OutOfMemory> {
-    let mut relocs = Seq::new(alloc);
+fn body_names(alloc: Global, function: FunctionRef<'_>) -> Result<Seq<Named>, OutOfMemory> {
+    let mut names = Seq::new(alloc);
     for reference in function.operands.references {
-        if let Some(x) = reloc_of(reference.operand()) {
-            relocs.push(x)?;
+        if let Some(x) = named_of(reference.operand()) {
+            names.push(x)?;
         }
     }
-    Ok(relocs)
+    Ok(names)
 }
 
-fn add_relocs(
-    relocs: &mut Lists<Reloc>,
+fn segment_names(alloc: Global, windows: &[Reloc]) -> Result<Seq<Named>, OutOfMemory> {
+    let mut names = Seq::new(alloc);
+    for x in windows {
+        names.push(Named::Symbol {
+            kind: x.kind,
+            place: x.offset,
+            addend: x.addend,
+            symbol: x.index,
+        })?;
+    }
+    Ok(names)
+}
+
+fn add_body(
+    bodies: &mut Lists<Named>,
     alloc: Global,
     function: FunctionRef<'_>,
 ) -> Result<(), OutOfMemory> {
-    let list = relocs_of(alloc, function)?;
-    relocs.push(list.as_slice())
+    let list = body_names(alloc, function)?;
+    bodies.push(list.as_slice())
+}
+
+fn add_segment(
+    segments: &mut Lists<Named>,
+    alloc: Global,
+    windows: &[Reloc],
+) -> Result<(), OutOfMemory> {
+    let list = segment_names(alloc, windows)?;
+    segments.push(list.as_slice())
+}
+
+fn add_segments(
+    segments: &mut Lists<Named>,
+    alloc: Global,
+    object: &Object,
+) -> Result<(), OutOfMemory> {
+    for at in 0..object.segments.len() {
+        let Some(segment) = object.segments.get(at) else {
+            return Ok(());
+        };
+        add_segment(segments, alloc, segment.windows)?;
+    }
+    Ok(())
+}
+
+/// As many numbers as there are symbols or types.
+fn add_numbers(numbers: &mut Seq<u32>, object: &Object) -> Result<(), OutOfMemory> {
+    let count = object.symbols.len().max(object.types.len());
+    for number in 0..count.min(1000) as u32 {
+        numbers.push(number)?;
+    }
+    Ok(())
 }
 
 fn add_export(
@@ -146,7 +194,9 @@ impl Owned {
             imports: Seq::new(alloc),
             functions: Seq::new(alloc),
             exports: Seq::new(alloc),
-            relocs: Lists::new(alloc),
+            bodies: Lists::new(alloc),
+            segments: Lists::new(alloc),
+            numbers: Seq::new(alloc),
         }
     }
 
@@ -157,7 +207,7 @@ impl Owned {
         index: u32,
     ) -> Result<(), OutOfMemory> {
         self.functions.push(function.type_index)?;
-        add_relocs(&mut self.relocs, alloc, function)?;
+        add_body(&mut self.bodies, alloc, function)?;
         add_export(&mut self.exports, alloc, function.export_name, index)
     }
 
@@ -181,7 +231,9 @@ impl Owned {
     fn fill(&mut self, alloc: Global, object: &Object) -> Result<(), OutOfMemory> {
         add_types(&mut self.types, alloc, object)?;
         let imported = add_imports(&mut self.imports, alloc, object)?;
-        self.add_functions(alloc, object, imported)
+        self.add_functions(alloc, object, imported)?;
+        add_segments(&mut self.segments, alloc, object)?;
+        add_numbers(&mut self.numbers, object)
     }
 }
 
@@ -255,7 +307,8 @@ impl<'a> Rows<'a> {
         &mut self,
         object: &Object,
         bytes: &'a [u8],
-        relocs: &'a Lists<Reloc>,
+        names: &'a Lists<Named>,
+        numbers: &'a Numbers<'a>,
     ) -> Result<(), OutOfMemory> {
         for at in 0..object.functions.len() {
             let Some(function) = object.functions.get(at) else {
@@ -263,20 +316,28 @@ impl<'a> Rows<'a> {
             };
             self.bodies.push(Part {
                 bytes: part_of(bytes, function.span),
-                relocs: relocs.row(at),
+                named: names.row(at),
+                numbers,
             })?;
         }
         Ok(())
     }
 
-    fn add_segments(&mut self, object: &'a Object, bytes: &'a [u8]) -> Result<(), OutOfMemory> {
+    fn add_segments(
+        &mut self,
+        object: &'a Object,
+        bytes: &'a [u8],
+        names: &'a Lists<Named>,
+        numbers: &'a Numbers<'a>,
+    ) -> Result<(), OutOfMemory> {
         for at in 0..object.segments.len() {
             let Some(segment) = object.segments.get(at) else {
                 return Ok(());
             };
             self.segments.push(Part {
                 bytes: part_of(bytes, segment.span),
-                relocs: segment.windows,
+                named: names.row(at),
+                numbers,
             })?;
             self.infos.push(info_row(segment))?;
         }
@@ -304,11 +365,12 @@ impl<'a> Rows<'a> {
         &mut self,
         object: &'a Object,
         bytes: &'a [u8],
-        relocs: &'a Lists<Reloc>,
+        owned: &'a Owned,
+        numbers: &'a Numbers<'a>,
     ) -> Result<(), OutOfMemory> {
         self.add_globals(object, bytes)?;
-        self.add_bodies(object, bytes, relocs)?;
-        self.add_segments(object, bytes)?;
+        self.add_bodies(object, bytes, &owned.bodies, numbers)?;
+        self.add_segments(object, bytes, &owned.segments, numbers)?;
         self.add_symbols(object)?;
         self.add_groups(object)
     }
@@ -319,9 +381,10 @@ pub fn rows_of<'a>(
     alloc: Global,
     object: &'a Object,
     bytes: &'a [u8],
-    relocs: &'a Lists<Reloc>,
+    owned: &'a Owned,
+    numbers: &'a Numbers<'a>,
 ) -> Result<Rows<'a>, OutOfMemory> {
     let mut rows = Rows::new(alloc);
-    rows.fill(object, bytes, relocs)?;
+    rows.fill(object, bytes, owned, numbers)?;
     Ok(rows)
 }

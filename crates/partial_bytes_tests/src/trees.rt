@@ -1,9 +1,9 @@
 //! Whether trees are written as bytes that are wanted.
 
 use crate::rows::{Owned, Rows, owned_of, rows_of};
+use link_program::Named;
 use object_file::{Object, read_object};
-use partial_bytes::{Tree, lie_in, measure, written};
-use reloc_section::Reloc;
+use partial_bytes::{Numbers, Tree, lie_in, measure, written};
 use std::alloc::Global;
 use std::thread::Threads;
 use wl_base::{OutOfMemory, Seq, Span};
@@ -69,11 +69,20 @@ fn window_size(kind: u8) -> usize {
     if kind == 2 || kind == 5 { 4 } else { 5 }
 }
 
+/// Where a window stands in its part, and how many bytes it has.
+fn window_of(named: Named) -> (usize, usize) {
+    match named {
+        Named::Symbol { kind, place, .. } => (place as usize, window_size(kind)),
+        Named::Type { place, .. } => (place as usize, 5),
+    }
+}
+
 /// Writes something into the windows of a part.
-fn spoil(bytes: &mut [u8], span: Span, relocs: &[Reloc]) {
-    for x in relocs {
-        let at = (span.start as usize).wrapping_add(x.offset as usize);
-        let end = at.wrapping_add(window_size(x.kind));
+fn spoil(bytes: &mut [u8], span: Span, named: &[Named]) {
+    for x in named {
+        let window = window_of(*x);
+        let at = (span.start as usize).wrapping_add(window.0);
+        let end = at.wrapping_add(window.1);
         if let Some(window) = bytes.get_mut(at..end) {
             window.fill(0xee);
         }
@@ -83,15 +92,15 @@ fn spoil(bytes: &mut [u8], span: Span, relocs: &[Reloc]) {
 fn spoil_bodies(bytes: &mut [u8], object: &Object, owned: &Owned) {
     for at in 0..object.functions.len() {
         if let Some(function) = object.functions.get(at) {
-            spoil(bytes, function.span, owned.relocs.row(at));
+            spoil(bytes, function.span, owned.bodies.row(at));
         }
     }
 }
 
-fn spoil_segments(bytes: &mut [u8], object: &Object) {
+fn spoil_segments(bytes: &mut [u8], object: &Object, owned: &Owned) {
     for at in 0..object.segments.len() {
         if let Some(segment) = object.segments.get(at) {
-            spoil(bytes, segment.span, segment.windows);
+            spoil(bytes, segment.span, owned.segments.row(at));
         }
     }
 }
@@ -105,7 +114,7 @@ fn spoiled(
 ) -> Result<Seq<u8>, OutOfMemory> {
     let mut bytes = Seq::from_slice(alloc, made)?.into_vec();
     spoil_bodies(bytes.as_mut_slice(), object, owned);
-    spoil_segments(bytes.as_mut_slice(), object);
+    spoil_segments(bytes.as_mut_slice(), object, owned);
     Ok(Seq::from_vec(bytes))
 }
 
@@ -131,8 +140,11 @@ fn bytes_are_written<'a, R: Threads + Sync>(
     bytes: &'a [u8],
     made: &[u8],
 ) -> bool {
-    let relocs = &owned.relocs;
-    let read = rows_of(alloc, object, bytes, relocs);
+    let numbers = Numbers {
+        symbols: owned.numbers.as_slice(),
+        types: owned.numbers.as_slice(),
+    };
+    let read = rows_of(alloc, object, bytes, owned, &numbers);
     match read {
         Ok(rows) => rows_are_written(rt, alloc, object, owned, &rows, made),
         Err(_) => false,

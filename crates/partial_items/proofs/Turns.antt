@@ -7,7 +7,6 @@ use Rattle.std.proofs.lemmas.Option.{none-some, slice_get_within, get_or_from_sl
 use Rattle.std.proofs.Math.ListN.{drop_of_length-le}
 use Rattle.partial_tree.specs.link_program.linking_section.declared.group.Member.{Member}
 use Rattle.partial_tree.specs.link_program.linking_section.declared.group.Group.{Group}
-use Rattle.partial_tree.specs.link_program.reloc_section.declared.entry.Reloc.{Reloc}
 use Rattle.partial_tree.specs.link_program.wasm_types.declared.import.Import.{Import}
 use Rattle.partial_tree.specs.link_program.linking_section.declared.symbol.SymbolKind.TheVariants.{Function}
 use Rattle.partial_tree.specs.link_program.object_file.declared.object.Object.{Object}
@@ -15,11 +14,8 @@ use Rattle.partial_tree.specs.link_program.object_file.Spaces.{function_imports}
 use Rattle.partial_tree.specs.link_program.name_entries.declared.parts.ObjectParts.{ObjectParts}
 use Rattle.partial_tree.specs.link_program.name_entries.Parts.{AreParts}
 use Rattle.partial_tree.specs.link_program.name_rules.Entries.{is_input}
-use Rattle.partial_tree.specs.link_program.declared.program.Tables.{Tables}
-use Rattle.partial_bytes.specs.declared.tree.Part.{Part}
 use Rattle.partial_items.specs.declared.groups.GroupAt.{GroupAt}
 use Rattle.partial_items.specs.declared.groups.Owner.{Owner}
-use Rattle.partial_items.specs.Items.{Given, given, part_given, parts_given}
 use Rattle.partial_items.specs.Groups.{offered, offered_from, Places, Won, with_group, with_offer, with_groups, owner_of, with_objects, group_with, group_there, rows_from}
 
 dropped_at : {A : Type 0} (xs : List A) (i : ℕ) (x : A) → slice_get xs i ≡ Some x → drop i xs ≡ x ∷ drop (i + 1) xs
@@ -148,17 +144,3 @@ module _ {C : Type 0} (view : C → Group) (objects : List Object) (rows : List 
   pub rows_end : (i : ℕ) (old : List C) (whole : List Group) → length gs ≤ i → map view old ++ rows_from objects rows i (drop i gs) ≡ whole → map view old ≡ whole
   rows_end i old whole past so_far =
       sym (ap (λ xs. map view old ++ rows_from objects rows i xs) (drop_of_length-le gs past) ∙ append-nil (map view old)) ∙ so_far
-
-module _ (files : List (List ℕ)) (t : Tables) (rows : List (List Reloc)) (ns : List ℕ) where
-  pub part_more : (i d : ℕ) (old new : List Part) (item : Part) (whole : List Given) → i < length ns → new ≡ old ++ item ∷ [] → given item ≡ part_given files t (get_or ns i d) (get_or rows i [])
-      → map given old ++ parts_given files t rows i (drop i ns) ≡ whole → map given new ++ parts_given files t rows (i + 1) (drop (i + 1) ns) ≡ whole
-  part_more i d old new item whole lt put is so_far =
-      let rest = parts_given files t rows (i + 1) (drop (i + 1) ns) in
-      ap (λ xs. map given xs ++ rest) put
-      ∙ (ap (λ xs. xs ++ rest) (map-append given old (item ∷ []) ∙ ap (λ x. map given old ++ x ∷ []) is)
-      ∙ (append_assoc (map given old) (part_given files t (get_or ns i d) (get_or rows i []) ∷ []) rest
-      ∙ (ap (λ xs. map given old ++ xs) (sym (ap (parts_given files t rows i) (next ns i d lt))) ∙ so_far)))
-
-  pub parts_end : (i : ℕ) (old : List Part) (whole : List Given) → length ns ≤ i → map given old ++ parts_given files t rows i (drop i ns) ≡ whole → map given old ≡ whole
-  parts_end i old whole past so_far =
-      sym (ap (λ xs. map given old ++ parts_given files t rows i xs) (drop_of_length-le ns past) ∙ append-nil (map given old)) ∙ so_far

@@ -1,5 +1,5 @@
 -- What of the object stands in rows, each made of what is kept under a number of a part.
-use Rattle.std.specs.Prelude.{ℕ, ◌+◌, ◌-◌, List, [], ◌∷◌, map, slice_index_or, Option, None, option_map, option_and_then, unwrap_or}
+use Rattle.std.specs.Prelude.{ℕ, ◌+◌, ◌-◌, List, slice_index_or, Option, None, option_map, option_and_then, unwrap_or}
 use Rattle.partial_tree.specs.link_program.wl_base.declared.span.FileSpan.{FileSpan}
 use Rattle.partial_tree.specs.link_program.wasm_module.declared.parts.Export.{Export}
 use Rattle.partial_tree.specs.link_program.linking_section.declared.segment.SegmentInfo.{SegmentInfo}
@@ -13,7 +13,9 @@ use Rattle.partial_tree.specs.link_program.declared.program.Tables.{Tables}
 use Rattle.partial_tree.specs.link_program.Look.{part_at, row_at}
 use Rattle.partial_tree.specs.partial_rules.Relocatable.{SpelledGlobal}
 use Rattle.partial_tree.specs.partial_parts.Kept.{Kept}
+use Rattle.partial_bytes.specs.declared.tree.Numbers.{Numbers}
 use Rattle.partial_bytes.specs.declared.tree.Part.{Part}
+use Rattle.partial_bytes.specs.Relocs.{relocs_of, relocs_by}
 use Rattle.partial_items.specs.Owned.{function_at, segment_at, global_at}
 
 abbrev pub chunk_of : Tables → ℕ → Chunk
@@ -55,12 +57,8 @@ pub record Given : Type 0 where
   pub relocs : List Reloc
 
 abbrev pub given : Part → Given
-given p = record { bytes = p.bytes.now; relocs = p.relocs.now }
+given p = record { bytes = p.bytes.now; relocs = relocs_of p }
 
-abbrev pub part_given : List (List ℕ) → Tables → ℕ → List Reloc → Given
-part_given files t n relocs = record { bytes = file_part files (part_at t n).source; relocs = relocs }
-
--- Of the parts of these numbers, whose relocations stand from a place on.
-abbrev pub parts_given : List (List ℕ) → Tables → List (List Reloc) → ℕ → List ℕ → List Given
-parts_given files t rows at [] = []
-parts_given files t rows at (n ∷ ns) = part_given files t n (slice_index_or rows at []) ∷ parts_given files t rows (at + 1) ns
+-- The part of a number, by the numbers of symbols and types.
+abbrev pub part_given : List (List ℕ) → Tables → Numbers → ℕ → Given
+part_given files t numbers n = record { bytes = file_part files (part_at t n).source; relocs = relocs_by numbers (row_at t n) }

@@ -2,6 +2,7 @@ pub mod Owned
 pub mod Types
 pub mod Imports
 pub mod Items
+pub mod Numbered
 pub mod Lent
 pub mod Groups
 pub use Rattle.partial_tree.specs.link_program as link_program

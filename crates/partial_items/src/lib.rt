@@ -22,11 +22,11 @@ pub use imports::imports_of;
 pub use infos::infos_of;
 pub use member::Places;
 pub use numbers::TypeNumbers;
-pub use partial_bytes::{Tree, measure, written};
+pub use partial_bytes::{Numbers, Part, Tree, measure, written};
 pub use partial_tree::{
-    Entries, Kept, LinkError, Look, Program, Row, Sight, Standing, Targets, inits_of, kept_of,
-    refuse, rows_of, sight_of, standing_of,
+    Entries, Kept, LinkError, Look, Program, Row, Sight, Standing, inits_of, kept_of, refuse,
+    rows_of, sight_of, standing_of,
 };
 pub use partial_types::{Open, count_of, opens_of, types_of};
-pub use parts::{parts_of, relocs_of};
+pub use parts::{parts_of, symbol_numbers};
 pub use symbols::symbols_of;

@@ -1,102 +1,90 @@
-//! The bodies and the data segments of the object, each with its relocations.
-ghost use Rattle.std.specs.Prelude.{◌≡◌, ℕ, List, false, Some, All, map, slice_get, slice_index_or, IfOk, OnOk};
+//! The bodies and the data segments of the object, each with what its windows name, and by which numbers relocations are made of that.
+ghost use Rattle.std.specs.Prelude.{◌≡◌, ℕ, false, Some, All, map, slice_get, IfOk};
 ghost use Rattle.partial_tree.specs.link_program.made_symbols.declared.mode.Mode.TheVariants.{Plain};
 ghost use Rattle.partial_tree.specs.link_program.link_rules.Program.{Program as Rules};
-ghost use Rattle.partial_tree.specs.link_program.Look.{row_at as row_told};
 ghost use Rattle.partial_tree.specs.link_program.Program.{IsProgramOf};
 ghost use Rattle.partial_tree.specs.link_program.Stand.{PartsStand};
 ghost use Rattle.partial_tree.specs.partial_rules.Partial as partial;
 ghost use Rattle.partial_tree.specs.partial_symbols.Standing.{Stood};
 ghost use Rattle.partial_tree.specs.partial_symbols.Known.{AreStanding};
-ghost use Rattle.partial_tree.specs.Relocs.{reloc_told};
 ghost use Rattle.partial_bytes.specs.Told.{PartFits, part_told};
-ghost use Rattle.partial_items.specs.Items.{given, part_given, parts_given};
+ghost use Rattle.partial_items.specs.Items.{given, part_given};
+ghost use Rattle.partial_items.specs.Numbered.{all_numbers};
 
-use partial_bytes::{Part, bytes_in, rows_are_windowed};
-use partial_tree::{Named, Program, Tables, Targets, part_at, reloc_of, relocs_are, row_at};
-use reloc_section::Reloc;
+use partial_bytes::{Numbers, Part, bytes_in, rows_are_windowed};
+use partial_tree::{Program, Standing, Tables, part_at, relocs_are, row_at};
 use std::alloc::Global;
 use wl_base::{OutOfMemory, Seq};
-use wl_lists::Lists;
 
-/// The relocations of what a part names, in a list that is used again and again.
-fn fill(list: &mut Vec<Reloc>, targets: Targets<'_>, row: &[Named]) -> Result<(), OutOfMemory>
-    ensures { OnOk result (list.new.items ≡ map (reloc_told targets.entry.standing.now targets.entry.symbols.now targets.entry.types.now) row.now) }
-{
-    list.clear();
-    for named in row {
-        list.push(reloc_of(targets, *named))?;
-    }
-    Ok(())
-}
-
-/// The relocations of kept parts, by the numbers of the parts.
-pub fn relocs_of(
+/// Of each symbol of the loaded objects, by its place among those of all objects, the number of the symbol that stands for it; 0 where none does.
+pub fn symbol_numbers(
     alloc: Global,
+    standing: &Standing,
     tables: &Tables,
-    targets: Targets<'_>,
-    parts: &[u32],
-) -> Result<Lists<Reloc>, OutOfMemory>
-    ensures { IfOk result (λ rows. rows ≡ map (λ n. map (reloc_told targets.entry.standing.now targets.entry.symbols.now targets.entry.types.now) (row_told tables.now n)) parts.now) }
+) -> Result<Seq<u32>, OutOfMemory>
+    ensures { IfOk result (λ numbers. numbers ≡ all_numbers standing.now tables.now.symbols) }
 {
-    let mut rows = Lists::new(alloc);
-    let mut list = Vec::new(alloc);
-    for part in parts {
-        fill(&mut list, targets, row_at(tables, *part))?;
-        rows.push(&list)?;
+    let symbols = tables.symbols.as_slice();
+    let Ok(count) = u32::try_from(symbols.len()) else {
+        return Err(OutOfMemory);
+    };
+    let mut numbers = Seq::with_room(alloc, symbols.len())?;
+    for symbol in 0..count {
+        numbers.push(standing.number_for(symbols, symbol))?;
     }
-    Ok(rows)
+    Ok(numbers)
 }
 
-/// A part with its relocations.
+/// A part with what its windows name.
 fn part_with<'a>(
     files: &'a [Seq<u8>],
-    tables: &Tables,
+    tables: &'a Tables,
+    numbers: &'a Numbers<'a>,
     number: u32,
-    relocs: &'a [Reloc],
 ) -> Part<'a>
-    ensures { given result ≡ part_given files.now tables.now number relocs.now }
+    ensures { given result ≡ part_given files.now tables.now numbers.now number }
 {
     Part {
         bytes: bytes_in(files, part_at(tables, number).source),
-        relocs,
+        named: row_at(tables, number),
+        numbers,
     }
 }
 
-#[tactic(auto, using(crate::proofs::Turns::part_more, crate::proofs::Turns::parts_end))]
 fn parts_in<'a>(
     alloc: Global,
     files: &'a [Seq<u8>],
-    tables: &Tables,
-    relocs: &'a Lists<Reloc>,
+    tables: &'a Tables,
+    numbers: &'a Numbers<'a>,
     parts: &[u32],
 ) -> Result<Seq<Part<'a>>, OutOfMemory>
-    ensures { IfOk result (λ ps. map given ps ≡ parts_given files.now tables.now relocs.now 0 parts.now) }
+    ensures { IfOk result (λ ps. map given ps ≡ map (part_given files.now tables.now numbers.now) parts.now) }
 {
-    let mut rows = Seq::new(alloc);
-    for at in 0..parts.len() {
-        rows.push(part_with(files, tables, parts[at], relocs.row(at)))?;
+    let mut rows = Seq::with_room(alloc, parts.len())?;
+    for part in parts {
+        rows.push(part_with(files, tables, numbers, *part))?;
     }
     Ok(rows)
 }
 
-/// The bodies (0) or the data segments (1) of the object that a partial link makes of a program: kept parts by their numbers, with the
-/// relocations that were made of what they name. These are the files of the link. The windows of the relocations lie in the parts.
+/// The bodies (0) or the data segments (1) of the object that a partial link makes of a program: kept parts by their numbers, with what they
+/// name, of which relocations are made by these numbers of symbols and types. These are the files of the link. The windows of the relocations
+/// lie in the parts.
 pub fn parts_of<'a>(
     alloc: Global,
-    program: Program<'_>,
+    program: Program<'a>,
     files: &'a [Seq<u8>],
-    relocs: &'a Lists<Reloc>,
+    numbers: &'a Numbers<'a>,
     parts: &[u32],
 ) -> Result<Seq<Part<'a>>, OutOfMemory>
-    ensures { IfOk result (λ ps. (p : Rules) (s : Stood) (numbers : List ℕ) (kind : ℕ) → IsProgramOf Plain program.entry p → PartsStand p → p.plan.loose_calls ≡ false
-        → AreStanding p program.entry.names.now.names s → numbers ≡ map (partial.type_number p) program.entry.tables.now.types → files.now ≡ p.files
+    ensures { IfOk result (λ ps. (p : Rules) (s : Stood) (kind : ℕ) → IsProgramOf Plain program.entry p → PartsStand p → p.plan.loose_calls ≡ false
+        → AreStanding p program.entry.names.now.names s → numbers.now.types.now ≡ map (partial.type_number p) program.entry.tables.now.types
+        → numbers.now.symbols.now ≡ all_numbers s program.entry.tables.now.symbols → files.now ≡ p.files
         → map (slice_get p.parts) parts.now ≡ map Some (partial.kept p kind)
-        → relocs.now ≡ map (λ n. map (reloc_told s program.entry.tables.now.symbols numbers) (row_told program.entry.tables.now n)) parts.now
         → (map part_told ps ≡ map (partial.windowed p) (partial.kept p kind)) × All PartFits ps) }
 {
     relocs_are();
     rows_are_windowed();
-    let rows = parts_in(alloc, files, program.tables, relocs, parts)?;
+    let rows = parts_in(alloc, files, program.tables, numbers, parts)?;
     Ok(rows)
 }

@@ -60,7 +60,7 @@ pub fn symbols_of<'a>(
     requires { FitsObjects entries }
     ensures { IfOk result (λ symbols. map symbol_told symbols ≡ filter_map (row_seen entries.entry.objects.now) rows.now) }
 {
-    let mut symbols = Seq::new(alloc);
+    let mut symbols = Seq::with_room(alloc, rows.len())?;
     for row in rows {
         put(&mut symbols, symbol_of(entries, *row))?;
     }

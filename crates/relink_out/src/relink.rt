@@ -49,7 +49,7 @@ fn object<R: Threads + Sync>(
     let found = found_of(alloc, program, entries)?;
     let typed = typed_of(alloc, program, entries, &found)?;
     let named = named_of(alloc, program, entries, &found)?;
-    let held = held_of(alloc, program, entries, &found, typed.numbers.as_slice())?;
+    let held = held_of(alloc, program, entries, &found)?;
     let judged = written_of(
         rt, alloc, program, entries, files, &found, &typed, &named, &held, workers,
     )?;

@@ -20,7 +20,7 @@ use crate::named::Named;
 use crate::rows::{name_rows, part_rows};
 use crate::typed::Typed;
 use crate::writing::{Judged, write};
-use partial_items::{Entries, Program, Tree};
+use partial_items::{Entries, Numbers, Program, Tree};
 use std::alloc::Global;
 use std::thread::Threads;
 use wl_base::{OutOfMemory, Seq};
@@ -51,10 +51,14 @@ pub fn written_of<R: Threads + Sync>(
     requires found { AreFound p program.names.now.names found.now }
     requires typed { AreTyped program p typed.now }
     requires named { AreNamed p named.now }
-    requires held { AreHeld program found.now typed.now.numbers held.now }
+    requires held { AreHeld program found.now held.now }
     ensures { IfOk result (IsJudged (relocatable_bytes (relocatable p))) }
 {
-    let parts = part_rows(alloc, program, files, found, held)?;
+    let numbers = Numbers {
+        symbols: held.symbols.as_slice(),
+        types: typed.numbers.as_slice(),
+    };
+    let parts = part_rows(alloc, program, files, found, &numbers)?;
     let names = name_rows(alloc, program, entries, found, named, held)?;
     let tree = Tree {
         types: typed.types.types(),

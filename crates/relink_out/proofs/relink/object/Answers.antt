@@ -1,5 +1,4 @@
-use Rattle.std.proofs.Common.{rules, subst}
-use Rattle.relink_out.specs.Held.{AreHeld}
+use Rattle.std.proofs.Common.{rules}
 use Rattle.relink_out.proofs.relink.object.Goals as goal
 
 pub written_of-requires-sync-R : goal.written_of-requires-sync-R
@@ -14,5 +13,5 @@ written_of-requires-sync-R g c κs within =
     let found = c.in_ok-found.ensures g.p program in
     let typed = c.in_ok-typed.ensures g.p program strict found in
     let named = c.in_ok-named.ensures g.p program strict found in
-    let held = subst (λ ns. AreHeld c.args.program c.in_ok-found.found ns c.in_ok-held.held) c.as_slice.ensures c.in_ok-held.ensures in
+    let held = c.in_ok-held.ensures in
     (search rules, (search rules, (program, (strict, (stand, (rise, (fits, (objects, (files, (found, (typed, (named, held))))))))))))

@@ -6,7 +6,7 @@ use Rattle.relink_out.proofs.Trees.{all_found}
 use Rattle.relink_out.proofs.rows.name_rows.Goals as goal
 
 pub returns : goal.returns
-returns c = λ p numbers program strict found named held.
+returns c = λ p program strict found named held.
     let segments = ap (map (slice_get p.parts)) c.segments.ensures ∙ found.kept.segments in
     let rows =
     ap (λ os. filter_map (row_seen os) c.as_slice-rows.result.now) (c.requires.objects ∙ program.objects)
