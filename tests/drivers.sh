@@ -132,6 +132,30 @@ libraries() {
   expect "and runs" runs_as found.wasm "$real/uses_library.txt"
   expect "a thin library is read" cc uses_library.o thin.a -o thin.wasm
   expect "and runs" runs_as thin.wasm "$real/uses_library.txt"
+  llvm-ar rcS bare.a library_add.o library_unused.o library_triple.o
+  cp bare.a indexed.a
+  llvm-ranlib indexed.a
+  expect "a library without an index is read" cc uses_library.o bare.a -o bare.wasm
+  expect "and runs" runs_as bare.wasm "$real/uses_library.txt"
+  expect "with the index that ranlib makes" cc uses_library.o indexed.a -o indexed.wasm
+  expect "it gives the same module" cmp bare.wasm indexed.wasm
+  if command -v ar >/dev/null; then
+    ar rc gnu.a library_add.o library_unused.o library_triple.o
+    expect "one that GNU's ar made is read" cc uses_library.o gnu.a -o gnu.wasm
+    expect "and gives that module too" cmp gnu.wasm indexed.wasm
+  else
+    skip "a library that GNU's ar made (no ar)"
+  fi
+  expect "own words refuse it" is_refused_by_own_words no.wasm uses_library.o bare.a --no-entry --allow-undefined -o no.wasm
+  printf 'int absent(void);\nint lacking(void) { return absent(); }\n' >lacking.c
+  clang --target=wasm32-wasi -O1 -c lacking.c
+  llvm-ar rcS lacking.a lacking.o
+  expect "a fault names a member of such a one" is_refused_as lacking.wasm \
+    "wasm-ld: error: lacking.a(lacking.o): undefined symbol: absent" --no-entry --export=lacking lacking.a -o lacking.wasm
+  head -c 100 library_add.o >broken.o
+  llvm-ar rcS broken.a library_triple.o broken.o
+  expect "one with a broken object stays without it" is_refused_as broken.wasm \
+    "wasm-ld: error: broken.a: archive has no index; run llvm-ranlib to add one" --no-entry uses_library.o broken.a -o broken.wasm
   expect "a library without members is no fault" cc uses_library.o -lm -Ltwo -lsmall -Wl,--start-group -lc -Wl,--end-group -o group.wasm
 }
 

@@ -1,6 +1,7 @@
 -- A link shows what it shows whatever was asked of the shelf before it or is asked behind it.
 use Rattle.std.proofs.Common.{◌≡◌, ◌⊎◌, inl, inr, ℕ, Bool, true, false, List, [], Option, Some, None, IsTrue, Result, Ok, Err, refl, sym, ap, subst, ◌∙◌, arith}
 use Rattle.std.specs.Prelude.{IfOk, IfSome, IsSomeAnd}
+use Rattle.std.specs.Option.{option_map}
 use Rattle.wl_base.specs.declared.fault.Fault.{Fault}
 use Rattle.wl_base.specs.declared.usage.Usage.{Usage as UsageFault}
 use Rattle.wl_outside.specs.Shelf.{Shown, Same, SameBut, Grows, Holds, Torn, LoadFailed, SaveFailed}
@@ -9,7 +10,7 @@ use Rattle.link_words.specs.Words.{word}
 use Rattle.link_command.specs.declared.asked.Asked.{Asked}
 use Rattle.link_command.specs.declared.status.Status.{Status}
 use Rattle.link_command.specs.declared.status.Status.TheVariants.{Linked, Refused, Usage, ReadFault, WriteFault, NoMemory}
-use Rattle.link_command.specs.Command.{planned, Shows, LinkIs, IsTold, LoadsWork, SaveWorks, Saved, SavedRuns, Cut, contents, input_names, files_of}
+use Rattle.link_command.specs.Command.{planned, Shows, LinkIs, IsTold, LoadsWork, SaveWorks, Saved, SavedRuns, Cut, contents, input_names, taken, files_of}
 use Rattle.link_command.specs.Telling.{AreMismatches, TellsBy, Tells, WouldTell}
 use Rattle.link_command.specs.mismatch_rules.declared.mismatch.Mismatch.{Mismatch}
 use Rattle.driver_command.specs.Linked.{LinksBy, LinksAs}
@@ -47,7 +48,7 @@ module _ (before mid after : Shown) (grows : Grows before mid) (same : Same befo
 
   pub files_in : (case : Option ℕ) (plan : Plan) → IsTold case before → files_of case mid own plan ≡ files_of case before own plan
   files_in (Some n) plan told = refl
-  files_in None plan told = ap (λ (held : List ℕ → Option (List ℕ)). contents held (input_names own plan)) (held_same before mid same told)
+  files_in None plan told = ap (λ (held : List ℕ → Option (List ℕ)). option_map (taken plan.like_lld) (contents held (input_names own plan))) (held_same before mid same told)
 
   link_back : (plan : Plan) (said : Result (List ℕ) Fault) → IsTold plan.make_case before → LinkIs mid own plan said → LinkIs before own plan said
   link_back plan said told h = record { files = h.files; held = sym (files_in plan.make_case plan told) ∙ h.held; link = h.link }

@@ -3,3 +3,4 @@ mod Causes
 mod Due
 mod Lines
 mod Sayings
+pub mod Taken

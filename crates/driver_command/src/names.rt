@@ -7,6 +7,7 @@ ghost use Rattle.link_command.specs.Command.{contents, input_names as words_of_i
 ghost use Rattle.driver_command.specs.Named.{names_held};
 
 use driver_lines::input_names;
+use library_indexer::with_indexes;
 use link_plan::Plan;
 use std::alloc::Global;
 use wl_base::{OutOfMemory, Seq, Text};
@@ -52,12 +53,13 @@ fn load_again<F: Shelf>(
 }
 
 // The names of all inputs of the files.
+#[tactic(auto, using(crate::proofs::Taken::named))]
 fn names_of<F: Shelf>(alloc: Global, files: &[Text], shelf: &mut F) -> Result<Seq<Text>, LoadFault>
     ensures names { IfOk result (λ names. IsTrue (F.shown shelf.old).tells → names_held (F.shown shelf.old).held files.now ≡ Some names) }
     ensures same { Same (F.shown shelf.old) (F.shown shelf.new) }
     ensures counts { Grows (F.shown shelf.old) (F.shown shelf.new) }
 {
-    let held = load_again(alloc, files, shelf)?;
+    let held = with_indexes(alloc, load_again(alloc, files, shelf)?)?;
     Ok(input_names(alloc, files, held.as_slice())?)
 }
 

@@ -1,8 +1,9 @@
 -- What a run of loads keeps.
-use Rattle.std.proofs.Common.{◌≡◌, ℕ, ◌+◌, List, [], ◌∷◌, ◌++◌, length, map, take, Option, Some, None, IsTrue, subst, sym, ◌∙◌, refl, ap, get_or, ◌<◌, arith, length-append}
+use Rattle.std.proofs.Common.{◌≡◌, ℕ, Bool, ◌+◌, List, [], ◌∷◌, ◌++◌, length, map, take, Option, Some, None, IsTrue, subst, sym, ◌∙◌, refl, ap, get_or, ◌<◌, arith, length-append}
+use Rattle.std.specs.Option.{option_map}
 use Rattle.std.proofs.lemmas.List.{take_more, map-append}
 use Rattle.wl_outside.specs.Shelf.{Shown, Same, Grows, Holds}
-use Rattle.link_command.specs.Command.{contents, with_first}
+use Rattle.link_command.specs.Command.{contents, with_first, taken}
 
 -- the shelf holds what it held, and the files are the contents of the names
 pub record SoFar (before now : Shown) (names : List (List ℕ)) (files : List (List ℕ)) : Type 0 where
@@ -50,3 +51,7 @@ so_far_more before mid after names files n b s same grows holds =
       count = omega (arith, s.count, length-append names (n ∷ []), length-append files (b ∷ []));
       loaded = λ t. contents_push before.held names files n b (s.loaded t) (sym (s.held t n) ∙ holds (tells t));
     }
+
+-- what a link takes of what was loaded
+pub taken_is : (like_lld : Bool) (read : Option (List (List ℕ))) (files all : List (List ℕ)) → read ≡ Some files → all ≡ taken like_lld files → option_map (taken like_lld) read ≡ Some all
+taken_is like_lld read files all is are = rw (is, are) refl

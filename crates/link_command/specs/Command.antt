@@ -1,5 +1,6 @@
 -- What the program's answer says of the words and of the shelf before and after.
-use Rattle.std.specs.Prelude.{◌≡◌, ◌⊎◌, ℕ, Bool, true, false, List, [], ◌∷◌, IsTrue, Contains, map, Option, Some, None, IfSome, IsSomeAnd, Result, Ok, Err}
+use Rattle.std.specs.Prelude.{◌≡◌, ◌⊎◌, ℕ, Bool, true, false, List, [], ◌∷◌, IsTrue, Contains, map, Option, Some, None, IfSome, IsSomeAnd, Result, Ok, Err, if◌then◌else◌}
+use Rattle.std.specs.Option.{option_map}
 use Rattle.wl_base.specs.declared.fault.Fault.{Fault}
 use Rattle.wl_base.specs.declared.usage.Usage.{Usage as UsageFault}
 use Rattle.wl_outside.specs.Shelf.{Shown, Same, SameBut, Holds, Torn, LoadFailed, SaveFailed}
@@ -9,6 +10,7 @@ use Rattle.link_core.specs.Whole.{whole_link, MakesModule}
 use Rattle.link_core.specs.link_runs.Links.{Runs}
 use Rattle.link_core.specs.link_runs.link_program.link_rules.ModeOf.{IsPlain}
 use Rattle.case_objects.specs.Objects.{objects}
+use Rattle.library_indexer.specs.Indexed.{with_index}
 use Rattle.link_command.specs.declared.asked.Asked.{Asked}
 use Rattle.link_command.specs.declared.status.Status.{Status}
 use Rattle.link_command.specs.declared.status.Status.TheVariants.{Linked, Refused, Usage, ReadFault, WriteFault, NoMemory}
@@ -49,10 +51,14 @@ places plan = map (λ i. i.place) plan.inputs
 abbrev pub input_names : List (List ℕ) → Plan → List (List ℕ)
 input_names words plan = map (word words) (places plan)
 
+-- what a link takes of the files: one that is like lld's completes a library without an index, as `ranlib` does
+abbrev pub taken : Bool → List (List ℕ) → List (List ℕ)
+taken like_lld files = if like_lld then map with_index files else files
+
 -- what is linked: the objects of the generated case, or what the shelf holds under the input words
 abbrev pub files_of : Option ℕ → Shown → List (List ℕ) → Plan → Option (List (List ℕ))
 files_of (Some n) before words plan = Some (objects n)
-files_of None before words plan = contents before.held (input_names words plan)
+files_of None before words plan = option_map (taken plan.like_lld) (contents before.held (input_names words plan))
 
 -- what is linked is told: it is generated, or the shelf tells what it holds
 abbrev pub IsTold : Option ℕ → Shown → Type 0

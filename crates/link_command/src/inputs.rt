@@ -1,9 +1,10 @@
 //! What is linked: the input files, or the generated case.
 ghost use Rattle.std.specs.Prelude.{◌≡◌, ◌<◌, ◌≤◌, IsTrue, IfOk, IfErr, IfSome, All, Some, length, unwrap_or};
 ghost use Rattle.wl_outside.specs.Shelf.{Same, Grows};
-ghost use Rattle.link_command.specs.Command.{IsTold, contents, files_of, input_names};
+ghost use Rattle.link_command.specs.Command.{IsTold, contents, files_of, input_names, taken as taken_of};
 
 use case_objects::make_case;
+use library_indexer::with_indexes;
 use link_words::Plan;
 use std::alloc::Global;
 use wl_base::{OutOfMemory, Seq, Text};
@@ -32,6 +33,7 @@ impl From<OutOfMemory> for ReadError {
 ghost use Rattle.link_command.specs.ReadCause.{ReadCause};
 
 /// The files that are linked: those of the input words, or with a generated case its objects, where nothing is loaded.
+#[tactic(auto, using(crate::proofs::Loads::taken_is))]
 pub fn files<F: Shelf>(
     alloc: Global,
     plan: &Plan,
@@ -49,8 +51,22 @@ pub fn files<F: Shelf>(
 {
     match plan.make_case {
         Some(n) => Ok(make_case(alloc, n)?),
-        None => load_inputs(alloc, plan, words, shelf),
+        None => {
+            let files = load_inputs(alloc, plan, words, shelf)?;
+            Ok(taken(alloc, plan.like_lld, files)?)
+        }
     }
+}
+
+// The files as the link takes them: one that is like lld's completes a library without an index.
+fn taken(alloc: Global, like_lld: bool, files: Seq<Seq<u8>>) -> Result<Seq<Seq<u8>>, OutOfMemory>
+    ensures files { IfOk result (λ all. all ≡ taken_of like_lld files) }
+    ensures count { IfOk result (λ all. length all ≡ length files) }
+{
+    if like_lld {
+        return with_indexes(alloc, files);
+    }
+    Ok(files)
 }
 
 // Loads each input whole, in the order of the words.
