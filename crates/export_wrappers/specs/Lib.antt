@@ -1,0 +1,5 @@
+pub mod Wrapped
+pub mod Cuts
+pub mod Written
+pub mod Answer
+pub mod Rows

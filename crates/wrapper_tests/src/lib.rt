@@ -1,0 +1,5 @@
+//! Modules whose exports are wrapped.
+#![tactic(auto)]
+
+#[cfg(test)]
+mod modules;
