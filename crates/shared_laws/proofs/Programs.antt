@@ -127,12 +127,12 @@ module _ (stand_law : LoadedPartsStand) (plan : Plan) (files : List (List ℕ)) 
 
   -- ---- the object of a symbol
 
-  record OfObject (e : InputSymbol) : Type 0 where
-    object : Object
-    there : Has objects object
-    symbol : IsSymbol objects object e
+  pub record OfObject (e : InputSymbol) : Type 0 where
+    pub object : Object
+    pub there : Has objects object
+    pub symbol : IsSymbol objects object e
 
-  of_entry : (e : InputSymbol) → Has es e → (e.input ≡ 0 → ⊥) → OfObject e
+  pub of_entry : (e : InputSymbol) → Has es e → (e.input ≡ 0 → ⊥) → OfObject e
   unfolding entries
   of_entry e h z =
       ⊎_elim (λ a. absurd (z (made_input 0 (made Shared) e a)))
@@ -227,7 +227,7 @@ module _ (stand_law : LoadedPartsStand) (plan : Plan) (files : List (List ℕ)) 
         inside = omega (arith, fits, long);
       }
 
-  datum_lies : (e : InputSymbol) → OfObject e → e.defines ≡ true → is_kind Datum e ≡ true → LiesInPart p e
+  pub datum_lies : (e : InputSymbol) → OfObject e → e.defines ≡ true → is_kind Datum e ≡ true → LiesInPart p e
   datum_lies e x d t =
       let o = x.object in
       let s = x.symbol.symbol in

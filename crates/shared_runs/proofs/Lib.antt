@@ -1,0 +1,5 @@
+mod Placeless
+mod Standing
+mod Holding
+mod Exported
+mod Links

@@ -1,0 +1,16 @@
+mod Lists
+mod KeyPlaces
+mod Included
+mod Cells
+mod Gets
+mod Instrs
+mod Applied
+mod Functions
+mod Modules
+mod Tables
+mod Exports
+mod Start
+mod Bases
+mod Memory
+mod Worlds
+mod Least
