@@ -11,13 +11,13 @@ mkdir -p "$folder"
 links() {
   local from=$1 to=$2 entry name
   for entry in "$from"/proof-* "$from"/tests-*; do
-    name=$(basename "$entry")
+    name=${entry##*/}
     [ -e "$entry" ] && [ ! -e "$to/$name" ] || continue
     cp -al "$entry" "$to/.$name" 2>/dev/null && mv "$to/.$name" "$to/$name" || rm -rf "${to:?}/.$name"
   done
 }
 
-while sleep 4; do
+while sleep 10; do
   links "$store" "$folder"
   links "$folder" "$store"
 done
